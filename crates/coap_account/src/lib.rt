@@ -4,8 +4,10 @@
 //!
 //! ```rust
 //! let mut explainer = Explainer::new(alloc, limits, routes, &mut output);
-//! replay_watched(alloc, &mut input, &mut lines, &mut core, &mut explainer, turns)?;
-//! // # 17 9001 127.0.0.1:40001 NON GET coap://127.0.0.1:5690/temp hit 2.05 ETag ab Max-Age 1
+//! replay_watched(alloc, &mut input, &mut lines, &mut core, &mut explainer, 1)?;
+//! drop(explainer);
+//! let line = b"# 1 0 192.0.2.7:40001 NON GET coap://127.0.0.1:5690/temp opened\n";
+//! assert_eq!(rt; output.as_slice(), line.as_slice());
 //! ```
 #![tactic(auto)]
 

@@ -6,12 +6,12 @@
 //! # First use
 //!
 //! ```rust
-//! let mut store = LruStore::with_limits(alloc, RandomState::new(rt)?, 262_144, 1024)?;
+//! let mut store = LruStore::with_limits(alloc, RandomState::new(&rt)?, 262_144, 1024)?;
 //! store.put(key, stored);
-//! if let Some(stored) = store.peek(&same_key) {
-//!     let left = stored.left(now); // in whole seconds
-//!     let message = shown(alloc, &stored.response, Some(left), &tags)?;
-//! }
+//! let stored = store.peek(&same_key).ok_or("it isn't stored")?;
+//! let left = stored.left(4_000); // in whole seconds
+//! let message = shown(alloc, &stored.response, Some(left), &Pieces::new(alloc))?;
+//! assert_eq!(rt; max_age(&message), 6);
 //! ```
 #![tactic(auto)]
 

@@ -26,14 +26,14 @@ use Rattle.coap_model.specs.declared.report.Report.{Report}
 use Rattle.coap_forward.specs.Forms.{form_fits}
 use Rattle.coap_forward.specs.Messages.{is_get}
 use Rattle.coap_model.specs.Verdicts.{Verdict, refused_with, may_ask, verdict_of}
-use Rattle.coap_model.specs.World.{World, Step, reserved, has_ids, can_reply, has_exchange_room, has_waiter_room, has_room_to_join, has_room_to_open, known_of, repeats}
-use Rattle.coap_model.specs.Requests.{lacks_id, refuses, overloads, opens, turns_down, turns_away, hits, joins, on_wanted, on_joinable, on_miss, on_entry, on_key, on_verdict, on_new}
+use Rattle.coap_model.specs.State.{State, Step, reserved, has_ids, can_reply, has_exchange_room, has_waiter_room, has_room_to_join, has_room_to_open, known_of, repeats}
+use Rattle.coap_model.specs.Requests.{lacks_id, refuses, overloads, opens, turns_down, turns_away, hits, joins, on_exchange_needed, on_joinable, on_miss, on_entry, on_key, on_verdict, on_new}
 use Rattle.coap_core.specs.Steps.{Does, held_for, repetition_of, wants_memory}
 use Rattle.coap_core.proofs.Puts.{taken-takes}
 use Rattle.coap_core.proofs.Records.{held-same}
 
 -- what is done in a step is done in one that is equal, where the datagram was written to before
-pub does-as : (s t : Step) (r : Result Report OutOfMemory) (old mid new : Datagram) (v : World) → t ≡ s → mid.room ≡ old.room → IfOk r (λ report. Does s report mid new v) → IfOk r (λ report. Does t report old new v)
+pub does-as : (s t : Step) (r : Result Report OutOfMemory) (old mid new : Datagram) (v : State) → t ≡ s → mid.room ≡ old.room → IfOk r (λ report. Does s report mid new v) → IfOk r (λ report. Does t report old new v)
 does-as s t r old mid new v same room does =
     subst (λ (x : Step). IfOk r (λ report. Does x report old new v)) (sym same)
     (IfOk-weaker r (λ report. Does s report mid new v) (λ report. Does s report old new v) (λ report d. (d.0, d.1 ∙ held-same mid old s.bytes room, d.2)) does)
@@ -44,7 +44,7 @@ fits-as s t room other same rooms fits = subst (λ (n : ℕ). length s.bytes ≤
 
 -- ---- duplicates
 
-module _ (w : World) (now : ℕ) (source : Endpoint) (m : Message) (step : Option Record → Step) (again : (known : Record) → step (Some known) ≡ repeats w now source known.reply) where
+module _ (w : State) (now : ℕ) (source : Endpoint) (m : Message) (step : Option Record → Step) (again : (known : Record) → step (Some known) ≡ repeats w now source known.reply) where
   -- a duplicate is told what its message was told: that fits
   pub repetition-fits : (room : ℕ) → length (step (known_of w now source m)).bytes ≤ room → IfSome (repetition_of w now source m) (λ s. length s.bytes ≤ room)
   repetition-fits room fits = go (known_of w now source m) fits
@@ -53,7 +53,7 @@ module _ (w : World) (now : ℕ) (source : Endpoint) (m : Message) (step : Optio
       go None f = tt
       go (Some known) f = subst (λ (s : Step). length s.bytes ≤ room) (again known) f
 
-module _ (w : World) (now : ℕ) (client : Endpoint) (m : Message) where
+module _ (w : State) (now : ℕ) (client : Endpoint) (m : Message) where
   -- ---- memory
 
   abbrev Takes : Step → Type 0
@@ -69,7 +69,7 @@ module _ (w : World) (now : ℕ) (client : Endpoint) (m : Message) where
   away-takes : Takes (turns_away w now client m)
   away-takes = either-takes (can_reply w now m.kind) (overloads w now client m) (lacks_id w now) refl refl
 
-  wanted-takes : (key : CacheKey) (stored : Option Stored) → Takes (on_wanted w now client m key stored)
+  wanted-takes : (key : CacheKey) (stored : Option Stored) → Takes (on_exchange_needed w now client m key stored)
   wanted-takes key stored =
       either-takes (form_fits w.setting.limits.datagram key.target None m) (cond (has_room_to_open w now client) (opens w now client m key stored) (turns_away w now client m)) (turns_down w now client m REQUEST_ENTITY_TOO_LARGE)
       (either-takes (has_room_to_open w now client) (opens w now client m key stored) (turns_away w now client m) (taken-takes Opened client m _ (λ bytes. refl)) away-takes)
@@ -91,7 +91,7 @@ module _ (w : World) (now : ℕ) (client : Endpoint) (m : Message) where
 
   key-takes : (key : CacheKey) → Takes (on_key w now client m key)
   key-takes key =
-      either-takes (is_get m.code) (on_entry w now client m key (of_key entry_key key w.store)) (on_wanted w now client m key None)
+      either-takes (is_get m.code) (on_entry w now client m key (of_key entry_key key w.store)) (on_exchange_needed w now client m key None)
       (entry-takes key (of_key entry_key key w.store))
       (wanted-takes key None)
 
@@ -107,20 +107,20 @@ module _ (w : World) (now : ℕ) (client : Endpoint) (m : Message) where
 
   module _ (key : CacheKey) (stored : Option Stored) where
     -- the form is too long
-    pub too-long : can_reply w now m.kind ≡ true → form_fits w.setting.limits.datagram key.target None m ≡ false → on_wanted w now client m key stored ≡ refuses w now client m REQUEST_ENTITY_TOO_LARGE
+    pub too-long : can_reply w now m.kind ≡ true → form_fits w.setting.limits.datagram key.target None m ≡ false → on_exchange_needed w now client m key stored ≡ refuses w now client m REQUEST_ENTITY_TOO_LARGE
     too-long reply fits = rw (fits, reply) refl
 
     -- there is no room
-    pub turned-away : can_reply w now m.kind ≡ true → form_fits w.setting.limits.datagram key.target None m ≡ true → has_room_to_open w now client ≡ false → on_wanted w now client m key stored ≡ overloads w now client m
+    pub turned-away : can_reply w now m.kind ≡ true → form_fits w.setting.limits.datagram key.target None m ≡ true → has_room_to_open w now client ≡ false → on_exchange_needed w now client m key stored ≡ overloads w now client m
     turned-away reply fits closed = rw (fits, closed, reply) refl
 
     -- it is asked for
-    pub opened : form_fits w.setting.limits.datagram key.target None m ≡ true → has_room_to_open w now client ≡ true → on_wanted w now client m key stored ≡ opens w now client m key stored
+    pub opened : form_fits w.setting.limits.datagram key.target None m ≡ true → has_room_to_open w now client ≡ true → on_exchange_needed w now client m key stored ≡ opens w now client m key stored
     opened fits free = rw (fits, free) refl
 
   module _ (key : CacheKey) where
     -- it isn't asked for with GET
-    pub unstored : is_get m.code ≡ false → on_key w now client m key ≡ on_wanted w now client m key (held_for w m key)
+    pub unstored : is_get m.code ≡ false → on_key w now client m key ≡ on_exchange_needed w now client m key (held_for w m key)
     unstored other = rw other refl
 
     -- what is stored for it, if anything is, can't be shown
@@ -168,11 +168,11 @@ module _ (w : World) (now : ℕ) (client : Endpoint) (m : Message) where
   pub lacking : can_reply w now m.kind ≡ false → on_new w now client m ≡ lacks_id w now
   lacking none = of (verdict_of w.setting.routes m)
     where
-      wants : (key : CacheKey) (held : Option Stored) (b : Bool) → form_fits w.setting.limits.datagram key.target None m ≡ b → on_wanted w now client m key held ≡ lacks_id w now
+      wants : (key : CacheKey) (held : Option Stored) (b : Bool) → form_fits w.setting.limits.datagram key.target None m ≡ b → on_exchange_needed w now client m key held ≡ lacks_id w now
       wants key held true e = rw (e, shut none, none) refl
       wants key held false e = rw (e, none) refl
 
-      want : (key : CacheKey) (held : Option Stored) → on_wanted w now client m key held ≡ lacks_id w now
+      want : (key : CacheKey) (held : Option Stored) → on_exchange_needed w now client m key held ≡ lacks_id w now
       want key held = wants key held (form_fits w.setting.limits.datagram key.target None m) refl
 
       join : (key : CacheKey) (held : Option Stored) (o : Option ℕ) → on_joinable w now client m key held o ≡ lacks_id w now
@@ -190,7 +190,7 @@ module _ (w : World) (now : ℕ) (client : Endpoint) (m : Message) where
           usable true e = rw (e, none) refl
           usable false e = rw e (miss key (Some stored.1))
 
-      keyed : (key : CacheKey) (b : Bool) → cond b (on_entry w now client m key (of_key entry_key key w.store)) (on_wanted w now client m key None) ≡ lacks_id w now
+      keyed : (key : CacheKey) (b : Bool) → cond b (on_entry w now client m key (of_key entry_key key w.store)) (on_exchange_needed w now client m key None) ≡ lacks_id w now
       keyed key true = entry key (of_key entry_key key w.store)
       keyed key false = want key None
 

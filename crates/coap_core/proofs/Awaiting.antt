@@ -15,7 +15,7 @@ use Rattle.coap_exchange.specs.declared.exchange.ExchangeState.TheVariants.{Queu
 use Rattle.coap_exchange.specs.Exchanges.{answer_in_state, is_missing, is_done, is_sent, is_sent_state, is_acked_state}
 use Rattle.coap_exchange.specs.Table.{Numbered, Table, IsRising, IsTable, item_at}
 use Rattle.coap_forward.specs.Messages.{token_of}
-use Rattle.coap_model.specs.World.{World}
+use Rattle.coap_model.specs.State.{State}
 use Rattle.coap_model.specs.Responses.{is_in_flight, has_id, awaits, awaiting}
 use Rattle.coap_forward.proofs.Tokens.{length-token_of, token-same}
 
@@ -155,7 +155,7 @@ module _ (holds : Numbered Exchange → Bool) where
       go false f more rest = later (eqb x.0 y.0) refl (more f) (rest f)
 
 -- what holds of the exchange of the number that awaits a response holds of the one that awaits it
-pub awaited : (w : World) (source : Endpoint) (m : Message) (number : ℕ) (Q : Option (Numbered Exchange) → Type 0) → IsRising 0 w.exchanges → Some number ≡ option_map (λ x. x.0) (awaiting w source m)
+pub awaited : (w : State) (source : Endpoint) (m : Message) (number : ℕ) (Q : Option (Numbered Exchange) → Type 0) → IsRising 0 w.exchanges → Some number ≡ option_map (λ x. x.0) (awaiting w source m)
     → ((x : Exchange) → item_at number w.exchanges ≡ Some x → Q (Some (number, x))) → Q (awaiting w source m)
 awaited w source m number Q rising e each = go (awaiting w source m) refl e
   where
@@ -167,7 +167,7 @@ awaited w source m number Q rising e each = go (awaiting w source m) refl e
         subst (λ (n : ℕ). Q (Some (n, x.1))) same (each x.1 (rw same found))
 
 -- none awaits it where no number is found
-pub unawaited : (w : World) (source : Endpoint) (m : Message) → None ≡ option_map {T = Numbered Exchange} (λ x. x.0) (awaiting w source m) → awaiting w source m ≡ None
+pub unawaited : (w : State) (source : Endpoint) (m : Message) → None ≡ option_map {T = Numbered Exchange} (λ x. x.0) (awaiting w source m) → awaiting w source m ≡ None
 unawaited w source m e = go (awaiting w source m) e
   where
     go : (o : Option (Numbered Exchange)) → None ≡ option_map {T = Numbered Exchange} (λ x. x.0) o → o ≡ None

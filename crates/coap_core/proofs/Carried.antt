@@ -4,7 +4,7 @@ use Rattle.std.specs.Prelude.{IfOk, IfSome, OnErr}
 use Rattle.coap_message.specs.declared.error.OutOfMemory.{OutOfMemory}
 use Rattle.coap_message.specs.Datagram.{Datagram, holding}
 use Rattle.coap_model.specs.declared.report.Report.{Report}
-use Rattle.coap_model.specs.World.{World, Step}
+use Rattle.coap_model.specs.State.{State, Step}
 use Rattle.coap_model.specs.Events.{Event, IsEvent}
 use Rattle.coap_model.specs.Step.{step_of}
 use Rattle.coap_dedup.specs.declared.record.Record.{Record}
@@ -28,11 +28,11 @@ use Rattle.coap_model.proofs.Running.{setting_stays}
 use Rattle.coap_core.specs.Steps.{Does, CanGoOn, KeepsWordOn, LeavesRoomOn, PromisesOn, entry_told}
 
 -- what is remembered came at the last moment, or before
-until : (w : World) (deeds : List Deed) → w.last ≡ last_of deeds → (rs : List Record) → AreUpTo (last_of deeds) rs → AreUpTo w.last rs
+until : (w : State) (deeds : List Deed) → w.last ≡ last_of deeds → (rs : List Record) → AreUpTo (last_of deeds) rs → AreUpTo w.last rs
 until w deeds last rs all = subst (λ (n : ℕ). AreUpTo n rs) (sym last) all
 
 -- what is carried is what a step needs
-pub can_go_on : (history : List Entry) (w : World) → Carries history w → w.events < 2 ^ 63 → CanGoOn w
+pub can_go_on : (history : List Entry) (w : State) → Carries history w → w.events < 2 ^ 63 → CanGoOn w
 can_go_on history w c few =
     let b = c.bears in
     let opened = opened-few c.deeds in
@@ -55,14 +55,14 @@ can_go_on history w c few =
 -- ---- what the step in code leaves
 
 -- the setting is the same, and some history is carried, within the ranges
-pub record IsLeft (w v : World) : Type 0 where
+pub record IsLeft (w v : State) : Type 0 where
   pub setting : v.setting ≡ w.setting
   pub history : List Entry
   pub carries : Carries history v
   pub in_range : AreInRange history
 
 -- what a step leaves: the setting, the limits, and a history that is carried
-pub is-left : (w : World) (now draw : ℕ) (event : Event) (history : List Entry) → Carries history w → AreInRange history → now ≤ 2 ^ 62 → draw ≤ 1000 → w.last ≤ now → IsEvent event → (r : Result Report OutOfMemory) (old new : Datagram) (v : World)
+pub is-left : (w : State) (now draw : ℕ) (event : Event) (history : List Entry) → Carries history w → AreInRange history → now ≤ 2 ^ 62 → draw ≤ 1000 → w.last ≤ now → IsEvent event → (r : Result Report OutOfMemory) (old new : Datagram) (v : State)
     → IfOk r (λ report. Does (step_of w now draw (grown_of report.outcome) event) report old new v) → OnErr r (v ≡ w) → IsLeft w v
 is-left w now draw event history c ranges moment drawn onward fits (Ok report) old new v does same =
     let grown = grown_of report.outcome in
@@ -76,34 +76,34 @@ is-left w now draw event history c ranges moment drawn onward fits (Ok report) o
 is-left w now draw event history c ranges moment drawn onward fits (Err e) old new v does same = record { setting = rw same refl; history = history; carries = rw same c; in_range = ranges }
 
 -- what is due next isn't far ahead
-pub is-bounded : (w : World) (history : List Entry) → AreLimits w.setting.limits → Carries history w → AreInRange history → (due : Option ℕ) → due ≡ next_due w → IfSome due (λ at. at ≤ 2 ^ 62 + 600000)
+pub is-bounded : (w : State) (history : List Entry) → AreLimits w.setting.limits → Carries history w → AreInRange history → (due : Option ℕ) → due ≡ next_due w → IfSome due (λ at. at ≤ 2 ^ 62 + 600000)
 is-bounded w history limits c ranges None is = tt
 is-bounded w history limits c ranges (Some at) is = next-bounded w history at c ranges limits (sym is)
 
 -- what is sent isn't too long, and where memory is missing nothing is sent
-pub is-short : (r : Result Report OutOfMemory) (s : Bool → Step) (old new : Datagram) (v : World) (most : ℕ) → ((grown : Bool) → length (s grown).bytes ≤ most) → IfOk r (λ report. Does (s (grown_of report.outcome)) report old new v) → OnErr r (new ≡ holding old []) → length new.bytes ≤ most
+pub is-short : (r : Result Report OutOfMemory) (s : Bool → Step) (old new : Datagram) (v : State) (most : ℕ) → ((grown : Bool) → length (s grown).bytes ≤ most) → IfOk r (λ report. Does (s (grown_of report.outcome)) report old new v) → OnErr r (new ≡ holding old []) → length new.bytes ≤ most
 is-short (Ok report) s old new v most short does none = omega (arith, short (grown_of report.outcome), ap (λ (d : Datagram). length d.bytes) does.1)
 is-short (Err e) s old new v most short does none = omega (arith, ap (λ (d : Datagram). length d.bytes) none)
 
 -- what holds of whatever is carried holds with the entry of a step in front
-holds-on : (P : List Entry → World → Type 0) → ((history : List Entry) (w : World) → Carries history w → P history w) → (w : World) (now draw : ℕ) (event : Event) → w.last ≤ now → IsEvent event → (r : Result Report OutOfMemory) (old new : Datagram) (v : World) → IfOk r (λ report. Does (step_of w now draw (grown_of report.outcome) event) report old new v)
+holds-on : (P : List Entry → State → Type 0) → ((history : List Entry) (w : State) → Carries history w → P history w) → (w : State) (now draw : ℕ) (event : Event) → w.last ≤ now → IsEvent event → (r : Result Report OutOfMemory) (old new : Datagram) (v : State) → IfOk r (λ report. Does (step_of w now draw (grown_of report.outcome) event) report old new v)
     → IfOk r (λ report. (history : List Entry) → Carries history w → P (entry_told now draw event report new.bytes ∷ history) v)
 holds-on P holds w now draw event onward fits (Ok report) old new v does = λ history c.
     let s = step_of w now draw (grown_of report.outcome) event in
     let bytes : new.bytes ≡ s.bytes = ap (λ (d : Datagram). d.bytes) does.1 in
     let told : entry_told now draw event report new.bytes ≡ entry_of now draw event s = λ i. entry_told now draw event (does.0 i) (bytes i) in
     let on = keeps_step w history now draw (grown_of report.outcome) event c onward fits in
-    subst (λ (e : Entry). P (e ∷ history) v) (sym told) (subst (λ (x : World). P (entry_of now draw event s ∷ history) x) (sym does.2) (holds (entry_of now draw event s ∷ history) s.world on))
+    subst (λ (e : Entry). P (e ∷ history) v) (sym told) (subst (λ (x : State). P (entry_of now draw event s ∷ history) x) (sym does.2) (holds (entry_of now draw event s ∷ history) s.state on))
 holds-on P holds w now draw event onward fits (Err e) old new v does = tt
 
 -- so what a step leaves promises of its entry what was promised of those before
-pub promises-on : (w : World) (now draw : ℕ) (event : Event) → w.last ≤ now → IsEvent event → (r : Result Report OutOfMemory) (old new : Datagram) (v : World) → IfOk r (λ report. Does (step_of w now draw (grown_of report.outcome) event) report old new v) → IfOk r (λ report. PromisesOn w (entry_told now draw event report new.bytes) v)
+pub promises-on : (w : State) (now draw : ℕ) (event : Event) → w.last ≤ now → IsEvent event → (r : Result Report OutOfMemory) (old new : Datagram) (v : State) → IfOk r (λ report. Does (step_of w now draw (grown_of report.outcome) event) report old new v) → IfOk r (λ report. PromisesOn w (entry_told now draw event report new.bytes) v)
 promises-on = holds-on Promised promises
 
 -- and keeps its word
-pub word-on : (w : World) (now draw : ℕ) (event : Event) → w.last ≤ now → IsEvent event → (r : Result Report OutOfMemory) (old new : Datagram) (v : World) → IfOk r (λ report. Does (step_of w now draw (grown_of report.outcome) event) report old new v) → IfOk r (λ report. KeepsWordOn w (entry_told now draw event report new.bytes) v)
+pub word-on : (w : State) (now draw : ℕ) (event : Event) → w.last ≤ now → IsEvent event → (r : Result Report OutOfMemory) (old new : Datagram) (v : State) → IfOk r (λ report. Does (step_of w now draw (grown_of report.outcome) event) report old new v) → IfOk r (λ report. KeepsWordOn w (entry_told now draw event report new.bytes) v)
 word-on = holds-on KeepsItsWord keeps-word
 
 -- and one client still leaves room for the others
-pub room-on : (w : World) (now draw : ℕ) (event : Event) → w.last ≤ now → IsEvent event → (r : Result Report OutOfMemory) (old new : Datagram) (v : World) → IfOk r (λ report. Does (step_of w now draw (grown_of report.outcome) event) report old new v) → IfOk r (λ report. LeavesRoomOn w (entry_told now draw event report new.bytes) v)
+pub room-on : (w : State) (now draw : ℕ) (event : Event) → w.last ≤ now → IsEvent event → (r : Result Report OutOfMemory) (old new : Datagram) (v : State) → IfOk r (λ report. Does (step_of w now draw (grown_of report.outcome) event) report old new v) → IfOk r (λ report. LeavesRoomOn w (entry_told now draw event report new.bytes) v)
 room-on = holds-on LeavesRoom leaves-room

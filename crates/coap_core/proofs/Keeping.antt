@@ -11,7 +11,7 @@ use Rattle.coap_exchange.specs.Exchanges.{is_queued}
 use Rattle.coap_exchange.specs.Ids.{left_of}
 use Rattle.coap_exchange.specs.Table.{Numbered, item_at, count}
 use Rattle.coap_exchange.specs.Waiters.{is_waiting}
-use Rattle.coap_model.specs.World.{World, has_ids, can_reply}
+use Rattle.coap_model.specs.State.{State, has_ids, can_reply}
 use Rattle.coap_core.specs.Steps.{CanGoOn}
 
 -- an item that passes is counted
@@ -28,15 +28,15 @@ counted {A} test n (y ∷ ys) x e passes = go (eqb n y.0) e (λ f. counted test 
     go false f rest = let i = rest f in omega arith
 
 -- an id is left for a request that is to be sent
-pub id-for-queued : (w : World) (now n : ℕ) (x : Exchange) → CanGoOn w → w.last ≤ now → item_at n w.exchanges ≡ Some x → is_queued x ≡ true → 0 < left_of now w.ids
+pub id-for-queued : (w : State) (now n : ℕ) (x : Exchange) → CanGoOn w → w.last ≤ now → item_at n w.exchanges ≡ Some x → is_queued x ≡ true → 0 < left_of now w.ids
 id-for-queued w now n x can onward e queued = let some = counted is_queued n w.exchanges x e queued in let kept = can.ids now onward in omega (arith, some, kept)
 
 -- one is left for a client that is to be served
-pub id-for-waiting : (w : World) (now n : ℕ) (v : Waiter) → CanGoOn w → w.last ≤ now → item_at n w.waiters ≡ Some v → is_waiting v ≡ true → 0 < left_of now w.ids
+pub id-for-waiting : (w : State) (now n : ℕ) (v : Waiter) → CanGoOn w → w.last ≤ now → item_at n w.waiters ≡ Some v → is_waiting v ≡ true → 0 < left_of now w.ids
 id-for-waiting w now n v can onward e waits = let some = counted is_waiting n w.waiters v e waits in let kept = can.ids now onward in omega (arith, some, kept)
 
 -- one is left for a reply that isn't an acknowledgement, where it can go out
-pub id-for-reply : (w : World) (now : ℕ) (kind : Kind) → is_con kind ≡ false → can_reply w now kind ≡ true → 0 < left_of now w.ids
+pub id-for-reply : (w : State) (now : ℕ) (kind : Kind) → is_con kind ≡ false → can_reply w now kind ≡ true → 0 < left_of now w.ids
 id-for-reply w now kind other can = go kind other can
   where
     left : has_ids 1 w now ≡ true → 0 < left_of now w.ids

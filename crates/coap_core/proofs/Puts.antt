@@ -28,7 +28,7 @@ use Rattle.coap_model.specs.declared.report.Storing.TheVariants.{Kept, TooLarge,
 use Rattle.coap_model.specs.History.{grown_of}
 use Rattle.coap_model.specs.Memory.{takes_memory}
 use Rattle.coap_model.specs.Answers.{Arrived, answer_for, entry_made, may_store, tainted_all, with_changed, keeps, keeps_if, stores, answers_so, answers_with, answers}
-use Rattle.coap_model.specs.World.{World, Step, later, silent, says, takes_up, has_record_room, remembers, with_record}
+use Rattle.coap_model.specs.State.{State, Step, later, silent, says, takes_up, has_record_room, remembers, with_record}
 use Rattle.coap_model.specs.Empties.{on_exchange}
 use Rattle.coap_model.specs.Responses.{awaiting, on_awaited, on_separate}
 use Rattle.coap_core.proofs.Awaiting.{awaited}
@@ -45,7 +45,7 @@ pick-false b x y e = rw e refl
 -- ---- what a response changes
 
 -- what is remembered stands beside what is changed
-changes-taken : (changed : List Target) (now : ℕ) (source : Endpoint) (m : Message) (w : World) → with_changed changed (taken_up now source m w) ≡ taken_up now source m (with_changed changed w)
+changes-taken : (changed : List Target) (now : ℕ) (source : Endpoint) (m : Message) (w : State) → with_changed changed (taken_up now source m w) ≡ taken_up now source m (with_changed changed w)
 changes-taken changed now source m w = go (is_con m.kind)
   where
     go : (b : Bool) → with_changed changed (cond b (with_record now source m (spelling (acknowledgement m.id)) w) w) ≡ cond b (with_record now source m (spelling (acknowledgement m.id)) (with_changed changed w)) (with_changed changed w)
@@ -75,10 +75,10 @@ open-changed number [] xs e = e
 open-changed number (t ∷ changed) xs e = open-changed number changed (all_changed (tainted_by t) xs) (open-tainted number t xs e)
 
 -- the exchange of this number has its answer, with the store of these tables
-abbrev pub answered_in : World → ℕ → ℕ → Answer → World
+abbrev pub answered_in : State → ℕ → ℕ → Answer → State
 answered_in v now number a = later (record v { exchanges = changed_at number (answered a) v.exchanges }) now
 
-module _ (w v : World) (now : ℕ) (a : Arrived) where
+module _ (w v : State) (now : ℕ) (a : Arrived) where
   abbrev made : Entry
   made = entry_made w now a.exchange.1 a.answer
 
@@ -107,33 +107,33 @@ module _ (w v : World) (now : ℕ) (a : Arrived) where
 
 -- ---- what is remembered stands beside the store
 
-module _ (w v : World) (now : ℕ) (source : Endpoint) (m : Message) (bytes : List ℕ) where
-  abbrev remembering : World
+module _ (w v : State) (now : ℕ) (source : Endpoint) (m : Message) (bytes : List ℕ) where
+  abbrev remembering : State
   remembering = with_record now source m bytes w
 
   -- the tables without what is remembered
-  abbrev before : World
+  abbrev before : State
   before = record w { store = v.store }
 
   put-before : (entry : Entry) (storing : Storing) → IsPut remembering entry storing v → IsPut w entry storing before × (v ≡ with_record now source m bytes before)
-  put-before entry Kept k = let s = ap (λ (x : World). x.store) k.0 in ((rw s refl, k.1), rw k.0 refl)
-  put-before entry TooLarge k = let s = ap (λ (x : World). x.store) k.0 in ((rw s refl, k.1), rw k.0 refl)
-  put-before entry NoMemory k = let s = ap (λ (x : World). x.store) k.0 in ((rw s refl, k.1, k.2), rw k.0 refl)
+  put-before entry Kept k = let s = ap (λ (x : State). x.store) k.0 in ((rw s refl, k.1), rw k.0 refl)
+  put-before entry TooLarge k = let s = ap (λ (x : State). x.store) k.0 in ((rw s refl, k.1), rw k.0 refl)
+  put-before entry NoMemory k = let s = ap (λ (x : State). x.store) k.0 in ((rw s refl, k.1, k.2), rw k.0 refl)
   put-before entry NotStored k = absurd k
 
   -- what was done with the store was done to those
   kept-before : (entry : Option Entry) (storing : Storing) → IsKept remembering entry storing v → IsKept w entry storing before × (v ≡ with_record now source m bytes before)
-  kept-before None storing k = let s = ap (λ (x : World). x.store) k.1 in ((k.0, rw s refl), rw k.1 refl)
+  kept-before None storing k = let s = ap (λ (x : State). x.store) k.1 in ((k.0, rw s refl), rw k.1 refl)
   kept-before (Some entry) storing k = put-before entry storing k
 
 -- ---- the step of an answer
 
-module _ (w v : World) (now : ℕ) (source : Endpoint) (m : Message) (x : Numbered Exchange) (storing : Storing) where
+module _ (w v : State) (now : ℕ) (source : Endpoint) (m : Message) (x : Numbered Exchange) (storing : Storing) where
   abbrev a : Answer
   a = answer_for w now m x.1
 
   -- the tables in which what it changes is marked and tainted
-  abbrev u : World
+  abbrev u : State
   u = with_changed (changed_by x.1.key.target m) w
 
   abbrev arrived : Arrived
@@ -144,7 +144,7 @@ module _ (w v : World) (now : ℕ) (source : Endpoint) (m : Message) (x : Number
       record {
         report = record { send = taken_up_to source m; outcome = Answered storing };
         bytes = taken_up_bytes m;
-        world = answered_in v now x.0 a;
+        state = answered_in v now x.0 a;
       }
 
   -- a response that isn't confirmable
@@ -160,9 +160,9 @@ module _ (w v : World) (now : ℕ) (source : Endpoint) (m : Message) (x : Number
     where
       said : v ≡ with_record now source m (spelling (acknowledgement m.id)) (record u { store = v.store }) → remembers now source m (takes_up (Answered storing) source m (answered_in (record u { store = v.store }) now x.0 a)) ≡ step_left
       said e =
-          let worlds : with_record now source m (spelling (acknowledgement m.id)) (answered_in (record u { store = v.store }) now x.0 a) ≡ answered_in v now x.0 a = sym (ap (λ (z : World). answered_in z now x.0 a) e) in
+          let worlds : with_record now source m (spelling (acknowledgement m.id)) (answered_in (record u { store = v.store }) now x.0 a) ≡ answered_in v now x.0 a = sym (ap (λ (z : State). answered_in z now x.0 a) e) in
           let turned = rw con at worlds in
-          rw con (λ i. record { report = record { send = Some source; outcome = Answered storing }; bytes = spelling (acknowledgement m.id); world = turned i })
+          rw con (λ i. record { report = record { send = Some source; outcome = Answered storing }; bytes = spelling (acknowledgement m.id); state = turned i })
 
   -- either
   pub answering-is : IsKept (taken_up now source m u) (if_storable w now x.1 a) storing v → answering w now (grown_of (Answered storing)) source m x ≡ step_left
@@ -176,16 +176,16 @@ module _ (w v : World) (now : ℕ) (source : Endpoint) (m : Message) (x : Number
 -- ---- the tables beside the store
 
 -- what is done with the store leaves the other tables
-store-alone : (w v : World) (entry : Option Entry) (storing : Storing) → IsKept w entry storing v → v ≡ record w { store = v.store }
+store-alone : (w v : State) (entry : Option Entry) (storing : Storing) → IsKept w entry storing v → v ≡ record w { store = v.store }
 store-alone w v None storing k = rw k.1 refl
 store-alone w v (Some entry) Kept k = rw k.0 refl
 store-alone w v (Some entry) TooLarge k = rw k.0 refl
 store-alone w v (Some entry) NoMemory k = rw k.0 refl
 store-alone w v (Some entry) NotStored k = absurd k
 
-module _ (w v : World) (now number : ℕ) (source : Endpoint) (m : Message) (changed : List Target) (entry : Option Entry) (storing : Storing) (kept : IsKept (with_changed changed (taken_up now source m w)) entry storing v) where
+module _ (w v : State) (now number : ℕ) (source : Endpoint) (m : Message) (changed : List Target) (entry : Option Entry) (storing : Storing) (kept : IsKept (with_changed changed (taken_up now source m w)) entry storing v) where
   beside : v ≡ record (taken_up now source m (with_changed changed w)) { store = v.store }
-  beside = subst (λ (u : World). v ≡ record u { store = v.store }) (changes-taken changed now source m w) (store-alone (with_changed changed (taken_up now source m w)) v entry storing kept)
+  beside = subst (λ (u : State). v ≡ record u { store = v.store }) (changes-taken changed now source m w) (store-alone (with_changed changed (taken_up now source m w)) v entry storing kept)
 
   exchanges-taken : (b : Bool) → (cond b (with_record now source m (spelling (acknowledgement m.id)) (with_changed changed w)) (with_changed changed w)).exchanges ≡ tainted_all changed w.exchanges
   exchanges-taken true = refl
@@ -197,14 +197,14 @@ module _ (w v : World) (now number : ℕ) (source : Endpoint) (m : Message) (cha
 
   -- the exchange that has its answer then was open
   pub left-open : IsOpenAt number w.exchanges → IsOpenAt number v.exchanges
-  left-open was = subst (λ (xs : List (Numbered Exchange)). IsOpenAt number xs) (sym (ap (λ (u : World). u.exchanges) beside ∙ exchanges-taken (is_con m.kind))) (open-changed number changed w.exchanges was)
+  left-open was = subst (λ (xs : List (Numbered Exchange)). IsOpenAt number xs) (sym (ap (λ (u : State). u.exchanges) beside ∙ exchanges-taken (is_con m.kind))) (open-changed number changed w.exchanges was)
 
   -- no event was counted yet
   pub left-events : v.events ≡ w.events
-  left-events = ap (λ (u : World). u.events) beside ∙ events-taken (is_con m.kind)
+  left-events = ap (λ (u : State). u.events) beside ∙ events-taken (is_con m.kind)
 
 -- what is done for the exchange of a number
-pub answer-does : (w v : World) (now number : ℕ) (source : Endpoint) (m : Message) (entry : Option Entry) (changed : List Target) (storing : Storing) (report : Report) (old new : Datagram) (after : World) (a : Answer)
+pub answer-does : (w v : State) (now number : ℕ) (source : Endpoint) (m : Message) (entry : Option Entry) (changed : List Target) (storing : Storing) (report : Report) (old new : Datagram) (after : State) (a : Answer)
     → Some a ≡ option_map (answer_for w now m) (item_at number w.exchanges)
     → IfSome (item_at number w.exchanges) (λ x. entry ≡ if_storable w now x a)
     → IfSome (item_at number w.exchanges) (λ x. changed ≡ changed_by x.key.target m)
@@ -218,14 +218,14 @@ answer-does w v now number source m entry changed storing report old new after a
     go None i e t = tt
     go (Some x) i e t =
         let same : a ≡ answer_for w now m x = same_Some a (answer_for w now m x) i in
-        let beside = subst (λ (u : World). IsKept u entry storing v) (changes-taken changed now source m w) kept in
+        let beside = subst (λ (u : State). IsKept u entry storing v) (changes-taken changed now source m w) kept in
         let k : IsKept (taken_up now source m (with_changed (changed_by x.key.target m) w)) (if_storable w now x (answer_for w now m x)) storing v = rw (t, e, same) at beside in
         let step = answering-is w v now source m (number, x) storing k in
         rw (told, step) (refl, said, left ∙ ap (answered_in v now number) same)
 
 -- ---- the exchange that awaits a response
 
-module _ (w : World) (now : ℕ) (grown : Bool) (source : Endpoint) (m : Message) (number : ℕ) (P : Step → Type 0) (rising : IsRising 0 w.exchanges) (found : Some number ≡ option_map (λ x. x.0) (awaiting w source m)) where
+module _ (w : State) (now : ℕ) (grown : Bool) (source : Endpoint) (m : Message) (number : ℕ) (P : Step → Type 0) (rising : IsRising 0 w.exchanges) (found : Some number ≡ option_map (λ x. x.0) (awaiting w source m)) where
   -- what holds of the step of an answer for that number holds of the step of a response that isn't confirmable
   pub awaited-does : is_con m.kind ≡ false → IfSome (answering_at w now grown source m number) P → P (awaited_step w now grown source m)
   awaited-does other each = awaited w source m number (λ o. P (on_awaited w now grown source m o)) rising found (λ x at. plain x (rw at at each))
@@ -243,14 +243,14 @@ module _ (w : World) (now : ℕ) (grown : Bool) (source : Endpoint) (m : Message
 -- ---- memory
 
 -- whether it is acknowledged or not, what is taken up wants memory where its outcome does
-pub taken-takes : (outcome : Outcome) (source : Endpoint) (m : Message) (w : World) → ((bytes : List ℕ) → takes_memory outcome bytes ≡ true) → wants_memory (takes_up outcome source m w) ≡ true
+pub taken-takes : (outcome : Outcome) (source : Endpoint) (m : Message) (w : State) → ((bytes : List ℕ) → takes_memory outcome bytes ≡ true) → wants_memory (takes_up outcome source m w) ≡ true
 taken-takes outcome source m w takes = go (is_con m.kind)
   where
     go : (b : Bool) → wants_memory (cond b (says outcome source (acknowledgement m.id) w) (silent outcome w)) ≡ true
     go true = takes (spelling (acknowledgement m.id))
     go false = takes []
 
-module _ (w : World) (now : ℕ) (grown : Bool) (a : Arrived) where
+module _ (w : State) (now : ℕ) (grown : Bool) (a : Arrived) where
   so-takes : (storing : Storing) (store : List Entry) → wants_memory (answers_so w now a storing store) ≡ true
   so-takes storing store = taken-takes (Answered storing) a.source a.message _ (λ bytes. refl)
 
@@ -276,7 +276,7 @@ module _ (w : World) (now : ℕ) (grown : Bool) (a : Arrived) where
       storable false e = rw e (so-takes NotStored w.store)
 
 -- an answer takes memory
-pub answer-takes : (w : World) (now : ℕ) (grown : Bool) (source : Endpoint) (m : Message) (x : Numbered Exchange) → wants_memory (answers w now grown source m x) ≡ true
+pub answer-takes : (w : State) (now : ℕ) (grown : Bool) (source : Endpoint) (m : Message) (x : Numbered Exchange) → wants_memory (answers w now grown source m x) ≡ true
 answer-takes w now grown source m x = with-takes (with_changed (changed_by x.1.key.target m) w) now grown (record { source = source; message = m; exchange = x; answer = answer_for w now m x.1 })
 
 -- ---- a Reset
@@ -328,12 +328,12 @@ never-stored x now = go x.is_get (not x.tainted)
     go false b = refl
 
 -- and changes nothing
-pub reset-is : (w : World) (now : ℕ) (grown : Bool) (source : Endpoint) (m : Message) (number : ℕ) (x : Exchange) → is_bare m ≡ true → is_rst m.kind ≡ true → answers w now grown source m (number, x) ≡ resets w now number
+pub reset-is : (w : State) (now : ℕ) (grown : Bool) (source : Endpoint) (m : Message) (number : ℕ) (x : Exchange) → is_bare m ≡ true → is_rst m.kind ≡ true → answers w now grown source m (number, x) ≡ resets w now number
 reset-is w now grown source m number x bare rst =
     rw (bare-changes x.key.target m bare, reset-answer w.setting.limits.datagram x.is_get (option_map (λ s. s.response) x.copy) now m rst, never-stored x now, rst-alone m.kind rst) refl
 
 -- so it is the step of what was sent
-pub reset-step : (w : World) (now : ℕ) (grown : Bool) (source : Endpoint) (m : Message) (number : ℕ) (x : Exchange) → item_at number w.exchanges ≡ Some x → is_sent x ≡ true → is_bare m ≡ true → is_ack m.kind ≡ false
+pub reset-step : (w : State) (now : ℕ) (grown : Bool) (source : Endpoint) (m : Message) (number : ℕ) (x : Exchange) → item_at number w.exchanges ≡ Some x → is_sent x ≡ true → is_bare m ≡ true → is_ack m.kind ≡ false
     → on_exchange w now grown source m number (item_at number w.exchanges) ≡ resets w now number
 reset-step w now grown source m number x found sent bare other =
     ap (on_exchange w now grown source m number) found ∙ (pick-true (is_sent x) _ _ sent ∙ (pick-false (is_ack m.kind) _ _ other ∙ reset-is w now grown source m number x bare (rst-of_bare m bare other)))

@@ -8,7 +8,7 @@ use Rattle.coap_message.specs.Reading.{read_message, head_at}
 use Rattle.coap_message.proofs.WholeMessages.{head_read}
 use Rattle.coap_endpoint.specs.declared.endpoint.Endpoint.{Endpoint}
 use Rattle.coap_model.specs.Step.{message_in, on_message, on_datagram}
-use Rattle.coap_model.specs.World.{World}
+use Rattle.coap_model.specs.State.{State}
 
 -- a message that is read has its own head
 head-of_read : (most : ℕ) (bytes : List ℕ) (m : Message) → message_in most bytes ≡ Some m → head_at bytes ≡ Some (record { kind = m.kind; code = m.code; id = m.id })
@@ -24,5 +24,5 @@ head-of_read most bytes m e = go (leb (length bytes) most) (read_message bytes) 
     go false read is f = absurd cc
 
 -- the step of a message that is read
-pub on_read-message : (w : World) (now : ℕ) (grown : Bool) (source : Endpoint) (bytes : List ℕ) (m : Message) → message_in w.setting.limits.datagram bytes ≡ Some m → on_datagram w now grown source bytes ≡ on_message w now grown source m
+pub on_read-message : (w : State) (now : ℕ) (grown : Bool) (source : Endpoint) (bytes : List ℕ) (m : Message) → message_in w.setting.limits.datagram bytes ≡ Some m → on_datagram w now grown source bytes ≡ on_message w now grown source m
 on_read-message w now grown source bytes m e = rw (head-of_read w.setting.limits.datagram bytes m e, e) refl

@@ -10,20 +10,20 @@ use Rattle.coap_dedup.proofs.Kept.{client_room-there, room-there}
 use Rattle.coap_message.specs.Datagram.{Datagram, holding}
 use Rattle.coap_message.specs.Message.{Message}
 use Rattle.coap_endpoint.specs.declared.endpoint.Endpoint.{Endpoint}
-use Rattle.coap_model.specs.World.{World, records_of, has_record_room, known_of, remembers}
+use Rattle.coap_model.specs.State.{State, records_of, has_record_room, known_of, remembers}
 use Rattle.coap_model.specs.Requests.{on_new, on_request}
 use Rattle.coap_endpoint.proofs.Lists.{All-weaken}
 use Rattle.coap_core.specs.Steps.{CanGoOn}
 
 -- they are records
-pub are-records : (w : World) (kind : Kind) → CanGoOn w → AreRecords (records_of kind w)
+pub are-records : (w : State) (kind : Kind) → CanGoOn w → AreRecords (records_of kind w)
 are-records w Con can = can.con_records
 are-records w Non can = can.non_records
 are-records w Ack can = can.non_records
 are-records w Rst can = can.non_records
 
 -- none came later than a moment that doesn't go back
-pub are-until : (w : World) (kind : Kind) (now : ℕ) → CanGoOn w → w.last ≤ now → AreUpTo now (records_of kind w).items
+pub are-until : (w : State) (kind : Kind) (now : ℕ) → CanGoOn w → w.last ≤ now → AreUpTo now (records_of kind w).items
 are-until w Con now can onward = All-weaken (λ r. r.at ≤ w.last) (λ r. r.at ≤ now) w.con_records.items (λ r le. omega (arith, le, onward)) can.con_until
 are-until w Non now can onward = All-weaken (λ r. r.at ≤ w.last) (λ r. r.at ≤ now) w.non_records.items (λ r le. omega (arith, le, onward)) can.non_until
 are-until w Ack now can onward = All-weaken (λ r. r.at ≤ w.last) (λ r. r.at ≤ now) w.non_records.items (λ r le. omega (arith, le, onward)) can.non_until
@@ -42,7 +42,7 @@ below-is n limit below = go (n == limit) refl
     go false free = sym (lt-ltb _ _ (below free))
 
 -- where they aren't full, there is room if those of this endpoint don't reach its limit
-pub room-is : (w : World) (now : ℕ) (source : Endpoint) (kind : Kind) → CanGoOn w → (length (living_at now (records_of kind w)) == (records_of kind w).limit) ≡ false → not (living_of source now (records_of kind w) == (records_of kind w).per_client) ≡ has_record_room w now source kind
+pub room-is : (w : State) (now : ℕ) (source : Endpoint) (kind : Kind) → CanGoOn w → (length (living_at now (records_of kind w)) == (records_of kind w).limit) ≡ false → not (living_of source now (records_of kind w) == (records_of kind w).per_client) ≡ has_record_room w now source kind
 room-is w now source kind can free =
     let t = records_of kind w in
     let are = are-records w kind can in
@@ -55,7 +55,7 @@ none-some None e = refl
 none-some (Some a) e = absurd cc
 
 -- a request that isn't known is new
-pub new-is : (w : World) (now : ℕ) (client : Endpoint) (m : Message) → known_of w now client m ≡ None → has_record_room w now client m.kind ≡ true → on_request w now client m ≡ remembers now client m (on_new w now client m)
+pub new-is : (w : State) (now : ℕ) (client : Endpoint) (m : Message) → known_of w now client m ≡ None → has_record_room w now client m.kind ≡ true → on_request w now client m ≡ remembers now client m (on_new w now client m)
 new-is w now client m unknown room = rw (unknown, room) refl
 
 -- what is held hangs on the room, and not on what was held

@@ -17,13 +17,13 @@ use Rattle.coap_exchange.specs.Timers.{goes_on, sent_again}
 use Rattle.coap_exchange.specs.Waiters.{IsDue, due_in, fire_of_state, fired_state, fired_waiter}
 use Rattle.coap_forward.specs.Messages.{is_con}
 use Rattle.coap_model.specs.History.{is_con_datagram}
-use Rattle.coap_model.specs.Ticks.{abandons, redelivers, on_unheard, on_waiter}
-use Rattle.coap_model.specs.World.{World}
+use Rattle.coap_model.specs.Ticks.{abandons, redelivers, on_delivery_timeout, on_waiter}
+use Rattle.coap_model.specs.State.{State}
 use Rattle.coap_core.specs.Steps.{IsClientDue, answer_in_state, delivery_at, unheard, unheard_at}
 
 -- ---- how far a client was served
 
-module _ (w : World) (now draw number : ℕ) (v : Waiter) (found : item_at number w.waiters ≡ Some v) where
+module _ (w : State) (now draw number : ℕ) (v : Waiter) (found : item_at number w.waiters ≡ Some v) where
   -- one that waits is given the answer of its exchange
   pub waiting-step : (exchange : ℕ) → v.state ≡ Waiting exchange → on_waiter w now draw number (item_at number w.waiters) ≡ delivery_at w now draw number exchange
   waiting-step exchange state = rw (found, state) refl
@@ -33,21 +33,21 @@ module _ (w : World) (now draw number : ℕ) (v : Waiter) (found : item_at numbe
   unheard-step bytes id timer state = rw (found, state) refl
 
 -- that one is due where its timeout has ended
-pub has-ended : (w : World) (now : ℕ) (v : Waiter) (bytes : List ℕ) (id : ℕ) (timer : Timer) → IsClientDue w now v → v.state ≡ Delivering bytes id timer → IsDue now v
+pub has-ended : (w : State) (now : ℕ) (v : Waiter) (bytes : List ℕ) (id : ℕ) (timer : Timer) → IsClientDue w now v → v.state ≡ Delivering bytes id timer → IsDue now v
 has-ended w now v bytes id timer due state =
     let at : Some timer.due ≡ Some due.at = subst (λ (s : WaiterState). due_in s w.exchanges ≡ Some due.at) state due.due in
     rw state (let same = same_Some timer.due due.at at in let past = due.past in omega arith)
 
 -- ---- what is done where the timeout has ended
 
-module _ (w : World) (now number : ℕ) (v : Waiter) (found : item_at number w.waiters ≡ Some v) where
+module _ (w : State) (now number : ℕ) (v : Waiter) (found : item_at number w.waiters ≡ Some v) where
   -- the answer is sent again
   pub again-step : Again ≡ fire_of_state now v.state → unheard_at w now number ≡ redelivers w now number v (answer_in_state v.state)
   again-step again = rw found (go v.state again)
     where
       go : (s : WaiterState) → Again ≡ fire_of_state now s → unheard w now number v s ≡ redelivers w now number v (answer_in_state s)
       go (Waiting exchange) e = absurd cc
-      go (Delivering bytes id timer) e = ap (on_unheard w now number v bytes) (sym e)
+      go (Delivering bytes id timer) e = ap (on_delivery_timeout w now number v bytes) (sym e)
 
   -- the client is given up
   pub over-step : IsDue now v → GiveUp ≡ fire_of_state now v.state → unheard_at w now number ≡ abandons w now number
@@ -55,7 +55,7 @@ module _ (w : World) (now number : ℕ) (v : Waiter) (found : item_at number w.w
     where
       go : (s : WaiterState) → IsDue now (record v { state = s }) → GiveUp ≡ fire_of_state now s → unheard w now number v s ≡ abandons w now number
       go (Waiting exchange) d e = absurd d
-      go (Delivering bytes id timer) d e = ap (on_unheard w now number v bytes) (sym e)
+      go (Delivering bytes id timer) d e = ap (on_delivery_timeout w now number v bytes) (sym e)
 
 -- a timer that is due leaves the answer as it is
 pub fired-answer : (now : ℕ) (s : WaiterState) → answer_in_state (fired_state now s) ≡ answer_in_state s

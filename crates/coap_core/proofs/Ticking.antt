@@ -19,8 +19,8 @@ use Rattle.coap_exchange.specs.Waiters.{due_after}
 use Rattle.coap_exchange.proofs.Changes.{changed_at-below}
 use Rattle.coap_model.specs.declared.due.DueItem.{DueItem}
 use Rattle.coap_model.specs.declared.due.DueItem.TheVariants.{OfExchange, OfWaiter}
-use Rattle.coap_model.specs.World.{World, later, next_id}
-use Rattle.coap_model.specs.Ticks.{exchange_due, waiter_due, first_item, item_due, if_due, sends, resends, gives_up, on_fire, on_exchange, on_waiter, on_item, on_tick}
+use Rattle.coap_model.specs.State.{State, later, next_id}
+use Rattle.coap_model.specs.Ticks.{exchange_due, waiter_due, first_item, item_due, if_due, sends, resends, gives_up, on_request_timeout, on_exchange, on_waiter, on_item, on_tick}
 use Rattle.coap_model.proofs.FirstDue.{first_due-holds}
 use Rattle.coap_core.specs.Steps.{IsExchangeDue, IsDueAt, sending_at, firing_at, form_at, IsClientDueAt}
 
@@ -102,7 +102,7 @@ waiter-first (Some x) (Some v) at number e = go (nat_le x.0 v.0) e
     go true f = absurd cc
     go false f = second-first v at number f
 
-module _ (w : World) (now draw : ℕ) where
+module _ (w : State) (now draw : ℕ) where
   -- an exchange is due
   pub of-exchange : (at number : ℕ) → Some (OfExchange at number) ≡ item_due w → at ≤ now → on_tick w now draw ≡ on_exchange w now draw number (item_at number w.exchanges)
   of-exchange at number e le =
@@ -116,7 +116,7 @@ module _ (w : World) (now draw : ℕ) where
       ap (λ (o : Option DueItem). on_item w now draw (if_due now o)) (sym e) ∙ rw due refl
 
 -- the exchange that is due first is due
-pub due-at : (w : World) (now at number : ℕ) → IsRising 0 w.exchanges → Some (OfExchange at number) ≡ item_due w → at ≤ now → IsDueAt w now number
+pub due-at : (w : State) (now at number : ℕ) → IsRising 0 w.exchanges → Some (OfExchange at number) ≡ item_due w → at ≤ now → IsDueAt w now number
 due-at w now at number rising e le =
     let first : exchange_due w ≡ Some (at, number) = exchange-first (exchange_due w) (waiter_due w) at number (sym e) in
     let found = first_due-holds (λ (x : Numbered Exchange). item_at x.0 w.exchanges ≡ Some x.1) (due_among w.setting.limits.nstart w.setting.limits.exchange_ms w.exchanges) w.exchanges (at, number) (items-found 0 w.exchanges rising) first in
@@ -125,7 +125,7 @@ due-at w now at number rising e le =
     rw here (record { at = at; due = found.3; past = le })
 
 -- so is the client that is due first
-pub client-due-at : (w : World) (now at number : ℕ) → IsRising 0 w.waiters → Some (OfWaiter at number) ≡ item_due w → at ≤ now → IsClientDueAt w now number
+pub client-due-at : (w : State) (now at number : ℕ) → IsRising 0 w.waiters → Some (OfWaiter at number) ≡ item_due w → at ≤ now → IsClientDueAt w now number
 client-due-at w now at number rising e le =
     let first : waiter_due w ≡ Some (at, number) = waiter-first (exchange_due w) (waiter_due w) at number (sym e) in
     let found = first_due-holds (λ (v : Numbered Waiter). item_at v.0 w.waiters ≡ Some v.1) (due_after w.exchanges) w.waiters (at, number) (items-found 0 w.waiters rising) first in
@@ -145,7 +145,7 @@ late-is a ms now some = go (leb ms (now - a)) refl (leb (a + ms) now) refl
     go false e true f = absurd (let p = leb-false _ _ e in let q = leb-true _ _ f in omega arith)
     go false e false f = refl
 
-module _ (w : World) (now : ℕ) (x : Exchange) (due : IsExchangeDue w now x) where
+module _ (w : State) (now : ℕ) (x : Exchange) (due : IsExchangeDue w now x) where
   abbrev ms : ℕ
   ms = w.setting.limits.exchange_ms
 
@@ -183,7 +183,7 @@ fired-same now x e = let p = sending x.sending e in λ i. record x { sending = p
 
 -- ---- the step of what is due, by how far it has come
 
-module _ (w : World) (now draw number : ℕ) (x : Exchange) (found : item_at number w.exchanges ≡ Some x) where
+module _ (w : State) (now draw number : ℕ) (x : Exchange) (found : item_at number w.exchanges ≡ Some x) where
   pub queued-step : nat_le (deadline w.setting.limits.exchange_ms x) now ≡ false → x.state ≡ Queued → on_exchange w now draw number (item_at number w.exchanges) ≡ sending_at w now draw number
   queued-step early state = rw (found, early, state) refl
 
@@ -193,21 +193,21 @@ module _ (w : World) (now draw number : ℕ) (x : Exchange) (found : item_at num
 -- ---- the bytes that are sent
 
 -- the form of a request that was sent is what the step sends
-pub sent-form : (w : World) (now draw number : ℕ) (s : Sending) (x : Exchange) → item_at number w.exchanges ≡ Some x → s.id ≡ next_id w → form_at number (changed_at number (sent s) w.exchanges) ≡ (sending_at w now draw number).bytes
+pub sent-form : (w : State) (now draw number : ℕ) (s : Sending) (x : Exchange) → item_at number w.exchanges ≡ Some x → s.id ≡ next_id w → form_at number (changed_at number (sent s) w.exchanges) ≡ (sending_at w now draw number).bytes
 sent-form w now draw number s x found id = rw (changed-found number (sent s) w.exchanges x found, found, id) refl
 
 -- ---- what is done where a timeout has ended
 
 -- the request is sent again
-pub again-step : (w : World) (now number : ℕ) (x : Exchange) → item_at number w.exchanges ≡ Some x → Again ≡ fire_of_sending now x.sending → firing_at w now number ≡ resends w now number x
-again-step w now number x found again = rw found (ap (on_fire w now number x) (sym again))
+pub again-step : (w : State) (now number : ℕ) (x : Exchange) → item_at number w.exchanges ≡ Some x → Again ≡ fire_of_sending now x.sending → firing_at w now number ≡ resends w now number x
+again-step w now number x found again = rw found (ap (on_request_timeout w now number x) (sym again))
 
 -- it is given up
-pub over-step : (w : World) (now number : ℕ) (x : Exchange) → item_at number w.exchanges ≡ Some x → GiveUp ≡ fire_of_sending now x.sending → firing_at w now number ≡ gives_up w now number
-over-step w now number x found over = rw found (ap (on_fire w now number x) (sym over))
+pub over-step : (w : State) (now number : ℕ) (x : Exchange) → item_at number w.exchanges ≡ Some x → GiveUp ≡ fire_of_sending now x.sending → firing_at w now number ≡ gives_up w now number
+over-step w now number x found over = rw found (ap (on_request_timeout w now number x) (sym over))
 
 -- ---- the tables after a request was sent
 
-pub sent-world : (w v : World) (now draw number : ℕ) (s : Sending) (x : Exchange) → item_at number w.exchanges ≡ Some x → v ≡ record w { ids = called now w.ids } → s ≡ record { asked = w.events; id = next_id w; timer = started now draw }
-    → later (record v { exchanges = changed_at number (sent s) v.exchanges }) now ≡ (sends w now draw number x).world
+pub sent-world : (w v : State) (now draw number : ℕ) (s : Sending) (x : Exchange) → item_at number w.exchanges ≡ Some x → v ≡ record w { ids = called now w.ids } → s ≡ record { asked = w.events; id = next_id w; timer = started now draw }
+    → later (record v { exchanges = changed_at number (sent s) v.exchanges }) now ≡ (sends w now draw number x).state
 sent-world w v now draw number s x found vs ss = rw (vs, ss) refl

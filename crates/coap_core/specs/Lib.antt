@@ -4,7 +4,7 @@ pub mod Forms
 pub mod Steps
 pub mod Storing
 pub use Rattle.coap_model.specs.Setting
-pub use Rattle.coap_model.specs.World
+pub use Rattle.coap_model.specs.State
 pub use Rattle.coap_model.specs.Step
 pub use Rattle.coap_model.specs.Ticks
 pub use Rattle.coap_model.specs.History

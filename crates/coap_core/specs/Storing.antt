@@ -13,7 +13,7 @@ use Rattle.coap_limits.specs.Limits.{Limits}
 use Rattle.coap_forward.specs.Messages.{is_con, acknowledgement}
 use Rattle.coap_model.specs.Answers.{entry_made, may_store, answers}
 use Rattle.coap_model.specs.Responses.{awaiting, on_awaited, on_separate, on_unknown}
-use Rattle.coap_model.specs.World.{World, Step, known_of, remembers, with_record}
+use Rattle.coap_model.specs.State.{State, Step, known_of, remembers, with_record}
 use Rattle.coap_message.specs.Spelling.{spelling}
 use Rattle.coap_endpoint.specs.declared.endpoint.Endpoint.{Endpoint}
 use Rattle.coap_endpoint.specs.declared.target.Target.{Target}
@@ -25,7 +25,7 @@ AreStoreLimits limits of_store =
     of_store ≡ record { bytes = limits.cache_bytes; entries = limits.cache_entries }
 
 -- what is to be stored for the answer of an exchange, if it may be
-abbrev pub if_storable : World → ℕ → Exchange → Answer → Option Entry
+abbrev pub if_storable : State → ℕ → Exchange → Answer → Option Entry
 if_storable w now x a = if may_store x a then Some (entry_made w now x a) else None
 
 -- the targets that a response changes
@@ -38,14 +38,14 @@ targets_in None = []
 targets_in (Some changed) = targets_with changed.target changed.created
 
 -- the step of a response that is the answer of an exchange: a Confirmable one is remembered
-abbrev pub answering : World → ℕ → Bool → Endpoint → Message → Numbered Exchange → Step
+abbrev pub answering : State → ℕ → Bool → Endpoint → Message → Numbered Exchange → Step
 answering w now grown source m x =
     if is_con m.kind
     then remembers now source m (answers w now grown source m x)
     else answers w now grown source m x
 
 -- the same for the exchange with this number
-abbrev pub answering_at : World → ℕ → Bool → Endpoint → Message → ℕ → Option Step
+abbrev pub answering_at : State → ℕ → Bool → Endpoint → Message → ℕ → Option Step
 answering_at w now grown source m number =
     option_map (λ x. answering w now grown source m (number, x)) (item_at number w.exchanges)
 
@@ -56,23 +56,23 @@ taken_up_bytes m = if is_con m.kind then spelling (acknowledgement m.id) else []
 abbrev pub taken_up_to : Endpoint → Message → Option Endpoint
 taken_up_to source m = if is_con m.kind then Some source else None
 
-abbrev pub taken_up : ℕ → Endpoint → Message → World → World
+abbrev pub taken_up : ℕ → Endpoint → Message → State → State
 taken_up now source m w =
     if is_con m.kind then with_record now source m (spelling (acknowledgement m.id)) w else w
 
 -- the steps of a response that isn't Confirmable, of one that is, and of a new one that is
-abbrev pub awaited_step : World → ℕ → Bool → Endpoint → Message → Step
+abbrev pub awaited_step : State → ℕ → Bool → Endpoint → Message → Step
 awaited_step w now grown source m = on_awaited w now grown source m (awaiting w source m)
 
-abbrev pub confirmable_step : World → ℕ → Bool → Endpoint → Message → Step
+abbrev pub confirmable_step : State → ℕ → Bool → Endpoint → Message → Step
 confirmable_step w now grown source m =
     on_unknown w now grown source m (known_of w now source m)
 
-abbrev pub separate_step : World → ℕ → Bool → Endpoint → Message → Step
+abbrev pub separate_step : State → ℕ → Bool → Endpoint → Message → Step
 separate_step w now grown source m = on_separate w now grown source m (awaiting w source m)
 
 -- what a store does with an entry, and the tables then
-abbrev pub IsPut : World → Entry → Storing → World → Type 0
+abbrev pub IsPut : State → Entry → Storing → State → Type 0
 IsPut w entry Kept v =
     (v
     ≡ record w {
@@ -90,6 +90,6 @@ IsPut w entry NoMemory v =
 IsPut w entry NotStored v = ⊥
 
 -- what is done with an entry, if there is one, and the store then
-abbrev pub IsKept : World → Option Entry → Storing → World → Type 0
+abbrev pub IsKept : State → Option Entry → Storing → State → Type 0
 IsKept w None storing v = (storing ≡ NotStored) × (v ≡ w)
 IsKept w (Some entry) storing v = IsPut w entry storing v

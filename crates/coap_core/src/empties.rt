@@ -9,14 +9,14 @@ ghost use Rattle.coap_core.specs.Arrivals.{of_arrival, of_grown};
 ghost use Rattle.coap_core.specs.Steps.{Does, CanGoOn, IsSentAt, resets};
 
 use crate::arrival::Arrival;
-use crate::world::{World, silent};
+use crate::state::{State, silent};
 use coap_endpoint::Endpoint;
 use coap_forward::bad_gateway;
 use coap_message::{Datagram, Kind, MessageRef};
 use coap_model::{Outcome, Report, Storing};
 use coap_store::Store;
 
-impl<S: Store + Drop> World<S> {
+impl<S: Store + Drop> State<S> {
     pub(crate) fn on_empty(&mut self, arrival: Arrival<'_, '_>, out: &mut Datagram) -> Report
         requires can { CanGoOn self.old }
         requires bare { is_bare arrival.message.now ≡ true }
@@ -62,7 +62,7 @@ impl<S: Store + Drop> World<S> {
     {
         self.under_way.acked(number);
         out.clear();
-        self.pass(now);
+        self.advance(now);
         silent(Outcome::Acked)
     }
 
@@ -76,7 +76,7 @@ impl<S: Store + Drop> World<S> {
         self.under_way
             .answered(number, bad_gateway(self.alloc, now));
         out.clear();
-        self.pass(now);
+        self.advance(now);
         silent(Outcome::Answered {
             storing: Storing::NotStored,
         })
@@ -103,7 +103,7 @@ impl<S: Store + Drop> World<S> {
     {
         self.under_way.close_waiter(number);
         out.clear();
-        self.pass(now);
+        self.advance(now);
         silent(Outcome::Acked)
     }
 }

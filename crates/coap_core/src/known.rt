@@ -5,14 +5,14 @@ ghost use Rattle.coap_message.specs.Datagram.{holding};
 ghost use Rattle.coap_message.specs.Spelling.{spelling};
 ghost use Rattle.coap_message.specs.declared.message.Head.{Head};
 ghost use Rattle.coap_forward.specs.Messages.{acknowledgement, reply_kind, reply_id};
-ghost use Rattle.coap_model.specs.World.{next_id, records_of, has_record_room, can_reply, drops, known_of, with_record};
+ghost use Rattle.coap_model.specs.State.{next_id, records_of, has_record_room, can_reply, drops, known_of, with_record};
 ghost use Rattle.coap_model.specs.Requests.{replied};
 ghost use Rattle.coap_core.specs.Arrivals.{of_arrival};
 ghost use Rattle.coap_core.specs.Steps.{CanGoOn, CanRemember, CanReplyTo, CanStep, Does, IsSaid, repetition_of};
 ghost use Rattle.coap_core.specs.Storing.{taken_up_bytes, taken_up_to};
 
 use crate::arrival::Arrival;
-use crate::world::{World, silent};
+use crate::state::{State, silent};
 use coap_dedup::{Records, Seen};
 use coap_endpoint::Endpoint;
 use coap_forward::put_bare;
@@ -45,7 +45,7 @@ fn put_acknowledgement(id: u16, out: &mut Datagram)
 
 /// Writes what is sent at once for a message from this endpoint that is accepted, and returns to
 /// whom it is sent: a Confirmable message is acknowledged (RFC 7252, 4.2 and 5.2.2).
-pub(crate) fn put_taken_up(
+pub(crate) fn put_acceptance(
     to: Endpoint,
     message: &MessageRef<'_>,
     out: &mut Datagram,
@@ -66,7 +66,7 @@ pub(crate) fn put_taken_up(
     }
 }
 
-impl<S: Store + Drop> World<S> {
+impl<S: Store + Drop> State<S> {
     /// The records of the messages of this type that came.
     fn records(&self, kind: Kind) -> &Records
         ensures { result.now ≡ records_of kind self.now }
@@ -121,7 +121,7 @@ impl<S: Store + Drop> World<S> {
         ensures { Does (drops self.old now) result out.old out.new self.new }
     {
         out.clear();
-        self.pass(now);
+        self.advance(now);
         silent(Outcome::NoRecordRoom)
     }
 
@@ -207,7 +207,7 @@ impl<S: Store + Drop> World<S> {
         if arrival.message.kind() != Kind::Con {
             self.take_id(arrival.now);
         }
-        self.pass(arrival.now);
+        self.advance(arrival.now);
         Ok(Report {
             send: Some(arrival.from),
             outcome,

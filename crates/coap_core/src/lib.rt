@@ -3,14 +3,17 @@
 //! # First use
 //!
 //! ```rust
-//! let mut core: Core<ListStore> = Core::new(alloc, (), limits, routes, first_id, salt)?;
+//! let mut core: Core<ListStore> = Core::new(alloc, (), limits, routes, 1, 0)?;
 //! let mut out = Datagram::new(alloc, core.datagram())?;
-//! let report = core.step(now, draw, Event::Datagram { from, bytes }, &mut out)?;
-//! if let Some(to) = report.send {
-//!     socket.send_to(out.bytes(), to);
-//! }
-//! // and at the moment core.next_due():
-//! let report = core.step(now, draw, Event::Tick, &mut out)?;
+//! let request = Event::Datagram {
+//!     from: client,
+//!     bytes: b"\x50\x01\x00\x07\xB1t",
+//! };
+//! let report = core.step(0, 250, request, &mut out)?;
+//! assert!(rt; report.send.is_none()); // nothing is sent yet, but something is due
+//! assert!(rt; core.next_due() == Some(0));
+//! let report = core.step(0, 250, Event::Tick, &mut out)?;
+//! assert!(rt; report.send == Some(origin) && out.bytes().len() == 17); // the request, sent on
 //! ```
 #![tactic(auto)]
 
@@ -23,12 +26,16 @@ mod proxy;
 mod request_target;
 mod requests;
 mod responses;
+mod state;
 mod step;
 mod ticks;
-mod world;
 
+pub use coap_endpoint::{Endpoint, Ip};
+pub use coap_message::{Code, Datagram, OutOfMemory};
 pub use coap_model::{
     ClientCounts, Counts, Limit, LimitError, LimitValues, Limits, Outcome, Report, Storing,
 };
+pub use coap_store::Store;
+pub use coap_target::{RouteError, Routes};
 pub use event::Event;
 pub use proxy::Core;

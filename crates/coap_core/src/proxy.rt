@@ -8,7 +8,7 @@ ghost use Rattle.coap_dedup.specs.Records.{living_at};
 ghost use Rattle.coap_model.specs.Events.{tick};
 ghost use Rattle.coap_model.specs.Held.{held, most_held};
 ghost use Rattle.coap_model.specs.Setting.{setting_of};
-ghost use Rattle.coap_model.specs.World.{new_world, client_counts, counts};
+ghost use Rattle.coap_model.specs.State.{new_world, client_counts, counts};
 ghost use Rattle.coap_model.specs.Ticks.{next_due, on_tick};
 ghost use Rattle.coap_model.specs.History.{grown_of};
 ghost use Rattle.coap_model.specs.Step.{step_of};
@@ -17,8 +17,8 @@ ghost use Rattle.coap_core.specs.Events.{IsUnread, seen};
 ghost use Rattle.coap_core.specs.Steps.{CarriesOn, Does, GivesConfirmable, KeepsWordOn, LeavesRoomOn, PromisesOn, entry_told, wants_memory};
 
 use crate::event::Event;
+use crate::state::State;
 use crate::ticks::moment_of;
-use crate::world::World;
 use coap_endpoint::Endpoint;
 use coap_message::{Datagram, OutOfMemory};
 use coap_model::laws::{
@@ -31,39 +31,39 @@ use coap_target::Routes;
 use std::alloc::Global;
 use std::marker::Model;
 
-/// The core of a proxy. A contract sees the model's world: what the core was made with, and its
+/// The core of a proxy. A contract sees the model's state: what the core was made with, and its
 /// tables.
 pub struct Core<S: Store> {
-    world: World<S>,
-    /// What is due first in the world.
+    state: State<S>,
+    /// What is due first in the state.
     due: Option<DueItem>,
 }
 
 impl<S: Store + Drop> Drop for Core<S> {
     fn drop(self) {
-        let Core { world: _, due: _ } = self;
+        let Core { state: _, due: _ } = self;
     }
 }
 
 impl<S: Store> Model for Core<S> {
     ghost use Rattle.std.specs.Prelude.{◌≡◌, List};
-    ghost use Rattle.coap_model.specs.World.{World};
+    ghost use Rattle.coap_model.specs.State.{State};
     ghost use Rattle.coap_model.specs.History.{Entry};
     ghost use Rattle.coap_model.specs.Carries.{Carries};
     ghost use Rattle.coap_model.specs.Ranges.{AreInRange};
     ghost use Rattle.coap_model.specs.Ticks.{item_due};
     ghost use Rattle.coap_limits.specs.Limits.{AreLimits};
 
-    ghost Value = { World };
+    ghost Value = { State };
 
-    ghost view = { λ c. c.world };
+    ghost view = { λ c. c.state };
 
     // It carries some history, with moments and draws within their ranges, and knows what is due
     // first.
     ghost invariant = { λ c.
-        AreLimits c.world.setting.limits
-        × ((history : List Entry) × Carries history c.world × AreInRange history)
-        × (c.due ≡ item_due c.world) };
+        AreLimits c.state.setting.limits
+        × ((history : List Entry) × Carries history c.state × AreInRange history)
+        × (c.due ≡ item_due c.state) };
 }
 
 impl<S: Store + Drop> Core<S> {
@@ -90,9 +90,9 @@ impl<S: Store + Drop> Core<S> {
         new_proxies_carry_nothing();
         // The call's contract says that the maps are sound, which each step relies on.
         routes.maps();
-        let world = World::new(alloc, seed, limits, routes, first_id, salt)?;
-        let due = world.first_due();
-        Ok(Core { world, due })
+        let state = State::new(alloc, seed, limits, routes, first_id, salt)?;
+        let due = state.first_due();
+        Ok(Core { state, due })
     }
 
     /// Handles one event at the moment `now`. `draw` is a random number of milliseconds, added to
@@ -196,8 +196,8 @@ impl<S: Store + Drop> Core<S> {
         datagrams_fit();
         settings_stay();
         event.holds_bytes();
-        let done = self.world.step(now, draw, event, self.due, out);
-        self.due = self.world.first_due();
+        let done = self.state.step(now, draw, event, self.due, out);
+        self.due = self.state.first_due();
         done
     }
 
@@ -213,21 +213,21 @@ impl<S: Store + Drop> Core<S> {
     pub fn last(&self) -> u64
         ensures exact { result ≡ self.now.last }
     {
-        self.world.last
+        self.state.last
     }
 
     /// The number of steps done.
     pub fn events(&self) -> u64
         ensures exact { result ≡ self.now.events }
     {
-        self.world.events
+        self.state.events
     }
 
     /// How much it holds at present.
     pub fn counts(&self) -> Counts
         ensures exact { result ≡ counts self.now }
     {
-        self.world.counts()
+        self.state.counts()
     }
 
     /// How much of that is an endpoint's: the live records of its messages, the exchanges that it
@@ -236,13 +236,13 @@ impl<S: Store + Drop> Core<S> {
     pub fn client_counts(&self, client: Endpoint) -> ClientCounts
         ensures exact { result ≡ client_counts self.now client }
     {
-        self.world.client_counts(client)
+        self.state.client_counts(client)
     }
 
     /// The greatest length of a datagram, in bytes.
     pub fn datagram(&self) -> usize
         ensures exact { result ≡ self.now.setting.limits.datagram }
     {
-        self.world.limits.values().datagram as usize
+        self.state.limits.values().datagram as usize
     }
 }

@@ -12,8 +12,8 @@ ghost use Rattle.coap_forward.specs.Messages.{is_get, is_method};
 ghost use Rattle.coap_model.specs.Verdicts.{verdict_of};
 ghost use Rattle.coap_store.specs.Entries.{has_usable};
 ghost use Rattle.coap_message.specs.Datagram.{holding};
-ghost use Rattle.coap_model.specs.Requests.{lacks_id, refuses, overloads, opens, next_token, copy_of, tag_carried, joins, on_key, on_miss, on_wanted, on_new, on_request};
-ghost use Rattle.coap_model.specs.World.{can_reply, later, remembers, takes_up};
+ghost use Rattle.coap_model.specs.Requests.{lacks_id, refuses, overloads, opens, next_token, copy_of, tag_carried, joins, on_key, on_miss, on_exchange_needed, on_new, on_request};
+ghost use Rattle.coap_model.specs.State.{can_reply, later, remembers, takes_up};
 ghost use Rattle.coap_core.specs.Arrivals.{of_arrival};
 ghost use Rattle.coap_core.specs.Forms.{seen};
 ghost use Rattle.coap_core.specs.Steps.{Does, IsDone, CanGoOn, CanRemember, CanReplyTo, CanStep, IsAsked, held_for, joinable_step, verdict_seen, wants_memory};
@@ -22,9 +22,9 @@ ghost use Rattle.coap_core.specs.declared.requests.Verdict.TheVariants as verdic
 
 use crate::arrival::Arrival;
 use crate::copies::copy_of_stored;
-use crate::known::{put_taken_up, reply_kind};
+use crate::known::{put_acceptance, reply_kind};
 use crate::request_target::{CacheQuery, RequestTarget};
-use crate::world::{World, silent};
+use crate::state::{State, silent};
 use coap_endpoint::{Endpoint, Target};
 use coap_forward::{
     put_bare, put_forwarded, put_stored, put_with_max_age, token_of, validating_tag,
@@ -59,7 +59,7 @@ fn is_method(code: Code) -> bool
     code == Code::GET || code == Code::POST || code == Code::PUT || code == Code::DELETE
 }
 
-impl<S: Store + Drop> World<S> {
+impl<S: Store + Drop> State<S> {
     /// Handles a request: a duplicate gets the same reply again; a new one is remembered, with the
     /// reply that it gets.
     pub(crate) fn on_request(
@@ -77,7 +77,7 @@ impl<S: Store + Drop> World<S> {
             (wants_memory (of_arrival (on_request self.old) arrival.entry) ≡ true) }
     {
         if let Some(report) = self.repeat(arrival, out) {
-            self.pass(arrival.now);
+            self.advance(arrival.now);
             return Ok(report);
         }
         if !self.has_record_room(arrival.now, arrival.from, arrival.message.kind()) {
@@ -103,9 +103,9 @@ impl<S: Store + Drop> World<S> {
         if !self.can_reply(arrival.now, arrival.message.kind()) {
             return self.lack_id(arrival, out);
         }
-        let mut asked = self.take_room();
+        let mut asked = self.take_scratch();
         let done = self.judge(arrival, &mut asked, out);
-        self.give_room(asked);
+        self.return_scratch(asked);
         done
     }
 
@@ -181,7 +181,7 @@ impl<S: Store + Drop> World<S> {
             result out.old out.new self.old self.new }
     {
         if !is_get(arrival.message.code()) {
-            return self.on_wanted(arrival, asked, out);
+            return self.on_exchange_needed(arrival, asked, out);
         }
         if self.put_usable(arrival, asked, out) {
             let report = self.reply(arrival, Outcome::Hit, out)?;
@@ -240,7 +240,7 @@ impl<S: Store + Drop> World<S> {
     {
         match self.under_way.exchanges().joinable(&asked.key) {
             Some(exchange) => self.on_joinable(arrival, exchange, asked, out),
-            None => self.on_wanted(arrival, asked, out),
+            None => self.on_exchange_needed(arrival, asked, out),
         }
     }
 
@@ -271,7 +271,7 @@ impl<S: Store + Drop> World<S> {
     /// Opens an exchange for a key, if the forwarded request isn't too long, and then if there is
     /// room. What the request asks for is only copied when an exchange is opened, with no spare
     /// capacity.
-    fn on_wanted(
+    fn on_exchange_needed(
         &mut self,
         arrival: Arrival<'_, '_>,
         asked: &CacheQuery,
@@ -281,12 +281,12 @@ impl<S: Store + Drop> World<S> {
         requires asked { IsAsked self.old arrival.message.now asked.now }
         requires room { self.old.setting.limits.datagram ≤ out.old.room }
         requires fits { length
-            (of_arrival (on_wanted self.old) arrival asked.now.key
+            (of_arrival (on_exchange_needed self.old) arrival asked.now.key
             (held_for self.old arrival.message.now asked.now.key)).bytes
             ≤ out.old.room }
         ensures { IsDone
             (of_arrival remembers arrival.entry
-            (of_arrival (on_wanted self.old) arrival.entry asked.now.key
+            (of_arrival (on_exchange_needed self.old) arrival.entry asked.now.key
             (held_for self.old arrival.entry.message.now asked.now.key)))
             result out.old out.new self.old self.new }
     {
@@ -475,13 +475,13 @@ impl<S: Store + Drop> World<S> {
     {
         out.clear();
         self.remember(arrival, &[])?;
-        self.pass(arrival.now);
+        self.advance(arrival.now);
         Ok(silent(Outcome::NoId))
     }
 
     /// Accepts a new request: a Confirmable one is acknowledged, and what is sent is remembered
     /// (RFC 7252, 4.2 and 5.2.2).
-    fn take_up_request(
+    fn accept_request(
         &mut self,
         arrival: Arrival<'_, '_>,
         outcome: Outcome,
@@ -496,9 +496,9 @@ impl<S: Store + Drop> World<S> {
             (later self.old arrival.entry.now)))
             result out.old out.new self.old self.new }
     {
-        let send = put_taken_up(arrival.from, arrival.message, out);
+        let send = put_acceptance(arrival.from, arrival.message, out);
         self.remember(arrival, out.bytes())?;
-        self.pass(arrival.now);
+        self.advance(arrival.now);
         Ok(Report { send, outcome })
     }
 
@@ -551,7 +551,7 @@ impl<S: Store + Drop> World<S> {
             self.under_way.withdraw_exchange();
             return Err(OutOfMemory);
         }
-        let done = self.take_up_request(arrival, Outcome::Opened, out);
+        let done = self.accept_request(arrival, Outcome::Opened, out);
         if done.is_err() {
             self.under_way.withdraw_waiter();
             self.under_way.withdraw_exchange();
@@ -584,7 +584,7 @@ impl<S: Store + Drop> World<S> {
         {
             return Err(OutOfMemory);
         }
-        let done = self.take_up_request(arrival, Outcome::Joined, out);
+        let done = self.accept_request(arrival, Outcome::Joined, out);
         if done.is_err() {
             self.under_way.withdraw_waiter();
         }

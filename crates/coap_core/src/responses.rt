@@ -15,8 +15,8 @@ ghost use Rattle.coap_core.specs.Steps.{Does, IsDoneBy, CanGoOn, CanRemember, Ca
 
 use crate::arrival::Arrival;
 use crate::copies::copy_of_message;
-use crate::known::put_taken_up;
-use crate::world::World;
+use crate::known::put_acceptance;
+use crate::state::State;
 use coap_endpoint::{Endpoint, Target};
 use coap_exchange::{Answer, Exchange, Sending};
 use coap_forward::{answer_of, created_by, is_change, is_storable, number_of};
@@ -111,7 +111,7 @@ fn changed_by(
     }))
 }
 
-impl<S: Store + Drop> World<S> {
+impl<S: Store + Drop> State<S> {
     pub(crate) fn on_response(
         &mut self,
         arrival: Arrival<'_, '_>,
@@ -170,7 +170,7 @@ impl<S: Store + Drop> World<S> {
             (wants_memory (of_grown (confirmable_step self.old) arrival.entry true) ≡ true) }
     {
         if let Some(report) = self.repeat(arrival, out) {
-            self.pass(arrival.now);
+            self.advance(arrival.now);
             return Ok(report);
         }
         self.on_separate(arrival, out)
@@ -246,11 +246,11 @@ impl<S: Store + Drop> World<S> {
         let answer = self.answer_made(arrival.now, exchange, arrival.message)?;
         let entry = self.entry_made(arrival.now, exchange, &answer)?;
         let changed = changed_by(self.alloc, &exchange.key.target, arrival.message)?;
-        let send = self.take_up(arrival, out)?;
+        let send = self.accept_response(arrival, out)?;
         self.change_all(&changed);
         let storing = self.keep(entry);
         self.under_way.answered(number, answer);
-        self.pass(arrival.now);
+        self.advance(arrival.now);
         Ok(Report {
             send,
             outcome: Outcome::Answered { storing },
@@ -259,7 +259,7 @@ impl<S: Store + Drop> World<S> {
 
     /// Writes what is sent at once for a response that is accepted, and returns to whom it is sent:
     /// a Confirmable one is acknowledged, and remembered (RFC 7252, 4.2 and 5.2.2).
-    fn take_up(
+    fn accept_response(
         &mut self,
         arrival: Arrival<'_, '_>,
         out: &mut Datagram,
@@ -275,7 +275,7 @@ impl<S: Store + Drop> World<S> {
         ensures err { OnErr result (self.new ≡ self.old) }
         ensures kept { out.new.room ≡ out.old.room }
     {
-        let send = put_taken_up(arrival.from, arrival.message, out);
+        let send = put_acceptance(arrival.from, arrival.message, out);
         if arrival.message.kind() == Kind::Con {
             self.remember(arrival, out.bytes())?;
         }

@@ -4,7 +4,7 @@ ghost use Rattle.coap_model.specs.Events.{tick};
 ghost use Rattle.coap_message.specs.declared.kind.Kind.{Kind};
 ghost use Rattle.coap_message.specs.Datagram.{holding};
 ghost use Rattle.coap_model.specs.History.{grown_of};
-ghost use Rattle.coap_model.specs.World.{ignores, rejects, unprocessed};
+ghost use Rattle.coap_model.specs.State.{ignores, rejects, unprocessed};
 ghost use Rattle.coap_model.specs.Step.{message_in, on_message, on_datagram, step_of};
 ghost use Rattle.coap_model.specs.Ticks.{item_due, on_tick};
 ghost use Rattle.coap_core.specs.Arrivals.{of_grown};
@@ -13,14 +13,14 @@ ghost use Rattle.coap_core.specs.Steps.{Does, IsDoneBy, CanGoOn, CanStep, GivesC
 
 use crate::arrival::Arrival;
 use crate::event::Event;
-use crate::world::{World, silent};
+use crate::state::{State, silent};
 use coap_endpoint::Endpoint;
 use coap_forward::put_bare;
 use coap_message::{Code, Datagram, Head, Kind, MessageRef, OutOfMemory, Token, head_of};
 use coap_model::{DueItem, Outcome, Report};
 use coap_store::Store;
 
-impl<S: Store + Drop> World<S> {
+impl<S: Store + Drop> State<S> {
     /// One step. `due` is what is due first. If it runs out of memory, nothing has happened, and
     /// `out` is empty.
     pub(crate) fn step(
@@ -173,7 +173,7 @@ impl<S: Store + Drop> World<S> {
             id,
         };
         put_bare(head, &Token::empty(), out);
-        self.pass(now);
+        self.advance(now);
         Report {
             send: Some(source),
             outcome: Outcome::Rejected,
@@ -186,7 +186,7 @@ impl<S: Store + Drop> World<S> {
         ensures { Does (ignores self.old now) result out.old out.new self.new }
     {
         out.clear();
-        self.pass(now);
+        self.advance(now);
         silent(Outcome::Ignored)
     }
 }

@@ -10,7 +10,7 @@ ghost use Rattle.coap_exchange.specs.Waiters as waiters;
 ghost use Rattle.coap_exchange.specs.Waiters.{is_waiting};
 ghost use Rattle.coap_core.specs.Steps.{Does, IsDone, CanGoOn, CanStep, GivesConfirmable, IsClientDueAt, IsDueAt, answer_at, delivery_at, firing_at, form_at, sending_at, told_in, unheard_at};
 
-use crate::world::{World, silent};
+use crate::state::{State, silent};
 use coap_exchange::{Exchange, ExchangeState, Fire, Sending, Timer, WaiterState};
 use coap_forward::{gateway_timeout, put_shown};
 use coap_message::{Datagram, Kind, OutOfMemory, Seq, Token};
@@ -33,7 +33,7 @@ pub(crate) fn moment_of(due: Option<DueItem>) -> Option<u64>
     }
 }
 
-impl<S: Store + Drop> World<S> {
+impl<S: Store + Drop> State<S> {
     /// `due` is what is due first.
     pub(crate) fn on_tick(
         &mut self,
@@ -93,7 +93,7 @@ impl<S: Store + Drop> World<S> {
         ensures { Does (idles self.old now) result out.old out.new self.new }
     {
         out.clear();
-        self.pass(now);
+        self.advance(now);
         silent(Outcome::Idle)
     }
 
@@ -119,7 +119,7 @@ impl<S: Store + Drop> World<S> {
         }
         match &exchange.state {
             ExchangeState::Queued => self.send(now, draw, number, out),
-            ExchangeState::Sent => self.on_fire(now, number, out),
+            ExchangeState::Sent => self.on_request_timeout(now, number, out),
             ExchangeState::Acked | ExchangeState::Done(_) => self.idle(now, out),
         }
     }
@@ -149,7 +149,7 @@ impl<S: Store + Drop> World<S> {
         let id = self.take_id(now);
         self.under_way.send(number, Sending { asked, id, timer });
         self.put_form(number, out);
-        self.pass(now);
+        self.advance(now);
         Report {
             send: Some(to),
             outcome: Outcome::SentRequest,
@@ -158,7 +158,7 @@ impl<S: Store + Drop> World<S> {
 
     /// Handles the end of the current timeout of the exchange numbered `number`: its request is
     /// retransmitted, with the same bytes, or abandoned (RFC 7252, 4.2).
-    fn on_fire(&mut self, now: u64, number: u64, out: &mut Datagram) -> Report
+    fn on_request_timeout(&mut self, now: u64, number: u64, out: &mut Datagram) -> Report
         requires ready { CanStep now self.old }
         requires due { IfSome (item_at number self.old.exchanges) (IsDue now) }
         requires fits { length (firing_at self.old now number).bytes ≤ out.old.room }
@@ -171,7 +171,7 @@ impl<S: Store + Drop> World<S> {
         match self.under_way.fire(number, now) {
             Fire::Again => {
                 self.put_form(number, out);
-                self.pass(now);
+                self.advance(now);
                 Report {
                     send: Some(to),
                     outcome: Outcome::Resent,
@@ -202,7 +202,7 @@ impl<S: Store + Drop> World<S> {
         self.under_way
             .answered(number, gateway_timeout(self.alloc, now));
         out.clear();
-        self.pass(now);
+        self.advance(now);
         silent(Outcome::GaveUp)
     }
 
@@ -236,7 +236,7 @@ impl<S: Store + Drop> World<S> {
                 let exchange = *exchange;
                 self.deliver(now, draw, number, exchange, out)
             }
-            WaiterState::Delivering { .. } => Ok(self.on_unheard(now, number, out)),
+            WaiterState::Delivering { .. } => Ok(self.on_delivery_timeout(now, number, out)),
         }
     }
 
@@ -275,10 +275,10 @@ impl<S: Store + Drop> World<S> {
         let (token, tags) = (&waiter.token, &waiter.tags);
         is_short(token);
         put_shown(now, answer, kind, awaited.is_get, id, token, tags, out);
-        self.tell(now, draw, number, kind, out)?;
+        self.record_delivery(now, draw, number, kind, out)?;
         self.take_id(now);
-        self.let_go(exchange);
-        self.pass(now);
+        self.close_if_unused(exchange);
+        self.advance(now);
         Ok(Report {
             send: Some(client),
             outcome: Outcome::Delivered,
@@ -288,7 +288,7 @@ impl<S: Store + Drop> World<S> {
     /// Records that the client numbered `number`, which was waiting, is sent what `out` holds, a
     /// message of this type with the next id. A Confirmable one is kept, to be sent again until it
     /// is acknowledged (RFC 7252, 4.2).
-    fn tell(
+    fn record_delivery(
         &mut self,
         now: u64,
         draw: u16,
@@ -317,7 +317,7 @@ impl<S: Store + Drop> World<S> {
     }
 
     /// Closes an exchange if no client waits for it any more.
-    fn let_go(&mut self, exchange: u64)
+    fn close_if_unused(&mut self, exchange: u64)
         ensures { self.new
             ≡ record self.old {
               exchanges = without_idle exchange self.old.waiters self.old.exchanges;
@@ -330,7 +330,7 @@ impl<S: Store + Drop> World<S> {
 
     /// Handles the end of the current timeout of a client that was sent its answer: the answer is
     /// retransmitted, with the same bytes, or abandoned (RFC 7252, 4.2).
-    fn on_unheard(&mut self, now: u64, number: u64, out: &mut Datagram) -> Report
+    fn on_delivery_timeout(&mut self, now: u64, number: u64, out: &mut Datagram) -> Report
         requires ready { CanStep now self.old }
         requires due { IfSome (item_at number self.old.waiters) (waiters.IsDue now) }
         requires fits { length (unheard_at self.old now number).bytes ≤ out.old.room }
@@ -344,7 +344,7 @@ impl<S: Store + Drop> World<S> {
             Fire::GiveUp => self.abandon(now, number, out),
             Fire::Again => {
                 self.put_answer(number, out);
-                self.pass(now);
+                self.advance(now);
                 Report {
                     send: Some(client),
                     outcome: Outcome::Resent,
@@ -374,7 +374,7 @@ impl<S: Store + Drop> World<S> {
     {
         self.under_way.close_waiter(number);
         out.clear();
-        self.pass(now);
+        self.advance(now);
         silent(Outcome::GaveUp)
     }
 }

@@ -8,7 +8,7 @@ ghost use Rattle.coap_dedup.specs.Lifetimes.{lives};
 ghost use Rattle.coap_dedup.specs.Lists.{bytes_of, count_from, record_of};
 ghost use Rattle.coap_dedup.specs.Records.{living_at, living_of, no_records, with_kept};
 
-use crate::record::{EXCHANGE_LIFETIME, NON_LIFETIME};
+use coap_message::{EXCHANGE_LIFETIME, NON_LIFETIME};
 
 /// How long messages are remembered (RFC 7252, 4.8.2).
 pub fn remembered()

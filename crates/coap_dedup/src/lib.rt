@@ -4,10 +4,12 @@
 //!
 //! ```rust
 //! let mut records = Records::new(alloc, 4096, 256, EXCHANGE_LIFETIME)?;
-//! match records.seen(client, 0x1234, now) {
-//!     Seen::New => records.keep(client, 0x1234, now, Some(reply))?,
-//!     Seen::Again(reply) => { /* what was replied, to be sent again */ }
+//! if let Seen::New = records.seen(client, 0x1234, 0) {
+//!     records.keep(client, 0x1234, 0, Some(reply))?;
 //! }
+//! // the same message again, and a message with that id after the lifetime of the first
+//! assert!(rt; matches!(records.seen(client, 0x1234, 246_999), Seen::Again(Some(_))));
+//! assert!(rt; matches!(records.seen(client, 0x1234, 247_000), Seen::New));
 //! ```
 #![tactic(auto)]
 
@@ -21,7 +23,8 @@ mod records;
 mod seen;
 mod sources;
 
+pub use coap_message::{EXCHANGE_LIFETIME, NON_LIFETIME};
 pub use error::Refused;
-pub use record::{EXCHANGE_LIFETIME, NON_LIFETIME, Record};
+pub use record::Record;
 pub use records::Records;
 pub use seen::Seen;

@@ -8,14 +8,6 @@ use crate::key::Key;
 use coap_endpoint::Endpoint;
 use coap_message::Seq;
 
-/// The lifetime of the record of a Confirmable message, in milliseconds: EXCHANGE_LIFETIME (RFC
-/// 7252, 4.8.2).
-pub const EXCHANGE_LIFETIME: u64 = 247_000;
-
-/// The lifetime of the record of a Non-confirmable message, in milliseconds: NON_LIFETIME (RFC
-/// 7252, 4.8.2).
-pub const NON_LIFETIME: u64 = 145_000;
-
 /// A message that was seen, and what was sent immediately in reply to it.
 pub struct Record {
     /// The endpoint that the message came from.

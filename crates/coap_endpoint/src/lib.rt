@@ -6,9 +6,18 @@
 //! ```rust
 //! let mut path = Pieces::new(alloc);
 //! path.push(b"temp")?;
-//! let at = Endpoint { ip: Ip::V4([192, 0, 2, 1]), port: 5683 };
-//! let temp = Target { host: None, at, port: None, path, query: Pieces::new(alloc) };
-//! assert!(temp == temp.copied()?);
+//! let at = Endpoint {
+//!     ip: Ip::V4([192, 0, 2, 1]),
+//!     port: 5683,
+//! };
+//! let temp = Target {
+//!     host: None,
+//!     at,
+//!     port: None,
+//!     path,
+//!     query: Pieces::new(alloc),
+//! };
+//! assert!(rt; temp == temp.copied()?);
 //! ```
 #![tactic(auto)]
 

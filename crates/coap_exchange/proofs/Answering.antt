@@ -8,12 +8,13 @@ use Rattle.coap_exchange.specs.declared.waiter.Waiter.{Waiter}
 use Rattle.coap_exchange.specs.declared.waiter.WaiterState.{WaiterState}
 use Rattle.coap_exchange.specs.declared.waiter.WaiterState.TheVariants.{Waiting, Delivering}
 use Rattle.coap_exchange.specs.Answered.{awaited_of, due_at, got_in, IsFirstGot, IsGotAt, IsGotUpTo, IsNextGot}
-use Rattle.coap_exchange.specs.Due.{is_before, sooner, as_due, first_due}
+use Rattle.coap_exchange.specs.Due.{sooner, as_due, first_due}
+use Rattle.ordered_index.specs.Ordered.{is_before}
 use Rattle.std.specs.Option.{option_map}
 use Rattle.coap_exchange.specs.Exchanges.{answer_of}
-use Rattle.coap_exchange.specs.Index.{got_of, owner_at, IsRollOf}
-use Rattle.coap_exchange.specs.Marks.{answered_in, answered_of}
-use Rattle.coap_exchange.specs.Roll.{Pair, Roll, is_in, is_owner, IsLeast, IsNextOf}
+use Rattle.coap_exchange.specs.Index.{got_of, key_at, IsIndexOf}
+use Rattle.coap_exchange.specs.WaiterIndex.{answered_in, answered_of}
+use Rattle.ordered_index.specs.Ordered.{Pair, OrderedIndex, is_in, is_key, IsLeast, IsNextOf}
 use Rattle.coap_exchange.specs.Table.{Numbered, Table, IsTable, item_at}
 use Rattle.coap_exchange.specs.Waiters.{exchange_of, moment_of}
 use Rattle.coap_exchange.proofs.Dues.{IsDueIn, first_due-is}
@@ -43,14 +44,14 @@ first-alike o to from f =
 
 -- ---- who waits for one exchange
 
--- an owner that is found is that one
-owner-some : (e : ℕ) (o : Option ℕ) → is_owner e o ≡ true → o ≡ Some e
-owner-some e None h = absurd cc
-owner-some e (Some x) h = ap (λ (n : ℕ). Some n) (sym (eqb-true e x h))
+-- an key that is found is that one
+key-some : (e : ℕ) (o : Option ℕ) → is_key e o ≡ true → o ≡ Some e
+key-some e None h = absurd cc
+key-some e (Some x) h = ap (λ (n : ℕ). Some n) (sym (eqb-true e x h))
 
 -- and is found
-some-owner : (e : ℕ) (o : Option ℕ) → o ≡ Some e → is_owner e o ≡ true
-some-owner e o h = rw h (eq-eqb e e refl)
+some-key : (e : ℕ) (o : Option ℕ) → o ≡ Some e → is_key e o ≡ true
+some-key e o h = rw h (eq-eqb e e refl)
 
 -- at one moment a greater number is not before a smaller
 not_before-number : (moment m n : ℕ) → m ≤ n → is_before (moment, n) (moment, m) ≡ false
@@ -60,26 +61,26 @@ not_before-number moment m n le = grind (arith, nat_tests)
 not_before-moment : (moment m at n : ℕ) → moment < at → is_before (at, n) (moment, m) ≡ false
 not_before-moment moment m at n lt = grind (arith, nat_tests)
 
-module _ (t : Table Waiter) (r : Roll) (is : IsTable t) (roll : IsRollOf awaited_of t.items t.limit r) (moment : ℕ) where
+module _ (t : Table Waiter) (r : OrderedIndex) (is : IsTable t) (roll : IsIndexOf awaited_of t.items t.limit r) (moment : ℕ) where
   -- this is due for a waiter for this exchange
   abbrev IsFor : ℕ → Option Pair → Type 0
-  IsFor e x = (n : ℕ) × (owner_at awaited_of (item_at n t.items) ≡ Some e) × (x ≡ Some (moment, n))
+  IsFor e x = (n : ℕ) × (key_at awaited_of (item_at n t.items) ≡ Some e) × (x ≡ Some (moment, n))
 
   -- who waits has a number
-  awaiting-positive : (n e : ℕ) → owner_at awaited_of (item_at n t.items) ≡ Some e → 0 < n
+  awaiting-positive : (n e : ℕ) → key_at awaited_of (item_at n t.items) ≡ Some e → 0 < n
   awaiting-positive n e h = go (leb n 0) refl
     where
       go : (b : Bool) → leb n 0 ≡ b → 0 < n
       go false f = omega (arith, leb-false n 0 f)
-      go true f = absurd (let none : item_at n t.items ≡ None = none-least n 0 t.items (leb-true n 0 f) is.rising in let g : owner_at awaited_of None ≡ Some e = rw none at h in cc)
+      go true f = absurd (let none : item_at n t.items ≡ None = none-least n 0 t.items (leb-true n 0 f) is.rising in let g : key_at awaited_of None ≡ Some e = rw none at h in cc)
 
   -- and stands in the roll
-  awaiting-in : (n e : ℕ) → owner_at awaited_of (item_at n t.items) ≡ Some e → is_in (e, n) r.pairs ≡ true
-  awaiting-in n e h = roll.members e n ∙ some-owner e (owner_at awaited_of (item_at n t.items)) h
+  awaiting-in : (n e : ℕ) → key_at awaited_of (item_at n t.items) ≡ Some e → is_in (e, n) r.pairs ≡ true
+  awaiting-in n e h = roll.members e n ∙ some-key e (key_at awaited_of (item_at n t.items)) h
 
   -- who stands in the roll waits
-  in-awaiting : (n e : ℕ) → is_in (e, n) r.pairs ≡ true → owner_at awaited_of (item_at n t.items) ≡ Some e
-  in-awaiting n e h = owner-some e (owner_at awaited_of (item_at n t.items)) (sym (roll.members e n) ∙ h)
+  in-awaiting : (n e : ℕ) → is_in (e, n) r.pairs ≡ true → key_at awaited_of (item_at n t.items) ≡ Some e
+  in-awaiting n e h = key-some e (key_at awaited_of (item_at n t.items)) (sym (roll.members e n) ∙ h)
 
   -- the next of an exchange is the first that waits for it
   next-first : (e : ℕ) (k : Option ℕ) → IsNextOf e 0 r.pairs k → IsFirst (IsFor e) (due_at moment k)
@@ -121,17 +122,17 @@ module _ (t : Table Waiter) (r : Roll) (is : IsTable t) (roll : IsRollOf awaited
         to : (x : Option Pair) → (UpTo after x ⊎ IsFor e x) → UpTo e x
         to x d = elim d [
           | inl p ↦ (let (n, q, h, g, le, f) = p in let lt = next.0 in (n, q, h, g, omega arith, f))
-          | inr p ↦ (let (n, h, f) = p in (n, e, h, owner-some moment (got_in e exchanges.items) next.1, omega arith, f))
+          | inr p ↦ (let (n, h, f) = p in (n, e, h, key-some moment (got_in e exchanges.items) next.1, omega arith, f))
         ]
 
         from : (x : Option Pair) → UpTo e x → (UpTo after x ⊎ IsFor e x)
         from x d = let (n, q, h, g, le, f) = d in go n q h g le f (eqb q e) refl (leb q after) refl
           where
-            go : (n q : ℕ) → owner_at awaited_of (item_at n t.items) ≡ Some q → got_in q exchanges.items ≡ Some moment → q ≤ e → x ≡ Some (moment, n) → (b : Bool) → eqb q e ≡ b → (c : Bool) → leb q after ≡ c → (UpTo after x ⊎ IsFor e x)
+            go : (n q : ℕ) → key_at awaited_of (item_at n t.items) ≡ Some q → got_in q exchanges.items ≡ Some moment → q ≤ e → x ≡ Some (moment, n) → (b : Bool) → eqb q e ≡ b → (c : Bool) → leb q after ≡ c → (UpTo after x ⊎ IsFor e x)
             go n q h g le f true i c j = inr (n, h ∙ ap (λ (m : ℕ). Some m) (eqb-true q e i), f)
             go n q h g le f false i true j = inl (n, q, h, g, leb-true q after j, f)
             go n q h g le f false i false j =
-                absurd (let below = next.2 q (omega (arith, leb-false q after j)) (some-owner moment (got_in q exchanges.items) g) in omega (arith, eqb-false q e i))
+                absurd (let below = next.2 q (omega (arith, leb-false q after j)) (some-key moment (got_in q exchanges.items) g) in omega (arith, eqb-false q e i))
 
     -- all have been looked at
     pub got-end : (after : ℕ) (first : Option Pair) → IsNextGot moment after exchanges.items None → IsFirst (UpTo after) first → IsFirst (IsGotAt exchanges.items moment t.items) first
@@ -145,7 +146,7 @@ module _ (t : Table Waiter) (r : Roll) (is : IsTable t) (roll : IsRollOf awaited
           where
             go : (q : ℕ) → got_in q exchanges.items ≡ Some moment → (b : Bool) → leb q after ≡ b → q ≤ after
             go q g true j = leb-true q after j
-            go q g false j = absurd (let off = next q (omega (arith, leb-false q after j)) in let on = some-owner moment (got_in q exchanges.items) g in cc)
+            go q g false j = absurd (let off = next q (omega (arith, leb-false q after j)) in let on = some-key moment (got_in q exchanges.items) g in cc)
 
 -- ---- the first of all
 
@@ -187,13 +188,13 @@ module _ (t : Table Waiter) (is : IsTable t) (exchanges : List (Numbered Exchang
           go : (q : ℕ) → awaited_of w ≡ Some q → got_in q exchanges ≡ Some at → (b : Bool) → eqb at moment ≡ b → sooner (Some p) x ≡ Some p
           go q a g true i =
               let same : at ≡ moment = eqb-true at moment i in
-              f.least x (n, q, ap (owner_at awaited_of) there ∙ a, g ∙ ap (λ (m : ℕ). Some m) same, e ∙ ap (λ (m : ℕ). Some (m, n)) same)
+              f.least x (n, q, ap (key_at awaited_of) there ∙ a, g ∙ ap (λ (m : ℕ). Some m) same, e ∙ ap (λ (m : ℕ). Some (m, n)) same)
           go q a g false i =
               let le = first q at g in
               let mine = is-moment f.there in
               rw e (sooner_left p (at, n) (not_before-moment p.0 p.1 at n (omega (arith, eqb-false at moment i))))
 
-      found : (n e : ℕ) (o : Option Waiter) → item_at n t.items ≡ o → owner_at awaited_of o ≡ Some e → got_in e exchanges ≡ Some moment → Some p ≡ Some (moment, n) → IsAnswered (Some p)
+      found : (n e : ℕ) (o : Option Waiter) → item_at n t.items ≡ o → key_at awaited_of o ≡ Some e → got_in e exchanges ≡ Some moment → Some p ≡ Some (moment, n) → IsAnswered (Some p)
       found n e None there h g i = absurd cc
       found n e (Some w) there h g i = (n, w, there, i ∙ ap (λ (o : Option ℕ). as_due n o) (sym (waits-answered exchanges w e h ∙ g)))
 
@@ -217,18 +218,18 @@ got-none exchanges none (x ∷ xs) =
 
 -- ---- the exchanges' roll
 
--- the owner of an exchange is the moment of its answer
-got-owner : (e : ℕ) (exchanges : List (Numbered Exchange)) → owner_at got_of (item_at e exchanges) ≡ got_in e exchanges
-got-owner e exchanges = go (item_at e exchanges)
+-- the key of an exchange is the moment of its answer
+got-key : (e : ℕ) (exchanges : List (Numbered Exchange)) → key_at got_of (item_at e exchanges) ≡ got_in e exchanges
+got-key e exchanges = go (item_at e exchanges)
   where
-    go : (o : Option Exchange) → owner_at got_of o ≡ moment_of (answer_of o)
+    go : (o : Option Exchange) → key_at got_of o ≡ moment_of (answer_of o)
     go None = refl
     go (Some x) = refl
 
-module _ (exchanges : List (Numbered Exchange)) (limit : ℕ) (r : Roll) (roll : IsRollOf got_of exchanges limit r) where
+module _ (exchanges : List (Numbered Exchange)) (limit : ℕ) (r : OrderedIndex) (roll : IsIndexOf got_of exchanges limit r) where
   -- so it stands in the roll at that moment
-  got-pair : (moment e : ℕ) → is_in (moment, e) r.pairs ≡ is_owner moment (got_in e exchanges)
-  got-pair moment e = roll.members moment e ∙ ap (λ (o : Option ℕ). is_owner moment o) (got-owner e exchanges)
+  got-pair : (moment e : ℕ) → is_in (moment, e) r.pairs ≡ is_key moment (got_in e exchanges)
+  got-pair moment e = roll.members moment e ∙ ap (λ (o : Option ℕ). is_key moment o) (got-key e exchanges)
 
   -- its first pair has the first moment
   pub got-least : (o : Option Pair) → IsLeast r.pairs o → IsFirstGot exchanges (option_map (λ p. p.0) o)
@@ -236,9 +237,9 @@ module _ (exchanges : List (Numbered Exchange)) (limit : ℕ) (r : Roll) (roll :
     where
       go : (e : ℕ) (o : Option ℕ) → got_in e exchanges ≡ o → o ≡ None
       go e None h = refl
-      go e (Some at) h = absurd (let on : is_in (at, e) r.pairs ≡ true = got-pair at e ∙ some-owner at (got_in e exchanges) h in let off : is_in (at, e) [] ≡ true = rw none at on in cc)
+      go e (Some at) h = absurd (let on : is_in (at, e) r.pairs ≡ true = got-pair at e ∙ some-key at (got_in e exchanges) h in let off : is_in (at, e) [] ≡ true = rw none at on in cc)
   got-least (Some p) least = λ e at h.
-      let off : is_before (at, e) p ≡ false = least.1 (at, e) (got-pair at e ∙ some-owner at (got_in e exchanges) h) in
+      let off : is_before (at, e) p ≡ false = least.1 (at, e) (got-pair at e ∙ some-key at (got_in e exchanges) h) in
       grind (arith, nat_tests)
 
   -- the next number of a moment is that of the next exchange

@@ -10,7 +10,7 @@ use Rattle.coap_exchange.specs.declared.exchange.Change.{Change}
 use Rattle.coap_exchange.specs.declared.exchange.Change.TheVariants as change
 use Rattle.coap_exchange.specs.Clients.{AreOfClients, AreWithin, Clients, count_of, one_of}
 use Rattle.coap_exchange.specs.Exchanges.{changed_by, is_changed_with, tainted_by}
-use Rattle.coap_exchange.specs.Lines.{one_if_at}
+use Rattle.coap_exchange.specs.Endpoints.{one_if_at}
 use Rattle.coap_exchange.specs.Table.{Numbered, Table, IsTable, admitted_to, all_changed, changed_at, count, item_at, passes, without, withdrawn}
 use Rattle.coap_exchange.proofs.Counts.{one_if, count-all_changed, count-kept, count-push, count-without, count-withdrawn}
 use Rattle.coap_exchange.proofs.Orders.{one-same}

@@ -3,8 +3,8 @@ use Rattle.std.proofs.Common.{◌≡◌, ℕ, List, [], ◌∷◌, Bool, true, f
 use Rattle.std.specs.Prelude.{◌⊎◌, map}
 use Rattle.std.proofs.lemmas.Bool.{eqb-true, eq-eqb, ne_eqb}
 use Rattle.coap_exchange.specs.Due.{sooner, as_due, due_row, first_due}
-use Rattle.coap_exchange.specs.Index.{owner_at, IsRollOf}
-use Rattle.coap_exchange.specs.Roll.{Pair, Roll, is_in, is_owner, IsLeast}
+use Rattle.coap_exchange.specs.Index.{key_at, IsIndexOf}
+use Rattle.ordered_index.specs.Ordered.{Pair, OrderedIndex, is_in, is_key, IsLeast}
 use Rattle.coap_exchange.specs.Table.{Numbered, Table, IsRising, IsTable, item_at}
 use Rattle.coap_exchange.proofs.Sooner.{IsFirst, IsIn, first_of-is, same_first_of, sooner_assoc, sooner_comm, sooner_left}
 use Rattle.coap_exchange.proofs.Tables.{above-least}
@@ -65,12 +65,12 @@ least-first pairs (Some p) l =
       there = inr (p, refl, l.0);
     }
 
-module _ {A : Type 0} (due : A → Option ℕ) (t : Table A) (r : Roll) (is : IsTable t) (roll : IsRollOf due t.items t.limit r) where
-  owned : (p : Pair) (o : Option A) → item_at p.1 t.items ≡ o → is_owner p.0 (owner_at due o) ≡ true → IsDueIn due t.items (Some p)
+module _ {A : Type 0} (due : A → Option ℕ) (t : Table A) (r : OrderedIndex) (is : IsTable t) (roll : IsIndexOf due t.items t.limit r) where
+  owned : (p : Pair) (o : Option A) → item_at p.1 t.items ≡ o → is_key p.0 (key_at due o) ≡ true → IsDueIn due t.items (Some p)
   owned p None e h = absurd cc
   owned p (Some a) e h = go (due a) refl h
     where
-      go : (d : Option ℕ) → due a ≡ d → is_owner p.0 d ≡ true → IsDueIn due t.items (Some p)
+      go : (d : Option ℕ) → due a ≡ d → is_key p.0 d ≡ true → IsDueIn due t.items (Some p)
       go None f g = absurd cc
       go (Some m) f g = (p.1, a, e, rw (f, ← eqb-true p.0 m g) refl)
 
@@ -85,7 +85,7 @@ module _ {A : Type 0} (due : A → Option ℕ) (t : Table A) (r : Roll) (is : Is
       go : (n : ℕ) (a : A) → item_at n t.items ≡ Some a → (m : Option ℕ) → due a ≡ m → x ≡ as_due n m → (x ≡ None) ⊎ IsPairIn r.pairs x
       go n a there None f e = inl e
       go n a there (Some m) f e =
-          let on : is_owner m (owner_at due (item_at n t.items)) ≡ true = rw (there, f) (eq-eqb m m refl) in
+          let on : is_key m (key_at due (item_at n t.items)) ≡ true = rw (there, f) (eq-eqb m m refl) in
           inr ((m, n), e, roll.members m n ∙ on)
 
   -- the least pair of the roll is what is due first

@@ -1,8 +1,8 @@
--- The first item that passes a test, found by trying the items of one owner in order of number.
+-- The first item that passes a test, found by trying the items of one key in order of number.
 use Rattle.std.proofs.Common.{◌≡◌, ℕ, ◌<◌, ◌≤◌, List, [], ◌∷◌, Bool, true, false, eqb, leb, Option, Some, None, refl, sym, ap, ◌∙◌, arith}
 use Rattle.std.proofs.lemmas.Bool.{eqb-true, eqb-false, eq-eqb, leb-true, leb-false}
-use Rattle.coap_exchange.specs.Index.{owner_at, IsRollOf}
-use Rattle.coap_exchange.specs.Roll.{Roll, is_in, is_owner, IsNextOf}
+use Rattle.coap_exchange.specs.Index.{key_at, IsIndexOf}
+use Rattle.ordered_index.specs.Ordered.{OrderedIndex, is_in, is_key, IsNextOf}
 use Rattle.coap_exchange.specs.Table.{Numbered, Table, IsRising, IsTable, item_at, first_that, passes}
 use Rattle.coap_exchange.proofs.Tables.{none-least}
 
@@ -53,13 +53,13 @@ module _ {A : Type 0} (test : A → Bool) where
 
 -- ---- by a roll
 
--- what passes has this owner
-module _ {A : Type 0} (owner : A → Option ℕ) (test : A → Bool) (id : ℕ) (only : (a : A) → is_owner id (owner a) ≡ false → test a ≡ false) (t : Table A) (r : Roll) (is : IsTable t) (roll : IsRollOf owner t.items t.limit r) where
+-- what passes has this key
+module _ {A : Type 0} (key : A → Option ℕ) (test : A → Bool) (id : ℕ) (only : (a : A) → is_key id (key a) ≡ false → test a ≡ false) (t : Table A) (r : OrderedIndex) (is : IsTable t) (roll : IsIndexOf key t.items t.limit r) where
   -- none passes up to a number
   abbrev pub NoneUpTo : ℕ → Type 0
   NoneUpTo after = (m : ℕ) → m ≤ after → passes test (item_at m t.items) ≡ false
 
-  unowned : (o : Option A) → is_owner id (owner_at owner o) ≡ false → passes test o ≡ false
+  unowned : (o : Option A) → is_key id (key_at key o) ≡ false → passes test o ≡ false
   unowned None e = refl
   unowned (Some a) e = only a e
 
@@ -70,7 +70,7 @@ module _ {A : Type 0} (owner : A → Option ℕ) (test : A → Bool) (id : ℕ) 
   pub none-start : NoneUpTo 0
   none-start = λ m le. ap (passes test) (none-least m 0 t.items le is.rising)
 
-  -- none between a number and the next of the owner
+  -- none between a number and the next of the key
   below-next : (after number m : ℕ) → NoneUpTo after → IsNextOf id after r.pairs (Some number) → m < number → passes test (item_at m t.items) ≡ false
   below-next after number m none next lt = go (leb m after) refl (is_in (id, m) r.pairs) refl
     where

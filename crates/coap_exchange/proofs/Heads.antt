@@ -9,13 +9,13 @@ use Rattle.coap_endpoint.specs.Endpoint.{same_endpoint}
 use Rattle.coap_endpoint.proofs.Equality.{Tells-endpoint}
 use Rattle.coap_exchange.specs.declared.exchange.Exchange.{Exchange}
 use Rattle.coap_exchange.specs.Exchanges.{is_queued, is_sent, is_sent_to}
-use Rattle.coap_exchange.specs.Lines.{is_queued_to}
-use Rattle.coap_exchange.specs.Roll.{Pair, Roll, is_in, is_some_pair, one_of, IsReplaced}
+use Rattle.coap_exchange.specs.Endpoints.{is_queued_to}
+use Rattle.ordered_index.specs.Ordered.{Pair, OrderedIndex, is_in, is_some_pair, one_of, IsReplaced}
 use Rattle.coap_exchange.specs.Table.{Numbered, IsRising, count, first_that, item_at, passes}
-use Rattle.coap_exchange.specs.Turns.{head_at, head_in, endpoint_in, AreHeads}
+use Rattle.coap_exchange.specs.SendQueue.{head_at, head_in, endpoint_in, AreHeads}
 use Rattle.coap_exchange.proofs.Counts.{one_if}
 use Rattle.coap_exchange.proofs.Indexing.{Moves}
-use Rattle.coap_exchange.proofs.Rolling.{pair_itself, pair_only}
+use Rattle.ordered_index.proofs.Ordering.{pair_itself, pair_only}
 use Rattle.coap_exchange.proofs.Seeking.{none-that, none-under, that-first, passes-above}
 
 -- ---- the first that passes
@@ -147,7 +147,7 @@ passes-off at test e o is other = go (passes (λ x. test x && same_endpoint x.ke
     go true f = let found = passes-with test e o f in absurd (other (here found.0 found.1 found.3))
 
 -- the head of an endpoint is among the heads
-pub head-among : (xs : List (Numbered Exchange)) (heads : Roll) → AreHeads xs heads → (at : Option Endpoint) → IfSome (head_in xs at) (λ p. is_in p heads.pairs ≡ true)
+pub head-among : (xs : List (Numbered Exchange)) (heads : OrderedIndex) → AreHeads xs heads → (at : Option Endpoint) → IfSome (head_in xs at) (λ p. is_in p heads.pairs ≡ true)
 head-among xs heads are None = tt
 head-among xs heads are (Some at) = go (head_at xs at) refl
   where
@@ -172,7 +172,7 @@ module _ (n : ℕ) (xs ys : List (Numbered Exchange)) (at : Option Endpoint) (mo
           go true f = rw (eqb-true m n f) (passes-off at is_queued e (item_at n ys) wy other ∙ sym (passes-off at is_queued e (item_at n xs) wx other))
           go false f = ap (passes (is_queued_to e)) (moves.others m f)
 
-  module _ (old : Roll) (are : AreHeads xs old) where
+  module _ (old : OrderedIndex) (are : AreHeads xs old) where
     -- the head that was stands in the roll
     pub replaced-there : IfSome (head_in xs at) (λ p. is_in p old.pairs ≡ true)
     replaced-there = head-among xs old are at
@@ -217,7 +217,7 @@ module _ (n : ℕ) (xs ys : List (Numbered Exchange)) (at : Option Endpoint) (mo
         go None = omega arith
         go (Some e) = there e (first_that (is_queued_to e) ys) (first_that (is_queued_to e) xs) (that-is (is_queued_to e) 0 ys ry) (that-is (is_queued_to e) 0 xs rx)
 
-    module _ (new : Roll) (replaced : IsReplaced old.pairs new.pairs (head_in xs at) (head_in ys at)) where
+    module _ (new : OrderedIndex) (replaced : IsReplaced old.pairs new.pairs (head_in xs at) (head_in ys at)) where
       -- what is the head of the endpoint
       some-head : (zs : List (Numbered Exchange)) (p : Pair) (a : Option Endpoint) → is_some_pair p (head_in zs a) ≡ true → (e : Endpoint) × (a ≡ Some e) × (head_at zs e ≡ Some p)
       some-head zs p None f = absurd cc
@@ -273,7 +273,7 @@ module _ (n : ℕ) (xs ys : List (Numbered Exchange)) (at : Option Endpoint) (mo
 -- ---- all of them change
 
 -- the heads of tables in which as many are sent and the same ones wait are the same
-pub heads-same : (xs ys : List (Numbered Exchange)) (roll : Roll) → ((e : Endpoint) → head_at ys e ≡ head_at xs e) → AreHeads xs roll → AreHeads ys roll
+pub heads-same : (xs ys : List (Numbered Exchange)) (roll : OrderedIndex) → ((e : Endpoint) → head_at ys e ≡ head_at xs e) → AreHeads xs roll → AreHeads ys roll
 heads-same xs ys roll same are = record {
   only = λ p there. (let (e, h) = are.only p there in (e, same e ∙ h));
   all = λ e p h. are.all e p (sym (same e) ∙ h);

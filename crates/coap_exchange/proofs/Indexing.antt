@@ -5,8 +5,8 @@ use Rattle.std.specs.Option.{is_some, option_map}
 use Rattle.std.proofs.lemmas.Bool.{eqb-true, eqb-false, eq-eqb, ne_eqb}
 use Rattle.coap_exchange.specs.declared.exchange.Exchange.{Exchange}
 use Rattle.coap_exchange.specs.declared.index.Index.{Index}
-use Rattle.coap_exchange.specs.Index.{got_of, id_of, opening_of, end_of, queue_of, key_of, target_of, owner_at, owners_at, AreIndexed, CanPass, CanPassAll, HasPassed, HavePassed, IsRollOf}
-use Rattle.coap_exchange.specs.Roll.{Roll, empty_roll, is_in, is_owner, one_of}
+use Rattle.coap_exchange.specs.Index.{got_of, id_of, opening_of, end_of, queue_of, cache_key_of, target_of, key_at, keys_at, AreIndexed, CanRekey, CanRekeyAll, HasRekeyed, HaveRekeyed, IsIndexOf}
+use Rattle.ordered_index.specs.Ordered.{OrderedIndex, empty_index, is_in, is_key, one_of}
 use Rattle.coap_exchange.specs.Table.{Numbered, Table, IsRising, IsTable, item_at, admitted_to, without, withdrawn_at, withdrawn, changed_at, count, passes}
 use Rattle.coap_exchange.proofs.Counts.{one_if, count-length, count-push, count-moved, count-without}
 use Rattle.coap_exchange.proofs.Tables.{without-gone, without-others}
@@ -102,25 +102,25 @@ module _ {A : Type 0} where
 
 -- ---- what a roll keeps
 
-module _ {A : Type 0} (owner_of : A → Option ℕ) where
-  pub one-owned : (o : Option A) → one_if (passes (λ a. is_some (owner_of a)) o) ≡ one_of (owner_at owner_of o)
+module _ {A : Type 0} (key_of : A → Option ℕ) where
+  pub one-owned : (o : Option A) → one_if (passes (λ a. is_some (key_of a)) o) ≡ one_of (key_at key_of o)
   one-owned None = refl
-  one-owned (Some a) = go (owner_of a)
+  one-owned (Some a) = go (key_of a)
     where
       go : (p : Option ℕ) → one_if (is_some p) ≡ one_of p
       go None = refl
       go (Some o) = refl
 
-  pub empty-is : (limit : ℕ) → IsRollOf owner_of [] limit (empty_roll limit)
+  pub empty-is : (limit : ℕ) → IsIndexOf key_of [] limit (empty_index limit)
   empty-is limit = record { members = λ o n. refl; length = refl; limit = refl }
 
   -- there is room for what an item comes to be
-  pub can-pass : (n limit : ℕ) (xs ys : List (Numbered A)) (roll : Roll) → Moves n xs ys → length ys ≤ limit → IsRollOf owner_of xs limit roll → CanPass roll n (owner_at owner_of (item_at n xs)) (owner_at owner_of (item_at n ys))
+  pub can-pass : (n limit : ℕ) (xs ys : List (Numbered A)) (roll : OrderedIndex) → Moves n xs ys → length ys ≤ limit → IsIndexOf key_of xs limit roll → CanRekey roll n (key_at key_of (item_at n xs)) (key_at key_of (item_at n ys))
   can-pass n limit xs ys roll moves few is = record {
-    owner = λ o. is.members o n;
+    key = λ o. is.members o n;
     room = (
-        let counted = moves.counts (λ a. is_some (owner_of a)) in
-        let most = count-length (λ a. is_some (owner_of a)) ys in
+        let counted = moves.counts (λ a. is_some (key_of a)) in
+        let most = count-length (λ a. is_some (key_of a)) ys in
         let was = one-owned (item_at n xs) in
         let now = one-owned (item_at n ys) in
         let len = is.length in
@@ -130,11 +130,11 @@ module _ {A : Type 0} (owner_of : A → Option ℕ) where
   }
 
   -- and it keeps step
-  pub has-passed : (n limit : ℕ) (xs ys : List (Numbered A)) (old new : Roll) → Moves n xs ys → IsRollOf owner_of xs limit old → HasPassed old new n (owner_at owner_of (item_at n xs)) (owner_at owner_of (item_at n ys)) → IsRollOf owner_of ys limit new
+  pub has-passed : (n limit : ℕ) (xs ys : List (Numbered A)) (old new : OrderedIndex) → Moves n xs ys → IsIndexOf key_of xs limit old → HasRekeyed old new n (key_at key_of (item_at n xs)) (key_at key_of (item_at n ys)) → IsIndexOf key_of ys limit new
   has-passed n limit xs ys old new moves is has = record {
-    members = λ o q. has.passed o q ∙ go o q (eqb q n) refl;
+    members = λ o q. has.rekeyed o q ∙ go o q (eqb q n) refl;
     length = (
-        let counted = moves.counts (λ a. is_some (owner_of a)) in
+        let counted = moves.counts (λ a. is_some (key_of a)) in
         let was = one-owned (item_at n xs) in
         let now = one-owned (item_at n ys) in
         let len = is.length in
@@ -144,13 +144,13 @@ module _ {A : Type 0} (owner_of : A → Option ℕ) where
     limit = has.limit ∙ is.limit;
   }
     where
-      go : (o q : ℕ) (b : Bool) → eqb q n ≡ b → cond b (is_owner o (owner_at owner_of (item_at n ys))) (is_in (o, q) old.pairs) ≡ is_owner o (owner_at owner_of (item_at q ys))
-      go o q true e = ap (λ (m : ℕ). is_owner o (owner_at owner_of (item_at m ys))) (sym (eqb-true q n e))
-      go o q false e = is.members o q ∙ ap (λ (p : Option A). is_owner o (owner_at owner_of p)) (sym (moves.others q e))
+      go : (o q : ℕ) (b : Bool) → eqb q n ≡ b → cond b (is_key o (key_at key_of (item_at n ys))) (is_in (o, q) old.pairs) ≡ is_key o (key_at key_of (item_at q ys))
+      go o q true e = ap (λ (m : ℕ). is_key o (key_at key_of (item_at m ys))) (sym (eqb-true q n e))
+      go o q false e = is.members o q ∙ ap (λ (p : Option A). is_key o (key_at key_of p)) (sym (moves.others q e))
 
 -- ---- what an index keeps
 
-pub empty-indexed : (limit : ℕ) (index : Index) → index.ids ≡ empty_roll limit → index.dones ≡ empty_roll limit → index.openings ≡ empty_roll limit → index.ends ≡ empty_roll limit → index.queues ≡ empty_roll limit → index.keys ≡ empty_roll limit → index.targets ≡ empty_roll limit → AreIndexed [] limit index
+pub empty-indexed : (limit : ℕ) (index : Index) → index.ids ≡ empty_index limit → index.dones ≡ empty_index limit → index.openings ≡ empty_index limit → index.ends ≡ empty_index limit → index.queues ≡ empty_index limit → index.cache_keys ≡ empty_index limit → index.targets ≡ empty_index limit → AreIndexed [] limit index
 empty-indexed limit index a z b c q d e = record {
   rising = tt;
   ids = rw a (empty-is id_of limit);
@@ -158,22 +158,22 @@ empty-indexed limit index a z b c q d e = record {
   openings = rw b (empty-is opening_of limit);
   ends = rw c (empty-is end_of limit);
   queues = rw q (empty-is queue_of limit);
-  keys = rw d (empty-is key_of limit);
+  cache_keys = rw d (empty-is cache_key_of limit);
   targets = rw e (empty-is target_of limit);
 }
 
-pub all-can-pass : (n limit : ℕ) (xs ys : List (Numbered Exchange)) (index : Index) → Moves n xs ys → length ys ≤ limit → AreIndexed xs limit index → CanPassAll index n (owners_at (item_at n xs)) (owners_at (item_at n ys))
+pub all-can-pass : (n limit : ℕ) (xs ys : List (Numbered Exchange)) (index : Index) → Moves n xs ys → length ys ≤ limit → AreIndexed xs limit index → CanRekeyAll index n (keys_at (item_at n xs)) (keys_at (item_at n ys))
 all-can-pass n limit xs ys index moves few is = record {
   ids = can-pass id_of n limit xs ys index.ids moves few is.ids;
   dones = can-pass got_of n limit xs ys index.dones moves few is.dones;
   openings = can-pass opening_of n limit xs ys index.openings moves few is.openings;
   ends = can-pass end_of n limit xs ys index.ends moves few is.ends;
   queues = can-pass queue_of n limit xs ys index.queues moves few is.queues;
-  keys = can-pass key_of n limit xs ys index.keys moves few is.keys;
+  cache_keys = can-pass cache_key_of n limit xs ys index.cache_keys moves few is.cache_keys;
   targets = can-pass target_of n limit xs ys index.targets moves few is.targets;
 }
 
-pub all-have-passed : (n limit : ℕ) (xs ys : List (Numbered Exchange)) (old new : Index) → Moves n xs ys → AreIndexed xs limit old → HavePassed old new n (owners_at (item_at n xs)) (owners_at (item_at n ys)) → IsRising 0 ys → AreIndexed ys limit new
+pub all-have-passed : (n limit : ℕ) (xs ys : List (Numbered Exchange)) (old new : Index) → Moves n xs ys → AreIndexed xs limit old → HaveRekeyed old new n (keys_at (item_at n xs)) (keys_at (item_at n ys)) → IsRising 0 ys → AreIndexed ys limit new
 all-have-passed n limit xs ys old new moves is have rising = record {
   rising = rising;
   ids = has-passed id_of n limit xs ys old.ids new.ids moves is.ids have.ids;
@@ -181,17 +181,17 @@ all-have-passed n limit xs ys old new moves is have rising = record {
   openings = has-passed opening_of n limit xs ys old.openings new.openings moves is.openings have.openings;
   ends = has-passed end_of n limit xs ys old.ends new.ends moves is.ends have.ends;
   queues = has-passed queue_of n limit xs ys old.queues new.queues moves is.queues have.queues;
-  keys = has-passed key_of n limit xs ys old.keys new.keys moves is.keys have.keys;
+  cache_keys = has-passed cache_key_of n limit xs ys old.cache_keys new.cache_keys moves is.cache_keys have.cache_keys;
   targets = has-passed target_of n limit xs ys old.targets new.targets moves is.targets have.targets;
 }
 
 -- ---- the same, where what stood under the number and what stands there are known
 
 module _ (n limit : ℕ) (xs ys : List (Numbered Exchange)) (index : Index) (moves : Moves n xs ys) (are : AreIndexed xs limit index) (was is : Option Exchange) (there : item_at n xs ≡ was) (then : item_at n ys ≡ is) where
-  pub can-pass-as : length ys ≤ limit → CanPassAll index n (owners_at was) (owners_at is)
+  pub can-pass-as : length ys ≤ limit → CanRekeyAll index n (keys_at was) (keys_at is)
   can-pass-as few = rw (← there, ← then) (all-can-pass n limit xs ys index moves few are)
 
-  pub have-passed-as : (next : Index) → HavePassed index next n (owners_at was) (owners_at is) → IsRising 0 ys → AreIndexed ys limit next
+  pub have-passed-as : (next : Index) → HaveRekeyed index next n (keys_at was) (keys_at is) → IsRising 0 ys → AreIndexed ys limit next
   have-passed-as next have rising =
-      let passed : HavePassed index next n (owners_at (item_at n xs)) (owners_at (item_at n ys)) = rw (there, then) have in
+      let passed : HaveRekeyed index next n (keys_at (item_at n xs)) (keys_at (item_at n ys)) = rw (there, then) have in
       all-have-passed n limit xs ys index next moves are passed rising

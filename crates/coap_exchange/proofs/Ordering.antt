@@ -10,19 +10,21 @@ use Rattle.coap_endpoint.specs.declared.target.Target.{Target}
 use Rattle.coap_exchange.specs.declared.exchange.Exchange.{Exchange}
 use Rattle.coap_exchange.specs.declared.exchange.Change.{Change}
 use Rattle.coap_exchange.specs.declared.exchange.Change.TheVariants as change
-use Rattle.coap_exchange.specs.declared.turns.Turns.{Turns}
-use Rattle.coap_exchange.specs.Due.{is_before, sooner, as_due, first_due}
+use Rattle.coap_exchange.specs.declared.send_queue.SendQueue.{SendQueue}
+use Rattle.coap_exchange.specs.Due.{sooner, as_due, first_due}
+use Rattle.ordered_index.specs.Ordered.{is_before}
 use Rattle.coap_exchange.specs.Exchanges.{changed_by, is_changed_with, is_queued, is_sent_to, tainted_by}
 use Rattle.coap_exchange.specs.Index.{turn_among}
-use Rattle.coap_exchange.specs.Lines.{is_queued_to}
-use Rattle.coap_exchange.specs.Roll.{Pair, Roll, is_in, one_of, IsReplaced}
+use Rattle.coap_exchange.specs.Endpoints.{is_queued_to}
+use Rattle.ordered_index.specs.Ordered.{Pair, OrderedIndex, is_in, one_of, AreRising, IsReplaced}
 use Rattle.coap_exchange.specs.Table.{Numbered, Table, IsRising, IsTable, admitted_to, all_changed, changed_at, count, item_at, passes, withdrawn, withdrawn_at, without}
-use Rattle.coap_exchange.specs.Turns.{head_at, head_in, endpoint_in, noted, AreInOrder, AreHeads, AreTurns, IsLowestUnder}
+use Rattle.coap_exchange.specs.SendQueue.{head_at, head_in, endpoint_in, noted, AreInOrder, AreHeads, IsSendQueue, IsLowestUnder}
+use Rattle.coap_exchange.proofs.Apart.{apart-fewer, rising-apart}
 use Rattle.coap_exchange.proofs.Counts.{count-all_changed}
 use Rattle.coap_exchange.proofs.Dues.{IsDueIn, first_due-is}
 use Rattle.coap_exchange.proofs.Heads.{IsAt, head-is, head-there, heads-moved, heads-same, replaced-fewer, replaced-free, replaced-there, that-same}
 use Rattle.coap_exchange.proofs.Indexing.{Moves, changed-at, moves-admitted, push-at}
-use Rattle.coap_exchange.proofs.Lining.{queued-taint, sent-taint}
+use Rattle.coap_exchange.proofs.EndpointCounting.{queued-taint, sent-taint}
 use Rattle.coap_exchange.proofs.Sooner.{same_first, sooner_left}
 use Rattle.coap_exchange.proofs.Tables.{admitted-is, item_at-fresh, without-gone}
 use Rattle.coap_exchange.proofs.Changes.{IsRising-all_changed}
@@ -109,10 +111,10 @@ at-all_changed f q (x ∷ xs) = go (eqb q x.0) (at-all_changed f q xs)
 -- ---- what tells whose turn it is
 
 -- a taint leaves it
-pub turns-tainted : (target : Target) (xs : List (Numbered Exchange)) (turns : Turns) → IsRising 0 xs → AreTurns xs turns → AreTurns (all_changed (tainted_by target) xs) turns
-turns-tainted target xs turns r are = record {
-  heads = heads-same xs (all_changed (tainted_by target) xs) turns.heads same are.heads;
-  order = λ e. order-kept xs (all_changed (tainted_by target) xs) turns.latest (λ q y f. made-of (tainted_by target) (admitted-tainted target) (item_at q xs) y (sym (at-all_changed (tainted_by target) q xs) ∙ f)) (are.order e);
+pub send_queue-tainted : (target : Target) (xs : List (Numbered Exchange)) (send_queue : SendQueue) → IsRising 0 xs → IsSendQueue xs send_queue → IsSendQueue (all_changed (tainted_by target) xs) send_queue
+send_queue-tainted target xs send_queue r are = record {
+  heads = heads-same xs (all_changed (tainted_by target) xs) send_queue.heads same are.heads;
+  order = λ e. order-kept xs (all_changed (tainted_by target) xs) send_queue.latest (λ q y f. made-of (tainted_by target) (admitted-tainted target) (item_at q xs) y (sym (at-all_changed (tainted_by target) q xs) ∙ f)) (are.order e);
 }
   where
     queued : (e : Endpoint) (o : Option Exchange) → passes (is_queued_to e) (option_map (tainted_by target) o) ≡ passes (is_queued_to e) o
@@ -172,23 +174,23 @@ order-admitted t latest now x is e le are = record {
         absurd (omega arith)
 
 -- one is admitted
-pub turns-admitted : (t : Table Exchange) (x : Exchange) (now : ℕ) (turns new : Turns) → IsTable t → x.admitted ≡ now → AreTurns t.items turns → AreHeads (admitted_to x t).items new.heads → new.in_order ≡ (turns.in_order && leb turns.latest now) → new.latest ≡ max turns.latest now → AreTurns (admitted_to x t).items new
-turns-admitted t x now turns new is e are heads flag latest = record {
+pub send_queue-admitted : (t : Table Exchange) (x : Exchange) (now : ℕ) (send_queue new : SendQueue) → IsTable t → x.admitted ≡ now → IsSendQueue t.items send_queue → AreHeads (admitted_to x t).items new.heads → new.in_order ≡ (send_queue.in_order && leb send_queue.latest now) → new.latest ≡ max send_queue.latest now → IsSendQueue (admitted_to x t).items new
+send_queue-admitted t x now send_queue new is e are heads flag latest = record {
   heads = heads;
-  order = λ f. go turns.in_order refl (leb turns.latest now) refl (sym flag ∙ f);
+  order = λ f. go send_queue.in_order refl (leb send_queue.latest now) refl (sym flag ∙ f);
 }
   where
-    go : (b : Bool) → turns.in_order ≡ b → (c : Bool) → leb turns.latest now ≡ c → (b && c) ≡ true → AreInOrder (admitted_to x t).items new.latest
+    go : (b : Bool) → send_queue.in_order ≡ b → (c : Bool) → leb send_queue.latest now ≡ c → (b && c) ≡ true → AreInOrder (admitted_to x t).items new.latest
     go true f true g h =
-        let le : turns.latest ≤ now = grind (arith, nat_tests) in
+        let le : send_queue.latest ≤ now = grind (arith, nat_tests) in
         let last : new.latest ≡ now = omega arith in
-        subst (AreInOrder (admitted_to x t).items) (sym last) (order-admitted t turns.latest now x is e le (are.order f))
+        subst (AreInOrder (admitted_to x t).items) (sym last) (order-admitted t send_queue.latest now x is e le (are.order f))
     go true f false g h = absurd cc
     go false f c g h = absurd cc
 
 -- ---- whose turn comes first
 
-module _ (nstart : ℕ) (xs : List (Numbered Exchange)) (turns : Turns) (r : IsRising 0 xs) (are : AreTurns xs turns) (on : turns.in_order ≡ true) where
+module _ (nstart : ℕ) (xs : List (Numbered Exchange)) (send_queue : SendQueue) (r : IsRising 0 xs) (are : IsSendQueue xs send_queue) (on : send_queue.in_order ≡ true) where
   -- when it is the turn of an exchange
   turn : Exchange → Option ℕ
   turn x = turn_among nstart xs x
@@ -207,20 +209,20 @@ module _ (nstart : ℕ) (xs : List (Numbered Exchange)) (turns : Turns) (r : IsR
       go false e c f = inl (rw e refl)
 
   -- the head of its endpoint stands in the roll
-  head-in : (m : ℕ) (y : Exchange) → item_at m xs ≡ Some y → is_queued y ≡ true → (h : ℕ) × (is_in (count (is_sent_to y.key.target.at) xs, h) turns.heads.pairs ≡ true) × (h ≤ m)
+  head-in : (m : ℕ) (y : Exchange) → item_at m xs ≡ Some y → is_queued y ≡ true → (h : ℕ) × (is_in (count (is_sent_to y.key.target.at) xs, h) send_queue.heads.pairs ≡ true) × (h ≤ m)
   head-in m y there q =
       let (h, e, le) = head-there xs r m y there q in
       (h, are.heads.all y.key.target.at (count (is_sent_to y.key.target.at) xs, h) e, le)
 
   -- what stands there waits, and as many are sent to its endpoint
-  in-head : (c n : ℕ) → is_in (c, n) turns.heads.pairs ≡ true → (x : Exchange) × (item_at n xs ≡ Some x) × (is_queued x ≡ true) × (count (is_sent_to x.key.target.at) xs ≡ c)
+  in-head : (c n : ℕ) → is_in (c, n) send_queue.heads.pairs ≡ true → (x : Exchange) × (item_at n xs ≡ Some x) × (is_queued x ≡ true) × (count (is_sent_to x.key.target.at) xs ≡ c)
   in-head c n there =
       let (e, h) = are.heads.only (c, n) there in
       let (x, at, q, same, many) = head-is xs r e (c, n) h in
       (x, at, q, ap (λ (d : Endpoint). count (is_sent_to d) xs) same ∙ many)
 
   -- where none stands under fewer than `nstart`, it is nobody's turn
-  pub turn-none : IsLowestUnder nstart turns.heads.pairs None → None ≡ first_due (turn_among nstart xs) xs
+  pub turn-none : IsLowestUnder nstart send_queue.heads.pairs None → None ≡ first_due (turn_among nstart xs) xs
   turn-none none = same_first {P = IsDueIn (turn_among nstart xs) xs} {Q = IsDueIn (turn_among nstart xs) xs} None (first_due (turn_among nstart xs) xs) (λ x d. d) (λ x d. d) (record { least = λ x d. (let (m, y, there, e) = d in nothing x m y there e (turn-only y)); there = inl refl }) (first_due-is (turn_among nstart xs) 0 xs r)
     where
       nothing : (x : Option Pair) (m : ℕ) (y : Exchange) → item_at m xs ≡ Some y → x ≡ as_due m (turn_among nstart xs y) → (turn_among nstart xs y ≡ None) ⊎ ((turn_among nstart xs y ≡ Some y.admitted) × (is_queued y ≡ true) × (count (is_sent_to y.key.target.at) xs < nstart)) → sooner None x ≡ None
@@ -232,14 +234,14 @@ module _ (nstart : ℕ) (xs : List (Numbered Exchange)) (turns : Turns) (r : IsR
           absurd (omega arith)
 
   -- what stands there has an exchange
-  pub turn-there : (n : ℕ) → IsLowestUnder nstart turns.heads.pairs (Some n) → item_at n xs ≡ None → ⊥
+  pub turn-there : (n : ℕ) → IsLowestUnder nstart send_queue.heads.pairs (Some n) → item_at n xs ≡ None → ⊥
   turn-there n lowest none =
       let (c, lt, i) = lowest.0 in
       let (x, there, q, many) = in-head c n i in
       let a = there in cc
 
   -- of those that stand under fewer than `nstart` it is the turn of the least
-  pub turn-some : (n : ℕ) (x : Exchange) → IsLowestUnder nstart turns.heads.pairs (Some n) → item_at n xs ≡ Some x → Some (x.admitted, n) ≡ first_due (turn_among nstart xs) xs
+  pub turn-some : (n : ℕ) (x : Exchange) → IsLowestUnder nstart send_queue.heads.pairs (Some n) → item_at n xs ≡ Some x → Some (x.admitted, n) ≡ first_due (turn_among nstart xs) xs
   turn-some n x lowest there = same_first {P = IsDueIn (turn_among nstart xs) xs} {Q = IsDueIn (turn_among nstart xs) xs} (Some (x.admitted, n)) (first_due (turn_among nstart xs) xs) (λ y d. d) (λ y d. d) (record { least = λ z d. (let (m, y, at, e) = d in later z m y at e (turn-only y)); there = inr here }) (first_due-is (turn_among nstart xs) 0 xs r)
     where
       here : IsDueIn (turn_among nstart xs) xs (Some (x.admitted, n))
@@ -305,50 +307,59 @@ at-without n xs at = subst (IsAt at) (sym (without-gone n xs)) tt
 pub without-off : (n : ℕ) (xs : List (Numbered Exchange)) → passes is_queued (item_at n (without n xs)) ≡ false
 without-off n xs = ap (passes is_queued) (without-gone n xs)
 
-module _ (n : ℕ) (xs ys : List (Numbered Exchange)) (at : Option Endpoint) (moves : Moves n xs ys) (rx : IsRising 0 xs) (ry : IsRising 0 ys) (wx : IsAt at (item_at n xs)) (wy : IsAt at (item_at n ys)) (turns : Turns) (are : AreTurns xs turns) where
+module _ (n : ℕ) (xs ys : List (Numbered Exchange)) (at : Option Endpoint) (moves : Moves n xs ys) (rx : IsRising 0 xs) (ry : IsRising 0 ys) (wx : IsAt at (item_at n xs)) (wy : IsAt at (item_at n ys)) (send_queue : SendQueue) (are : IsSendQueue xs send_queue) where
   -- the head that comes doesn't stand in the roll, unless it was there
-  pub turns-free : IfSome (head_in ys at) (λ p. is_in p turns.heads.pairs ≡ true → head_in xs at ≡ Some p)
-  turns-free = replaced-free n xs ys at moves rx ry wx wy turns.heads are.heads
+  pub send_queue-free : IfSome (head_in ys at) (λ p. is_in p send_queue.heads.pairs ≡ true → head_in xs at ≡ Some p)
+  send_queue-free = replaced-free n xs ys at moves rx ry wx wy send_queue.heads are.heads
 
   -- the one that was does
-  pub turns-there : IfSome (head_in xs at) (λ p. is_in p turns.heads.pairs ≡ true)
-  turns-there = replaced-there n xs ys at moves rx ry wx wy turns.heads are.heads
+  pub send_queue-there : IfSome (head_in xs at) (λ p. is_in p send_queue.heads.pairs ≡ true)
+  send_queue-there = replaced-there n xs ys at moves rx ry wx wy send_queue.heads are.heads
 
   -- there is room for it
-  pub turns-room : passes is_queued (item_at n ys) ≡ false → length turns.heads.pairs + one_of (head_in ys at) ≤ turns.heads.limit + one_of (head_in xs at)
-  turns-room off =
-      let fewer = replaced-fewer n xs ys at moves rx ry wx wy turns.heads are.heads off in
+  pub send_queue-room : passes is_queued (item_at n ys) ≡ false → length send_queue.heads.pairs + one_of (head_in ys at) ≤ send_queue.heads.limit + one_of (head_in xs at)
+  send_queue-room off =
+      let fewer = replaced-fewer n xs ys at moves rx ry wx wy send_queue.heads are.heads off in
       let room = are.heads.room in
       omega arith
 
   -- and then it tells whose turn it is
-  pub turns-moved : AreKept xs ys → passes is_queued (item_at n ys) ≡ false → (new : Roll) → new.limit ≡ turns.heads.limit → length new.pairs + one_of (head_in xs at) ≡ length turns.heads.pairs + one_of (head_in ys at) → IsReplaced turns.heads.pairs new.pairs (head_in xs at) (head_in ys at) → AreTurns ys (record turns { heads = new })
-  turns-moved kept off new limit len replaced = record {
-    heads = heads-moved n xs ys at moves rx ry wx wy turns.heads are.heads new replaced (let room = turns-room off in omega arith);
-    order = λ e. order-kept xs ys turns.latest kept (are.order e);
+  pub send_queue-moved : AreKept xs ys → passes is_queued (item_at n ys) ≡ false → (new : OrderedIndex) → new.limit ≡ send_queue.heads.limit → length new.pairs + one_of (head_in xs at) ≡ length send_queue.heads.pairs + one_of (head_in ys at) → IsReplaced send_queue.heads.pairs new.pairs (head_in xs at) (head_in ys at) → IsSendQueue ys (record send_queue { heads = new })
+  send_queue-moved kept off new limit len replaced = record {
+    heads = heads-moved n xs ys at moves rx ry wx wy send_queue.heads are.heads new replaced (let room = send_queue-room off in omega arith);
+    order = λ e. order-kept xs ys send_queue.latest kept (are.order e);
   }
+
+-- ---- there is room for the heads
+
+-- no more endpoints have a head than there are exchanges
+pub heads-fewer : (xs : List (Numbered Exchange)) (heads : OrderedIndex) → IsRising 0 xs → AreHeads xs heads → AreRising heads.pairs → length heads.pairs ≤ length xs
+heads-fewer xs heads r are rising = apart-fewer heads.pairs xs (rising-apart heads.pairs rising (λ p q i j e. one p q (are.only p i) (are.only q j) e)) (λ p i. item p (are.only p i))
+  where
+    item : (p : Pair) → ((e : Endpoint) × (head_at xs e ≡ Some p)) → (x : Exchange) × (item_at p.1 xs ≡ Some x)
+    item p (e, h) = let found = head-is xs r e p h in (found.0, found.1)
+
+    one : (p q : Pair) → ((e : Endpoint) × (head_at xs e ≡ Some p)) → ((e : Endpoint) × (head_at xs e ≡ Some q)) → p.1 ≡ q.1 → p ≡ q
+    one p q (d, f) (e, g) same =
+        let first = head-is xs r d p f in
+        let other = head-is xs r e q g in
+        let alike : first.0 ≡ other.0 = (let at = subst (λ (n : ℕ). item_at n xs ≡ Some first.0) same first.1 in let on = other.1 in cc) in
+        let whose : d ≡ e = sym first.3 ∙ ap (λ (x : Exchange). x.key.target.at) alike ∙ other.3 in
+        let found : head_at xs e ≡ Some p = subst (λ (z : Endpoint). head_at xs z ≡ Some p) whose f in
+        cc
+
+-- so there is room for one more where there is for another exchange
+pub heads-room : (t : Table Exchange) (send_queue : SendQueue) → IsTable t → length t.items < t.limit → IsSendQueue t.items send_queue → AreRising send_queue.heads.pairs → send_queue.heads.limit ≡ t.limit → length send_queue.heads.pairs < send_queue.heads.limit
+heads-room t send_queue is room are rising limit = let fewer = heads-fewer t.items send_queue.heads is.rising are.heads rising in omega arith
 
 -- ---- one is admitted
 
 -- there is one at most
-one-most : (o : Option Pair) → one_of o ≤ 1
+pub one-most : (o : Option Pair) → one_of o ≤ 1
 one-most None = omega arith
 one-most (Some p) = omega arith
 
-module _ (xs : List (Numbered Exchange)) (turns : Turns) (are : AreTurns xs turns) (heads : Roll) (same : heads.pairs ≡ turns.heads.pairs) (room : length heads.pairs < heads.limit) where
-  -- the heads stand in a roll with more room
-  roomier : AreHeads xs heads
-  roomier = record {
-    only = λ p there. are.heads.only p (subst (λ (l : List Pair). is_in p l ≡ true) same there);
-    all = λ e p h. subst (λ (l : List Pair). is_in p l ≡ true) (sym same) (are.heads.all e p h);
-    room = omega arith;
-  }
-
-  -- so it tells whose turn it is as before
-  pub turns-roomier : AreTurns xs (record turns { heads = heads })
-  turns-roomier = record { heads = roomier; order = are.order }
-
-module _ (t : Table Exchange) (x : Exchange) (is : IsTable t) (little : length t.items < t.limit) (turns : Turns) (are : AreTurns t.items turns) (heads : Roll) (same : heads.pairs ≡ turns.heads.pairs) (room : length heads.pairs < heads.limit) where
+module _ (t : Table Exchange) (x : Exchange) (is : IsTable t) (little : length t.items < t.limit) (send_queue : SendQueue) (are : IsSendQueue t.items send_queue) (room : length send_queue.heads.pairs < send_queue.heads.limit) where
   -- there was none with its number
   at-fresh : IsAt (Some x.key.target.at) (item_at (t.admitted + 1) t.items)
   at-fresh = subst (IsAt (Some x.key.target.at)) (sym (item_at-fresh t is)) tt
@@ -358,13 +369,13 @@ module _ (t : Table Exchange) (x : Exchange) (is : IsTable t) (little : length t
   at-new = subst (IsAt (Some x.key.target.at)) (sym (push-at (t.admitted + 1) t.items x (item_at-fresh t is))) refl
 
   -- the head that comes doesn't stand in the roll, unless it was there
-  pub admitted-free : IfSome (head_at (admitted_to x t).items x.key.target.at) (λ p. is_in p heads.pairs ≡ true → head_at t.items x.key.target.at ≡ Some p)
-  admitted-free = replaced-free (t.admitted + 1) t.items (admitted_to x t).items (Some x.key.target.at) (moves-admitted t x is) is.rising (admitted-is t x is little).rising at-fresh at-new heads (roomier t.items turns are heads same room)
+  pub admitted-free : IfSome (head_at (admitted_to x t).items x.key.target.at) (λ p. is_in p send_queue.heads.pairs ≡ true → head_at t.items x.key.target.at ≡ Some p)
+  admitted-free = replaced-free (t.admitted + 1) t.items (admitted_to x t).items (Some x.key.target.at) (moves-admitted t x is) is.rising (admitted-is t x is little).rising at-fresh at-new send_queue.heads are.heads
 
   -- and then it tells whose turn it is
-  pub turns-more : (new : Roll) → new.limit ≡ heads.limit → length new.pairs + one_of (head_at t.items x.key.target.at) ≡ length heads.pairs + one_of (head_at (admitted_to x t).items x.key.target.at) → IsReplaced heads.pairs new.pairs (head_at t.items x.key.target.at) (head_at (admitted_to x t).items x.key.target.at) → AreTurns (admitted_to x t).items (noted x.admitted (record turns { heads = new }))
-  turns-more new limit len replaced =
+  pub send_queue-more : (new : OrderedIndex) → new.limit ≡ send_queue.heads.limit → length new.pairs + one_of (head_at t.items x.key.target.at) ≡ length send_queue.heads.pairs + one_of (head_at (admitted_to x t).items x.key.target.at) → IsReplaced send_queue.heads.pairs new.pairs (head_at t.items x.key.target.at) (head_at (admitted_to x t).items x.key.target.at) → IsSendQueue (admitted_to x t).items (noted x.admitted (record send_queue { heads = new }))
+  send_queue-more new limit len replaced =
       let one = one-most (head_at (admitted_to x t).items x.key.target.at) in
-      turns-admitted t x x.admitted turns (noted x.admitted (record turns { heads = new })) is refl are
-      (heads-moved (t.admitted + 1) t.items (admitted_to x t).items (Some x.key.target.at) (moves-admitted t x is) is.rising (admitted-is t x is little).rising at-fresh at-new heads (roomier t.items turns are heads same room) new replaced (omega arith))
+      send_queue-admitted t x x.admitted send_queue (noted x.admitted (record send_queue { heads = new })) is refl are
+      (heads-moved (t.admitted + 1) t.items (admitted_to x t).items (Some x.key.target.at) (moves-admitted t x is) is.rising (admitted-is t x is little).rising at-fresh at-new send_queue.heads are.heads new replaced (omega arith))
       refl refl

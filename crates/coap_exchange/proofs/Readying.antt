@@ -9,83 +9,29 @@ use Rattle.coap_exchange.specs.declared.waiter.Waiter.{Waiter}
 use Rattle.coap_exchange.specs.declared.waiter.WaiterState.{WaiterState}
 use Rattle.coap_exchange.specs.declared.waiter.WaiterState.TheVariants.{Waiting, Delivering}
 use Rattle.coap_exchange.specs.Answered.{awaited_of, got_in}
-use Rattle.coap_exchange.specs.Due.{is_before, sooner, as_due, first_due}
+use Rattle.coap_exchange.specs.Due.{sooner, as_due, first_due}
 use Rattle.coap_endpoint.specs.declared.target.Target.{Target}
 use Rattle.coap_exchange.specs.declared.exchange.ExchangeState.{ExchangeState}
 use Rattle.coap_exchange.specs.declared.exchange.ExchangeState.TheVariants.{Queued, Sent, Acked, Done}
 use Rattle.coap_exchange.specs.declared.exchange.Sending.{Sending}
 use Rattle.coap_exchange.specs.declared.timer.Timer.{Timer}
 use Rattle.coap_exchange.specs.Exchanges.{acked, answer_in_state, answer_of, fired_exchange, is_changed_with, is_queued, is_queued_state, is_sent, is_sent_state, sent, tainted_by}
-use Rattle.coap_exchange.specs.Index.{got_of, owner_at, IsRollOf}
-use Rattle.coap_exchange.specs.Marks.{answered_of}
+use Rattle.coap_exchange.specs.Index.{got_of, key_at, IsIndexOf}
+use Rattle.coap_exchange.specs.WaiterIndex.{answered_of}
 use Rattle.coap_exchange.specs.Ready.{ready_at, ready_in, ready_of, AreReady, Tables}
-use Rattle.coap_exchange.specs.Roll.{Pair, Roll, is_in, is_owner, is_pair, is_some_pair, one_of, AreRising, IsLeast, IsNextOf, IsReplaced}
-use Rattle.coap_exchange.specs.Table.{Numbered, Table, IsRising, IsTable, item_at, admitted_to, all_changed, without, changed_at, first_that, passes, withdrawn, withdrawn_at}
+use Rattle.ordered_index.specs.Ordered.{Pair, OrderedIndex, is_in, is_key, is_pair, is_some_pair, one_of, AreRising, IsLeast, IsNextOf, IsReplaced}
+use Rattle.coap_exchange.specs.Table.{Numbered, Table, IsRising, IsTable, item_at, admitted_to, all_changed, changed_at, first_that, passes, withdrawn, withdrawn_at}
 use Rattle.coap_exchange.specs.Waiters.{awaited_by, delivered, exchange_of, fired_state, fired_waiter, moment_of, waits_for, waits_in_state}
+use Rattle.coap_exchange.proofs.Apart.{AreApart, apart-fewer, rising-apart}
 use Rattle.coap_exchange.proofs.Answering.{answered-waits, waits-answered}
 use Rattle.coap_exchange.proofs.Dues.{IsDueIn, first_due-is}
 use Rattle.coap_exchange.proofs.Firsts.{first-found, first-missing, none-start}
 use Rattle.coap_exchange.proofs.Heads.{IsThat, that-is, that-same}
 use Rattle.coap_exchange.proofs.Indexing.{changed-at, changed-others, none-above, push-at, push-others}
-use Rattle.coap_exchange.proofs.Rolling.{all-in, pair_itself, pair_only}
+use Rattle.ordered_index.proofs.Ordering.{pair_itself, pair_only}
 use Rattle.coap_exchange.proofs.Sooner.{same_first, sooner_left, sooner_none}
 use Rattle.coap_exchange.proofs.Tables.{without-others}
 use Rattle.coap_exchange.proofs.Waiting.{passes-awaited, passes-unawaited}
-
--- ---- pairs of items, each of another item
-
--- no number stands in two pairs
-abbrev AreApart : List Pair → Type 0
-AreApart [] = Unit {0}
-AreApart (p ∷ ps) = ((q : Pair) → is_in q ps ≡ true → p.1 ≡ q.1 → ⊥) × AreApart ps
-
--- what is there without an item is shorter by one
-length-gone : {A : Type 0} (n : ℕ) (xs : List (Numbered A)) (a : A) → item_at n xs ≡ Some a → length (without n xs) + 1 ≤ length xs
-length-gone n [] a e = absurd cc
-length-gone {A} n (x ∷ xs) a e = go (eqb n x.0) refl (eqb x.0 n) refl e (length-gone n xs a)
-  where
-    shorter : (ys : List (Numbered A)) → length (without n ys) ≤ length ys
-    shorter [] = omega arith
-    shorter (y ∷ ys) = less (eqb y.0 n) (shorter ys)
-      where
-        less : (b : Bool) → length (without n ys) ≤ length ys → length (cond (not b) (y ∷ without n ys) (without n ys)) ≤ length (y ∷ ys)
-        less true i = omega arith
-        less false i = omega arith
-
-    go : (b : Bool) → eqb n x.0 ≡ b → (c : Bool) → eqb x.0 n ≡ c → cond b (Some x.1) (item_at n xs) ≡ Some a → (item_at n xs ≡ Some a → length (without n xs) + 1 ≤ length xs) → length (cond (not c) (x ∷ without n xs) (without n xs)) + 1 ≤ length (x ∷ xs)
-    go b f true g h rest = let le = shorter xs in omega arith
-    go false f false g h rest = let le = rest h in omega arith
-    go true f false g h rest = absurd (eqb-false x.0 n g (sym (eqb-true n x.0 f)))
-
--- so there are no more pairs than items
-apart-fewer : {A : Type 0} (ps : List Pair) (xs : List (Numbered A)) → AreApart ps → ((p : Pair) → is_in p ps ≡ true → (a : A) × (item_at p.1 xs ≡ Some a)) → length ps ≤ length xs
-apart-fewer [] xs apart there = omega arith
-apart-fewer (p ∷ ps) xs apart there =
-    let found = there p (rw (pair_itself p) refl) in
-    let gone = length-gone p.1 xs found.0 found.1 in
-    let rest = apart-fewer ps (without p.1 xs) apart.1 (λ q i. let f = there q (behind q (is_pair q p) i) in (f.0, without-others p.1 q.1 xs (ne_eqb q.1 p.1 (λ e. apart.0 q i (sym e))) ∙ f.1)) in
-    omega arith
-  where
-    behind : (q : Pair) (b : Bool) → is_in q ps ≡ true → (b || is_in q ps) ≡ true
-    behind q true i = refl
-    behind q false i = i
-
--- rising pairs are apart, where those of one number are one
-rising-apart : (ps : List Pair) → AreRising ps → ((p q : Pair) → is_in p ps ≡ true → is_in q ps ≡ true → p.1 ≡ q.1 → p ≡ q) → AreApart ps
-rising-apart [] r one = tt
-rising-apart (p ∷ ps) r one = (
-  λ q i e. (
-      let same : p ≡ q = one p q (rw (pair_itself p) refl) (behind q (is_pair q p) i) e in
-      let before : is_before p q ≡ true = all-in (λ x. is_before p x ≡ true) q ps r.0 i in
-      let never : is_before p p ≡ true = subst (λ (x : Pair). is_before p x ≡ true) (sym same) before in
-      grind (arith, nat_tests)
-      ),
-  rising-apart ps r.1 (λ a b i j e. one a b (behind a (is_pair a p) i) (behind b (is_pair b p) j) e),
-)
-  where
-    behind : (q : Pair) (b : Bool) → is_in q ps ≡ true → (b || is_in q ps) ≡ true
-    behind q true i = refl
-    behind q false i = i
 
 -- ---- who waits first
 
@@ -113,24 +59,24 @@ first-waits e n ws r h =
     waits-whom e (item_at n ws) that.0
 
 -- the index finds the first that waits
-unawaited : (e : ℕ) (w : Waiter) → is_owner e (awaited_of w) ≡ false → waits_for e w ≡ false
+unawaited : (e : ℕ) (w : Waiter) → is_key e (awaited_of w) ≡ false → waits_for e w ≡ false
 unawaited e w h = go w.state h
   where
-    go : (s : WaiterState) → is_owner e (exchange_of s) ≡ false → waits_in_state e s ≡ false
+    go : (s : WaiterState) → is_key e (exchange_of s) ≡ false → waits_in_state e s ≡ false
     go (Waiting n) f = ne_eqb n e (λ g. eqb-false e n f (sym g))
     go (Delivering bytes id timer) f = refl
 
-pub first-waiting : (e : ℕ) (t : Table Waiter) (r : Roll) → IsTable t → IsRollOf awaited_of t.items t.limit r → (o : Option ℕ) → IsNextOf e 0 r.pairs o → o ≡ first_that (waits_for e) t.items
+pub first-waiting : (e : ℕ) (t : Table Waiter) (r : OrderedIndex) → IsTable t → IsIndexOf awaited_of t.items t.limit r → (o : Option ℕ) → IsNextOf e 0 r.pairs o → o ≡ first_that (waits_for e) t.items
 first-waiting e t r is roll None next = sym (first-missing awaited_of (waits_for e) e (unawaited e) t r is roll 0 (none-start awaited_of (waits_for e) e (unawaited e) t r is roll) next)
 first-waiting e t r is roll (Some n) next =
-    let there : is_owner e (owner_at awaited_of (item_at n t.items)) ≡ true = sym (roll.members e n) ∙ next.1 in
+    let there : is_key e (key_at awaited_of (item_at n t.items)) ≡ true = sym (roll.members e n) ∙ next.1 in
     sym (first-found awaited_of (waits_for e) e (unawaited e) t r is roll 0 n (none-start awaited_of (waits_for e) e (unawaited e) t r is roll) next (on (item_at n t.items) there))
   where
-    on : (o : Option Waiter) → is_owner e (owner_at awaited_of o) ≡ true → passes (waits_for e) o ≡ true
+    on : (o : Option Waiter) → is_key e (key_at awaited_of o) ≡ true → passes (waits_for e) o ≡ true
     on None h = absurd cc
     on (Some w) h = go w.state h
       where
-        go : (s : WaiterState) → is_owner e (exchange_of s) ≡ true → waits_in_state e s ≡ true
+        go : (s : WaiterState) → is_key e (exchange_of s) ≡ true → waits_in_state e s ≡ true
         go (Waiting m) f = eq-eqb m e (sym (eqb-true e m f))
         go (Delivering bytes id timer) f = absurd cc
 
@@ -169,7 +115,7 @@ module _ (t : Tables) (is : IsTable t.waiters) where
 
 -- ---- the first of all
 
-module _ (t : Tables) (is : IsTable t.waiters) (roll : Roll) (are : AreReady t roll) where
+module _ (t : Tables) (is : IsTable t.waiters) (roll : OrderedIndex) (are : AreReady t roll) where
   abbrev IsAnswered : Option Pair → Type 0
   IsAnswered x = IsDueIn (answered_of t.exchanges.items) t.waiters.items x
 
@@ -246,7 +192,7 @@ ready-at t None p f = absurd cc
 ready-at t (Some e) p f = (e, refl, f)
 
 -- what is ready for an exchange is among them
-pub ready-among : (t : Tables) (roll : Roll) → AreReady t roll → (at : Option ℕ) → IfSome (ready_in t at) (λ p. is_in p roll.pairs ≡ true)
+pub ready-among : (t : Tables) (roll : OrderedIndex) → AreReady t roll → (at : Option ℕ) → IfSome (ready_in t at) (λ p. is_in p roll.pairs ≡ true)
 ready-among t roll are at = go (ready_in t at) refl
   where
     go : (o : Option Pair) → ready_in t at ≡ o → IfSome o (λ p. is_in p roll.pairs ≡ true)
@@ -257,7 +203,7 @@ ready-among t roll are at = go (ready_in t at) refl
 abbrev pub AreElsewhere : Tables → Tables → Option ℕ → Type 0
 AreElsewhere old new at = (e : ℕ) → (at ≡ Some e → ⊥) → ready_at new e ≡ ready_at old e
 
-module _ (old new : Tables) (oldw : IsTable old.waiters) (neww : IsTable new.waiters) (at : Option ℕ) (elsewhere : AreElsewhere old new at) (roll : Roll) (are : AreReady old roll) where
+module _ (old new : Tables) (oldw : IsTable old.waiters) (neww : IsTable new.waiters) (at : Option ℕ) (elsewhere : AreElsewhere old new at) (roll : OrderedIndex) (are : AreReady old roll) where
   -- what comes isn't there, unless it was
   pub ready-free : IfSome (ready_in new at) (λ p. is_in p roll.pairs ≡ true → ready_in old at ≡ Some p)
   ready-free = go (ready_in new at) refl
@@ -315,7 +261,7 @@ module _ (old new : Tables) (oldw : IsTable old.waiters) (neww : IsTable new.wai
       go (Some q) f (Some p) g = let fewer = ready-fewer r in let within = oldw.within in let same = are.limit in omega arith
       go (Some q) f None g = let more = ready-more r q f g in let within = neww.within in let same = are.limit in omega arith
 
-  module _ (next : Roll) (replaced : IsReplaced roll.pairs next.pairs (ready_in old at) (ready_in new at)) where
+  module _ (next : OrderedIndex) (replaced : IsReplaced roll.pairs next.pairs (ready_in old at) (ready_in new at)) where
     ready-only : (p : Pair) → is_in p next.pairs ≡ true → (e : ℕ) × (ready_at new e ≡ Some p)
     ready-only p there = go (is_some_pair p (ready_in new at)) refl (is_some_pair p (ready_in old at)) refl (sym (replaced p) ∙ there)
       where
@@ -390,7 +336,7 @@ waits-its o = go (awaited_by o)
 -- ---- nothing is answered by it
 
 -- where nothing else is ready the roll stays
-pub ready-same : (t new : Tables) (roll : Roll) → ((e : ℕ) → ready_at new e ≡ ready_at t e) → new.waiters.limit ≡ t.waiters.limit → AreReady t roll → AreReady new roll
+pub ready-same : (t new : Tables) (roll : OrderedIndex) → ((e : ℕ) → ready_at new e ≡ ready_at t e) → new.waiters.limit ≡ t.waiters.limit → AreReady t roll → AreReady new roll
 ready-same t new roll same limit are = record {
   only = λ p there. (let (e, h) = are.only p there in (e, same e ∙ h));
   all = λ e p h. are.all e p (sym (same e) ∙ h);

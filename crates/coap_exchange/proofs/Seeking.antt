@@ -10,13 +10,14 @@ use Rattle.coap_exchange.specs.declared.exchange.Exchange.{Exchange}
 use Rattle.coap_exchange.specs.declared.exchange.ExchangeState.{ExchangeState}
 use Rattle.coap_exchange.specs.declared.exchange.ExchangeState.TheVariants.{Queued, Sent, Acked, Done}
 use Rattle.coap_exchange.specs.declared.exchange.Sending.{Sending}
-use Rattle.coap_exchange.specs.Due.{is_before, sooner, as_due, due_row, first_due}
+use Rattle.coap_exchange.specs.Due.{sooner, as_due, due_row, first_due}
+use Rattle.ordered_index.specs.Ordered.{is_before}
 use Rattle.coap_endpoint.specs.declared.endpoint.Endpoint.{Endpoint}
 use Rattle.coap_endpoint.specs.Endpoint.{same_endpoint}
 use Rattle.coap_exchange.specs.Exchanges.{answer_at, is_joinable, is_some_as, was_sent_as, due_among, due_in, is_blocked, is_queued, is_queued_state, is_sent_state, answer_in_state, is_missing, timer_or, AreTimely}
 use Rattle.coap_exchange.specs.Digests.{digest_of_key}
-use Rattle.coap_exchange.specs.Index.{key_of, id_in, id_of, owner_at, opening_of, end_in, end_of, later, turn_among, AreListed, IsRollOf}
-use Rattle.coap_exchange.specs.Roll.{Pair, Roll, is_in, is_owner, IsLeast, IsNextOf}
+use Rattle.coap_exchange.specs.Index.{cache_key_of, id_in, id_of, key_at, opening_of, end_in, end_of, later, turn_among, AreListed, IsIndexOf}
+use Rattle.ordered_index.specs.Ordered.{Pair, OrderedIndex, is_in, is_key, IsLeast, IsNextOf}
 use Rattle.coap_exchange.specs.Table.{Numbered, IsRising, item_at, count, first_that, passes}
 use Rattle.coap_exchange.proofs.Counts.{one_if, all-at, AllItems}
 use Rattle.coap_exchange.proofs.Sooner.{IsFirst, IsIn, first_of-is, same_first_of, sooner_assoc, sooner_comm, sooner_left}
@@ -78,8 +79,8 @@ module _ {A : Type 0} where
           skip test x xs (sym (head-at test x xs) ∙ none x.0 above) ∙ rest h (λ m lt. rest-none test x xs r.1 m (none m lt))
 
   -- those before the next of a roll don't pass, and where there is no next, none does
-  pub listed-before : (test : A → Bool) (owner after n : ℕ) (xs : List (Numbered A)) (pairs : List Pair) → AreListed test owner xs pairs → IsNextOf owner after pairs (Some n) → ((m : ℕ) → m ≤ after → passes test (item_at m xs) ≡ false) → (m : ℕ) → m < n → passes test (item_at m xs) ≡ false
-  listed-before test owner after n xs pairs listed next done m lt = go (passes test (item_at m xs)) refl (leb m after) refl
+  pub listed-before : (test : A → Bool) (key after n : ℕ) (xs : List (Numbered A)) (pairs : List Pair) → AreListed test key xs pairs → IsNextOf key after pairs (Some n) → ((m : ℕ) → m ≤ after → passes test (item_at m xs) ≡ false) → (m : ℕ) → m < n → passes test (item_at m xs) ≡ false
+  listed-before test key after n xs pairs listed next done m lt = go (passes test (item_at m xs)) refl (leb m after) refl
     where
       go : (b : Bool) → passes test (item_at m xs) ≡ b → (d : Bool) → leb m after ≡ d → b ≡ false
       go false e d f = refl
@@ -87,8 +88,8 @@ module _ {A : Type 0} where
       go true e false f = absurd (let least : n ≤ m = next.2 m (grind (arith, nat_tests)) (listed m e) in omega arith)
 
   -- where no number is left in the roll none passes
-  pub listed-none : (test : A → Bool) (owner after : ℕ) (xs : List (Numbered A)) (pairs : List Pair) → AreListed test owner xs pairs → IsNextOf owner after pairs None → ((m : ℕ) → m ≤ after → passes test (item_at m xs) ≡ false) → (m : ℕ) → passes test (item_at m xs) ≡ false
-  listed-none test owner after xs pairs listed next done m = go (passes test (item_at m xs)) refl (leb m after) refl
+  pub listed-none : (test : A → Bool) (key after : ℕ) (xs : List (Numbered A)) (pairs : List Pair) → AreListed test key xs pairs → IsNextOf key after pairs None → ((m : ℕ) → m ≤ after → passes test (item_at m xs) ≡ false) → (m : ℕ) → passes test (item_at m xs) ≡ false
+  listed-none test key after xs pairs listed next done m = go (passes test (item_at m xs)) refl (leb m after) refl
     where
       go : (b : Bool) → passes test (item_at m xs) ≡ b → (d : Bool) → leb m after ≡ d → b ≡ false
       go false e d f = refl
@@ -97,10 +98,10 @@ module _ {A : Type 0} where
 
 -- ---- the first of a roll is due first
 
-module _ {A : Type 0} (owner_of : A → Option ℕ) where
+module _ {A : Type 0} (key_of : A → Option ℕ) where
   -- what is due of each item
   abbrev Rows : List (Numbered A) → List (Option Pair)
-  Rows xs = map (due_row owner_of) xs
+  Rows xs = map (due_row key_of) xs
 
   -- a pair stands in the roll
   abbrev Tells : List Pair → Option Pair → Type 0
@@ -121,58 +122,58 @@ module _ {A : Type 0} (owner_of : A → Option ℕ) where
       lower (Some q) t = sooner_left p q (is.1 q t)
 
   -- an item has its row
-  row-in : (n : ℕ) (xs : List (Numbered A)) (a : A) → item_at n xs ≡ Some a → IsIn (as_due n (owner_of a)) (Rows xs)
+  row-in : (n : ℕ) (xs : List (Numbered A)) (a : A) → item_at n xs ≡ Some a → IsIn (as_due n (key_of a)) (Rows xs)
   row-in n [] a e = absurd cc
   row-in n (x ∷ xs) a e = go (eqb n x.0) refl e (row-in n xs a)
     where
-      go : (b : Bool) → eqb n x.0 ≡ b → cond b (Some x.1) (item_at n xs) ≡ Some a → (item_at n xs ≡ Some a → IsIn (as_due n (owner_of a)) (Rows xs)) → IsIn (as_due n (owner_of a)) (Rows (x ∷ xs))
-      go true f h rest = let same : x.1 ≡ a = cc in inl (ap (λ (m : ℕ). as_due m (owner_of a)) (eqb-true n x.0 f) ∙ ap (λ (b : A). as_due x.0 (owner_of b)) (sym same))
+      go : (b : Bool) → eqb n x.0 ≡ b → cond b (Some x.1) (item_at n xs) ≡ Some a → (item_at n xs ≡ Some a → IsIn (as_due n (key_of a)) (Rows xs)) → IsIn (as_due n (key_of a)) (Rows (x ∷ xs))
+      go true f h rest = let same : x.1 ≡ a = cc in inl (ap (λ (m : ℕ). as_due m (key_of a)) (eqb-true n x.0 f) ∙ ap (λ (b : A). as_due x.0 (key_of b)) (sym same))
       go false f h rest = inr (rest h)
 
   -- a row has its item
-  in-row : (least : ℕ) (xs : List (Numbered A)) (p : Option Pair) → IsRising least xs → IsIn p (Rows xs) → (n : ℕ) × (a : A) × (item_at n xs ≡ Some a) × (p ≡ as_due n (owner_of a)) × (least < n)
+  in-row : (least : ℕ) (xs : List (Numbered A)) (p : Option Pair) → IsRising least xs → IsIn p (Rows xs) → (n : ℕ) × (a : A) × (item_at n xs ≡ Some a) × (p ≡ as_due n (key_of a)) × (least < n)
   in-row least [] p r i = absurd i
   in-row least (x ∷ xs) p r i = elim i [ inl e ↦ (x.0, x.1, ap (λ (b : Bool). cond b (Some x.1) (item_at x.0 xs)) (eq-eqb x.0 x.0 refl), e, r.0) | inr e ↦ further (in-row x.0 xs p r.1 e) ]
     where
-      further : ((n : ℕ) × (a : A) × (item_at n xs ≡ Some a) × (p ≡ as_due n (owner_of a)) × (x.0 < n)) → (n : ℕ) × (a : A) × (item_at n (x ∷ xs) ≡ Some a) × (p ≡ as_due n (owner_of a)) × (least < n)
+      further : ((n : ℕ) × (a : A) × (item_at n xs ≡ Some a) × (p ≡ as_due n (key_of a)) × (x.0 < n)) → (n : ℕ) × (a : A) × (item_at n (x ∷ xs) ≡ Some a) × (p ≡ as_due n (key_of a)) × (least < n)
       further f =
           let above = f.4 in
           let lower = r.0 in
           (f.0, f.1, ap (λ (b : Bool). cond b (Some x.1) (item_at f.0 xs)) (ne_eqb f.0 x.0 (λ e. omega arith)) ∙ f.2, f.3, omega arith)
 
-  -- an owner that is found is an item's
-  owner-found : (o n : ℕ) (found : Option A) → is_owner o (owner_at owner_of found) ≡ true → (a : A) × (found ≡ Some a) × (owner_of a ≡ Some o)
-  owner-found o n None e = absurd cc
-  owner-found o n (Some a) e = go (owner_of a) refl e
+  -- an key that is found is an item's
+  key-found : (o n : ℕ) (found : Option A) → is_key o (key_at key_of found) ≡ true → (a : A) × (found ≡ Some a) × (key_of a ≡ Some o)
+  key-found o n None e = absurd cc
+  key-found o n (Some a) e = go (key_of a) refl e
     where
-      go : (p : Option ℕ) → owner_of a ≡ p → is_owner o p ≡ true → (b : A) × (Some a ≡ Some b) × (owner_of b ≡ Some o)
+      go : (p : Option ℕ) → key_of a ≡ p → is_key o p ≡ true → (b : A) × (Some a ≡ Some b) × (key_of b ≡ Some o)
       go None f h = absurd cc
       go (Some q) f h = (a, refl, f ∙ ap (λ (m : ℕ). Some m) (sym (eqb-true o q h)))
 
   -- so the first of a roll is what is due first
-  pub roll-first : (most : ℕ) (xs : List (Numbered A)) (roll : Roll) (o : Option Pair) → IsRising 0 xs → IsRollOf owner_of xs most roll → IsLeast roll.pairs o → o ≡ first_due owner_of xs
-  roll-first most xs roll o r is least = same_first_of o (first_due owner_of xs) (λ x t. to x t) (λ x i. from x i) (least-first roll.pairs o least) (first_of-is (Rows xs))
+  pub roll-first : (most : ℕ) (xs : List (Numbered A)) (roll : OrderedIndex) (o : Option Pair) → IsRising 0 xs → IsIndexOf key_of xs most roll → IsLeast roll.pairs o → o ≡ first_due key_of xs
+  roll-first most xs roll o r is least = same_first_of o (first_due key_of xs) (λ x t. to x t) (λ x i. from x i) (least-first roll.pairs o least) (first_of-is (Rows xs))
     where
       to : (x : Option Pair) → Tells roll.pairs x → (x ≡ None) ⊎ IsIn x (Rows xs)
       to None t = inl refl
       to (Some p) t =
-          let found = owner-found p.0 p.1 (item_at p.1 xs) (sym (is.members p.0 p.1) ∙ t) in
+          let found = key-found p.0 p.1 (item_at p.1 xs) (sym (is.members p.0 p.1) ∙ t) in
           inr (subst (λ (q : Option Pair). IsIn q (Rows xs)) (ap (λ (q : Option ℕ). as_due p.1 q) found.2) (row-in p.1 xs found.0 found.1))
 
       from : (x : Option Pair) → IsIn x (Rows xs) → (x ≡ None) ⊎ Tells roll.pairs x
-      from x i = let found = in-row 0 xs x r i in told x found.0 found.1 found.2 found.3 (owner_of found.1) refl
+      from x i = let found = in-row 0 xs x r i in told x found.0 found.1 found.2 found.3 (key_of found.1) refl
         where
-          told : (y : Option Pair) (n : ℕ) (a : A) → item_at n xs ≡ Some a → y ≡ as_due n (owner_of a) → (p : Option ℕ) → owner_of a ≡ p → (y ≡ None) ⊎ Tells roll.pairs y
+          told : (y : Option Pair) (n : ℕ) (a : A) → item_at n xs ≡ Some a → y ≡ as_due n (key_of a) → (p : Option ℕ) → key_of a ≡ p → (y ≡ None) ⊎ Tells roll.pairs y
           told y n a at e None f = inl (e ∙ ap (λ (q : Option ℕ). as_due n q) f)
           told y n a at e (Some o) f =
-              inr (subst (λ (q : Option Pair). Tells roll.pairs q) (sym (e ∙ ap (λ (q : Option ℕ). as_due n q) f)) (is.members o n ∙ ap (λ (q : Option A). is_owner o (owner_at owner_of q)) at ∙ ap (λ (q : Option ℕ). is_owner o q) f ∙ eq-eqb o o refl))
+              inr (subst (λ (q : Option Pair). Tells roll.pairs q) (sym (e ∙ ap (λ (q : Option ℕ). as_due n q) f)) (is.members o n ∙ ap (λ (q : Option A). is_key o (key_at key_of q)) at ∙ ap (λ (q : Option ℕ). is_key o q) f ∙ eq-eqb o o refl))
 
   -- and it is early where all are
-  pub first-early : (most bound : ℕ) (xs : List (Numbered A)) (roll : Roll) (o : Option Pair) → IsRollOf owner_of xs most roll → IsLeast roll.pairs o → ((n : ℕ) → IfSome (item_at n xs) (λ a. IfSome (owner_of a) (λ m. m ≤ bound))) → IfSome o (λ d. d.0 ≤ bound)
+  pub first-early : (most bound : ℕ) (xs : List (Numbered A)) (roll : OrderedIndex) (o : Option Pair) → IsIndexOf key_of xs most roll → IsLeast roll.pairs o → ((n : ℕ) → IfSome (item_at n xs) (λ a. IfSome (key_of a) (λ m. m ≤ bound))) → IfSome o (λ d. d.0 ≤ bound)
   first-early most bound xs roll None is least early = tt
   first-early most bound xs roll (Some p) is least early =
-      let found = owner-found p.0 p.1 (item_at p.1 xs) (sym (is.members p.0 p.1) ∙ least.0) in
-      let at = subst (λ (o : Option A). IfSome o (λ a. IfSome (owner_of a) (λ m. m ≤ bound))) found.1 (early p.1) in
+      let found = key-found p.0 p.1 (item_at p.1 xs) (sym (is.members p.0 p.1) ∙ least.0) in
+      let at = subst (λ (o : Option A). IfSome o (λ a. IfSome (key_of a) (λ m. m ≤ bound))) found.1 (early p.1) in
       subst (λ (o : Option ℕ). IfSome o (λ m. m ≤ bound)) found.2 at
 
 -- ---- what is due is a deadline, the end of a timeout, or a turn
@@ -242,7 +243,7 @@ cross a b c d =
     ∙ ap (λ (o : Option Pair). sooner a o) (sym (sooner_assoc b c d) ∙ ap (λ (o : Option Pair). sooner o d) (sooner_comm b c) ∙ sooner_assoc c b d)
     ∙ sym (sooner_assoc a c (sooner b d))
 
--- what is due first is the first of three: deadlines, timeouts and turns
+-- what is due first is the first of three: deadlines, timeouts and send_queue
 pub split-due : (nstart ms : ℕ) (all xs : List (Numbered Exchange)) → first_due (due_among nstart ms all) xs ≡ sooner (later ms (first_due opening_of xs)) (sooner (first_due end_of xs) (first_due (turn_among nstart all) xs))
 split-due nstart ms all [] = refl
 split-due nstart ms all (x ∷ xs) =
@@ -275,13 +276,13 @@ openings-early xs timely n = all-at (λ x. IfSome (opening_of x) (λ m. m ≤ 2 
 
 -- ---- who stands in a roll
 
--- those that pass, if all of them have this owner
-pub owner-listed : {A : Type 0} (owner_of : A → Option ℕ) (test : A → Bool) (owner most : ℕ) (xs : List (Numbered A)) (roll : Roll) → ((a : A) → test a ≡ true → owner_of a ≡ Some owner) → IsRollOf owner_of xs most roll → AreListed test owner xs roll.pairs
-owner-listed {A} owner_of test owner most xs roll owns is = λ n e. is.members owner n ∙ go (item_at n xs) e
+-- those that pass, if all of them have this key
+pub key-listed : {A : Type 0} (key_of : A → Option ℕ) (test : A → Bool) (key most : ℕ) (xs : List (Numbered A)) (roll : OrderedIndex) → ((a : A) → test a ≡ true → key_of a ≡ Some key) → IsIndexOf key_of xs most roll → AreListed test key xs roll.pairs
+key-listed {A} key_of test key most xs roll owns is = λ n e. is.members key n ∙ go (item_at n xs) e
   where
-    go : (o : Option A) → passes test o ≡ true → is_owner owner (owner_at owner_of o) ≡ true
+    go : (o : Option A) → passes test o ≡ true → is_key key (key_at key_of o) ≡ true
     go None e = absurd cc
-    go (Some a) e = ap (λ (p : Option ℕ). is_owner owner p) (owns a e) ∙ eq-eqb owner owner refl
+    go (Some a) e = ap (λ (p : Option ℕ). is_key key p) (owns a e) ∙ eq-eqb key key refl
 
 -- what was sent with an id is found by it
 pub sent-by-id : (at : Endpoint) (id now : ℕ) (x : Exchange) → was_sent_as at id now x ≡ true → id_of x ≡ Some id
@@ -297,7 +298,7 @@ sent-by-id at id now x e = go (same_endpoint x.key.target.at at) x.sending e
     go true (Some s) f = same s.id (eqb s.id id) refl (ltb (now - s.timer.started) 247000) f
 
 -- a GET of an equal key is found by its digest
-pub joinable-by-key : (key : CacheKey) (x : Exchange) → is_joinable key x ≡ true → key_of x ≡ Some (digest_of_key key)
+pub joinable-by-key : (key : CacheKey) (x : Exchange) → is_joinable key x ≡ true → cache_key_of x ≡ Some (digest_of_key key)
 joinable-by-key key x e = go x.is_get (not x.tainted) (is_missing (answer_at x)) (same_key x.key key) refl e
   where
     go : (get clean missing same : Bool) → same_key x.key key ≡ same → (get && (clean && (missing && same))) ≡ true → cond (get && (clean && missing)) (Some (digest_of_key x.key)) None ≡ Some (digest_of_key key)

@@ -2,7 +2,8 @@
 use Rattle.std.proofs.Common.{◌≡◌, ℕ, Bool, true, false, Option, Some, None, List, [], ◌∷◌, refl, sym, subst, ◌∙◌, arith, inl, inr}
 use Rattle.std.specs.Prelude.{◌⊎◌}
 use Rattle.std.proofs.lemmas.Bool.Decides.{nat_tests}
-use Rattle.coap_exchange.specs.Due.{is_before, sooner_of, sooner, first_of}
+use Rattle.coap_exchange.specs.Due.{sooner_of, sooner, first_of}
+use Rattle.ordered_index.specs.Ordered.{is_before}
 
 -- a moment, and the number of what is due then
 abbrev Due : Type 0

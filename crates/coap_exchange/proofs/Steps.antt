@@ -1,9 +1,9 @@
 -- Of a table's items one comes, changes or goes, and what waiters are looked up by follows.
 use Rattle.std.proofs.Common.{◌≡◌, ℕ, ◌+◌, ◌≤◌, length, Option, refl, arith}
-use Rattle.coap_exchange.specs.declared.marks.WaiterIndex.{WaiterIndex}
+use Rattle.coap_exchange.specs.declared.waiter_index.WaiterIndex.{WaiterIndex}
 use Rattle.coap_exchange.specs.declared.waiter.Waiter.{Waiter}
 use Rattle.coap_exchange.specs.Answered.{awaited_of}
-use Rattle.coap_exchange.specs.Marks.{end_of, id_of, marks_at, AreMarked, CanPassMarks, HavePassedMarks}
+use Rattle.coap_exchange.specs.WaiterIndex.{end_of, id_of, waiter_keys_at, AreWaitersIndexed, CanRekeyWaiter, HaveRekeyedWaiter}
 use Rattle.coap_exchange.specs.Table.{Table, IsTable, item_at, admitted_to, without, withdrawn, changed_at}
 use Rattle.coap_exchange.proofs.Changes.{changed_at-is}
 use Rattle.coap_exchange.proofs.Indexing.{Moves, moves-admitted, moves-changed, moves-without, moves-withdrawn, can-pass, has-passed}
@@ -39,10 +39,10 @@ module _ {A : Type 0} (t : Table A) (is : IsTable t) where
 
 -- ---- what waiters are looked up by follows
 
-module _ (n : ℕ) (old new : Table Waiter) (step : IsStep n old new) (index : WaiterIndex) (marked : AreMarked old.items old.limit index) (was is : Option Waiter) (there : item_at n old.items ≡ was) (then : item_at n new.items ≡ is) where
+module _ (n : ℕ) (old new : Table Waiter) (step : IsStep n old new) (index : WaiterIndex) (marked : AreWaitersIndexed old.items old.limit index) (was is : Option Waiter) (there : item_at n old.items ≡ was) (then : item_at n new.items ≡ is) where
   -- there is room for what the waiter of this number becomes
-  pub marks-can-pass : CanPassMarks index n (marks_at was) (marks_at is)
-  marks-can-pass =
+  pub keys-can-pass : CanRekeyWaiter index n (waiter_keys_at was) (waiter_keys_at is)
+  keys-can-pass =
       rw (← there, ← then) (record {
         awaited = can-pass awaited_of n old.limit old.items new.items index.awaited step.moves step.within marked.awaited;
         ids = can-pass id_of n old.limit old.items new.items index.ids step.moves step.within marked.ids;
@@ -50,9 +50,9 @@ module _ (n : ℕ) (old new : Table Waiter) (step : IsStep n old new) (index : W
       })
 
   -- and once it has become that, the index is that of the new table
-  pub marks-passed : (next : WaiterIndex) → HavePassedMarks index next n (marks_at was) (marks_at is) → AreMarked new.items new.limit next
-  marks-passed next have =
-      let passed : HavePassedMarks index next n (marks_at (item_at n old.items)) (marks_at (item_at n new.items)) = rw (there, then) have in
+  pub keys-passed : (next : WaiterIndex) → HaveRekeyedWaiter index next n (waiter_keys_at was) (waiter_keys_at is) → AreWaitersIndexed new.items new.limit next
+  keys-passed next have =
+      let passed : HaveRekeyedWaiter index next n (waiter_keys_at (item_at n old.items)) (waiter_keys_at (item_at n new.items)) = rw (there, then) have in
       rw step.limit (record {
         awaited = has-passed awaited_of n old.limit old.items new.items index.awaited next.awaited step.moves marked.awaited passed.awaited;
         ids = has-passed id_of n old.limit old.items new.items index.ids next.ids step.moves marked.ids passed.ids;

@@ -1,17 +1,29 @@
 -- Who waits, and for which exchange, as waiters come, change and go.
-use Rattle.std.proofs.Common.{◌≡◌, ℕ, ◌+◌, ◌-◌, ◌^◌, ◌≤◌, List, [], ◌∷◌, ◌++◌, false, eqb, Option, Some, None, refl, sym, ap, ◌∙◌, arith}
+use Rattle.std.proofs.Common.{◌≡◌, ℕ, ◌+◌, ◌^◌, ◌≤◌, List, [], ◌∷◌, ◌++◌, Bool, true, false, eqb, Option, Some, None, refl, sym, ap, ◌∙◌, arith}
 use Rattle.std.specs.Prelude.{IfSome}
-use Rattle.indexmap.specs.IndexMap.{IndexMap}
+use Rattle.std.proofs.lemmas.Bool.{eqb-true, eqb-false, eq-eqb, ne_eqb}
 use Rattle.coap_exchange.specs.declared.timer.Timer.{Timer}
 use Rattle.coap_exchange.specs.declared.waiter.Waiter.{Waiter}
 use Rattle.coap_exchange.specs.declared.waiter.WaiterState.{WaiterState}
 use Rattle.coap_exchange.specs.declared.waiter.WaiterState.TheVariants.{Waiting, Delivering}
 use Rattle.coap_exchange.specs.Table.{Numbered, Table, IsTable, item_at, without, withdrawn, changed_at, count, passes}
-use Rattle.coap_exchange.specs.Tally.{tally, AreTallied}
+use Rattle.coap_exchange.specs.Tally.{AreTallied}
+use Rattle.coap_exchange.specs.Answered.{awaited_of}
+use Rattle.coap_exchange.specs.Index.{key_at}
+use Rattle.ordered_index.specs.Ordered.{Pair, is_key, many_of}
+use Rattle.std.specs.Option.{option_map}
 use Rattle.coap_exchange.specs.Waiters.{awaited_by, delivered, exchange_of, fired_state, fired_waiter, is_waiting, is_waiting_state, waits_for, waits_in_state, AreShort, CanChange, CanFire, HasEnded, IsDue, IsStateShort}
 use Rattle.coap_exchange.specs.declared.waiter.WaiterChange.TheVariants.{Fire as fire}
 use Rattle.coap_exchange.proofs.Schedule.{fired-short, first-short, short-bound}
 use Rattle.coap_exchange.proofs.Counts.{one_if, all-at, all-push, all-changed_at, all-without, all-withdrawn, count-push, count-kept, count-without, count-withdrawn, count-changed_at}
+
+-- equality goes both ways
+turned : (a b : ℕ) → eqb a b ≡ eqb b a
+turned a b = go (eqb a b) refl
+  where
+    go : (t : Bool) → eqb a b ≡ t → eqb a b ≡ eqb b a
+    go true e = e ∙ sym (eq-eqb b a (sym (eqb-true a b e)))
+    go false e = e ∙ sym (ne_eqb b a (λ f. eqb-false a b e (sym f)))
 
 -- who is sent the response waits no more
 pub delivered-off : (bytes : List ℕ) (id : ℕ) (timer : Timer) (o : Option Waiter) → IfSome o (λ w. is_waiting (delivered bytes id timer w) ≡ false)
@@ -45,38 +57,40 @@ passes-unawaited e (Some w) a = go w.state a
     go (Waiting n) b = absurd cc
     go (Delivering bytes id timer) b = refl
 
--- who waits is counted
-pub fewer-awaited : (e x n before after : ℕ) (t : Table Waiter) → IsTable t → awaited_by (item_at n t.items) ≡ Some x → before ≡ count (waits_for e) t.items → after ≡ before - one_if (eqb x e) → after + one_if (passes (waits_for e) (item_at n t.items)) ≡ before
-fewer-awaited e x n before after t is a b c =
-    let counted = count-without (waits_for e) n 0 t.items is.rising in
-    let same = ap one_if (passes-awaited e x (item_at n t.items) a) in
+-- the exchange that one waits for is its key
+key-waits : (e : ℕ) (o : Option Waiter) → is_key e (key_at awaited_of o) ≡ passes (waits_for e) o
+key-waits e None = refl
+key-waits e (Some w) = go w.state
+  where
+    go : (s : WaiterState) → is_key e (exchange_of s) ≡ waits_in_state e s
+    go (Waiting n) = turned e n
+    go (Delivering bytes id timer) = refl
+
+-- the index counts one less for what one waited for, and one more for what it waits for then
+abbrev pub HaveCounted : List Pair → List Pair → Option Waiter → Option Waiter → Type 0
+HaveCounted old new was is = (e : ℕ) → many_of e new + one_if (is_key e (key_at awaited_of was)) ≡ many_of e old + one_if (is_key e (key_at awaited_of is))
+
+-- so it counts those of the other table
+counted-step : (xs ys : List (Numbered Waiter)) (old new : List Pair) (was is : Option Waiter) → AreTallied xs old → HaveCounted old new was is → ((e : ℕ) → count (waits_for e) ys + one_if (passes (waits_for e) was) ≡ count (waits_for e) xs + one_if (passes (waits_for e) is)) → AreTallied ys new
+counted-step xs ys old new was is are have counted = λ e.
+    let gone = ap one_if (key-waits e was) in
+    let come = ap one_if (key-waits e is) in
+    let before = are e in
+    let moved = have e in
+    let all = counted e in
     omega arith
 
 -- one more waits
-pub tallied-push : {S : Type 0} (xs : List (Numbered Waiter)) (old new : IndexMap ℕ ℕ S) (x : ℕ) (w : Numbered Waiter) → w.1.state ≡ Waiting x → AreTallied xs old → ((e : ℕ) → tally new e ≡ tally old e + one_if (eqb x e)) → AreTallied (xs ++ w ∷ []) new
-tallied-push xs old new x w s are more = λ e.
-    let counted = count-push (waits_for e) xs w in
-    let one : waits_for e w.1 ≡ eqb x e = rw s refl in
-    let same = ap one_if one in
-    let was = are e in
-    let now = more e in
-    omega arith
+pub tallied-push : (xs : List (Numbered Waiter)) (old new : List Pair) (w : Numbered Waiter) → AreTallied xs old → HaveCounted old new None (Some w.1) → AreTallied (xs ++ w ∷ []) new
+tallied-push xs old new w are have = counted-step xs (xs ++ w ∷ []) old new None (Some w.1) are have (λ e. let counted = count-push (waits_for e) xs w in omega arith)
 
 -- one is taken out
-pub tallied-without : {S : Type 0} (n : ℕ) (t : Table Waiter) (old new : IndexMap ℕ ℕ S) → IsTable t → AreTallied t.items old → ((e : ℕ) → tally new e + one_if (passes (waits_for e) (item_at n t.items)) ≡ tally old e) → AreTallied (without n t.items) new
-tallied-without n t old new is are fewer = λ e.
-    let counted = count-without (waits_for e) n 0 t.items is.rising in
-    let was = are e in
-    let now = fewer e in
-    omega arith
+pub tallied-without : (n : ℕ) (t : Table Waiter) (old new : List Pair) → IsTable t → AreTallied t.items old → HaveCounted old new (item_at n t.items) None → AreTallied (without n t.items) new
+tallied-without n t old new is are have = counted-step t.items (without n t.items) old new (item_at n t.items) None are have (λ e. let counted = count-without (waits_for e) n 0 t.items is.rising in omega arith)
 
 -- the last is withdrawn
-pub tallied-withdrawn : {S : Type 0} (t : Table Waiter) (old new : IndexMap ℕ ℕ S) → IsTable t → AreTallied t.items old → ((e : ℕ) → tally new e + one_if (passes (waits_for e) (item_at t.admitted t.items)) ≡ tally old e) → AreTallied (withdrawn t).items new
-tallied-withdrawn t old new is are fewer = λ e.
-    let counted = count-withdrawn (waits_for e) t is in
-    let was = are e in
-    let now = fewer e in
-    omega arith
+pub tallied-withdrawn : (t : Table Waiter) (old new : List Pair) → IsTable t → AreTallied t.items old → HaveCounted old new (item_at t.admitted t.items) None → AreTallied (withdrawn t).items new
+tallied-withdrawn t old new is are have = counted-step t.items (withdrawn t).items old new (item_at t.admitted t.items) None are have (λ e. let counted = count-withdrawn (waits_for e) t is in omega arith)
 
 -- who is served waits no more
 delivered-for : (e : ℕ) (bytes : List ℕ) (id : ℕ) (timer : Timer) (o : Option Waiter) → IfSome o (λ w. waits_for e (delivered bytes id timer w) ≡ false)
@@ -84,12 +98,15 @@ delivered-for e bytes id timer None = tt
 delivered-for e bytes id timer (Some w) = refl
 
 -- one is sent the response
-pub tallied-delivered : {S : Type 0} (n : ℕ) (bytes : List ℕ) (id : ℕ) (timer : Timer) (t : Table Waiter) (old new : IndexMap ℕ ℕ S) → IsTable t → AreTallied t.items old → ((e : ℕ) → tally new e + one_if (passes (waits_for e) (item_at n t.items)) ≡ tally old e) → AreTallied (changed_at n (delivered bytes id timer) t.items) new
-tallied-delivered n bytes id timer t old new is are fewer = λ e.
+pub tallied-delivered : (n : ℕ) (bytes : List ℕ) (id : ℕ) (timer : Timer) (t : Table Waiter) (old new : List Pair) → IsTable t → AreTallied t.items old → HaveCounted old new (item_at n t.items) (option_map (delivered bytes id timer) (item_at n t.items)) → AreTallied (changed_at n (delivered bytes id timer) t.items) new
+tallied-delivered n bytes id timer t old new is are have = counted-step t.items (changed_at n (delivered bytes id timer) t.items) old new (item_at n t.items) (option_map (delivered bytes id timer) (item_at n t.items)) are have (λ e.
     let counted = count-changed_at (waits_for e) n 0 (delivered bytes id timer) t.items is.rising (delivered-for e bytes id timer (item_at n t.items)) in
-    let was = are e in
-    let now = fewer e in
-    omega arith
+    let none = ap one_if (off e (item_at n t.items)) in
+    omega arith)
+  where
+    off : (e : ℕ) (o : Option Waiter) → passes (waits_for e) (option_map (delivered bytes id timer) o) ≡ false
+    off e None = refl
+    off e (Some w) = refl
 
 -- a firing leaves for what one waits
 fired-for : (e now : ℕ) (w : Waiter) → waits_for e (fired_waiter now w) ≡ waits_for e w
@@ -100,8 +117,15 @@ fired-for e now w = go w.state
     go (Delivering bytes id timer) = refl
 
 -- a timer is due
-pub tallied-fired : {S : Type 0} (n now : ℕ) (xs : List (Numbered Waiter)) (counts : IndexMap ℕ ℕ S) → AreTallied xs counts → AreTallied (changed_at n (fired_waiter now) xs) counts
-tallied-fired n now xs counts are = λ e. are e ∙ sym (count-kept (waits_for e) n (fired_waiter now) xs (fired-for e now))
+pub tallied-fired : (n now : ℕ) (xs : List (Numbered Waiter)) (old new : List Pair) → AreTallied xs old → HaveCounted old new (item_at n xs) (option_map (fired_waiter now) (item_at n xs)) → AreTallied (changed_at n (fired_waiter now) xs) new
+tallied-fired n now xs old new are have = counted-step xs (changed_at n (fired_waiter now) xs) old new (item_at n xs) (option_map (fired_waiter now) (item_at n xs)) are have (λ e.
+    let counted = count-kept (waits_for e) n (fired_waiter now) xs (fired-for e now) in
+    let same = ap one_if (stays e (item_at n xs)) in
+    omega arith)
+  where
+    stays : (e : ℕ) (o : Option Waiter) → passes (waits_for e) (option_map (fired_waiter now) o) ≡ passes (waits_for e) o
+    stays e None = refl
+    stays e (Some w) = fired-for e now w
 
 -- ---- timeouts are no longer than they come to be
 

@@ -3,8 +3,8 @@ use Rattle.std.specs.Prelude.{◌≡◌, ℕ, ◌<◌, ◌≤◌, true, false, L
 use Rattle.coap_exchange.specs.declared.exchange.Exchange.{Exchange}
 use Rattle.coap_exchange.specs.declared.waiter.Waiter.{Waiter}
 use Rattle.coap_exchange.specs.Exchanges.{answer_in}
-use Rattle.coap_exchange.specs.Index.{owner_at}
-use Rattle.coap_exchange.specs.Roll.{Pair, is_owner}
+use Rattle.coap_exchange.specs.Index.{key_at}
+use Rattle.ordered_index.specs.Ordered.{Pair, is_key}
 use Rattle.coap_exchange.specs.Table.{Numbered, item_at}
 use Rattle.coap_exchange.specs.Waiters.{exchange_of, moment_of}
 
@@ -24,11 +24,11 @@ IsFirstGot exchanges (Some moment) = (e at : ℕ) → got_in e exchanges ≡ Som
 -- the least number greater than `after` of an exchange whose answer came at this moment
 abbrev pub IsNextGot : ℕ → ℕ → List (Numbered Exchange) → Option ℕ → Type 0
 IsNextGot moment after exchanges None =
-    (e : ℕ) → after < e → is_owner moment (got_in e exchanges) ≡ false
+    (e : ℕ) → after < e → is_key moment (got_in e exchanges) ≡ false
 IsNextGot moment after exchanges (Some m) =
     (after < m)
-    × (is_owner moment (got_in m exchanges) ≡ true)
-    × ((e : ℕ) → after < e → is_owner moment (got_in e exchanges) ≡ true → m ≤ e)
+    × (is_key moment (got_in m exchanges) ≡ true)
+    × ((e : ℕ) → after < e → is_key moment (got_in e exchanges) ≡ true → m ≤ e)
 
 -- what is due at a moment under a number
 abbrev pub due_at : ℕ → Option ℕ → Option Pair
@@ -40,7 +40,7 @@ abbrev pub IsGotUpTo :
     List (Numbered Exchange) → ℕ → List (Numbered Waiter) → ℕ → Option Pair → Type 0
 IsGotUpTo exchanges moment waiters last x =
     (n e : ℕ)
-    × (owner_at awaited_of (item_at n waiters) ≡ Some e)
+    × (key_at awaited_of (item_at n waiters) ≡ Some e)
     × (got_in e exchanges ≡ Some moment)
     × (e ≤ last)
     × (x ≡ Some (moment, n))
@@ -49,6 +49,6 @@ IsGotUpTo exchanges moment waiters last x =
 abbrev pub IsGotAt : List (Numbered Exchange) → ℕ → List (Numbered Waiter) → Option Pair → Type 0
 IsGotAt exchanges moment waiters x =
     (n e : ℕ)
-    × (owner_at awaited_of (item_at n waiters) ≡ Some e)
+    × (key_at awaited_of (item_at n waiters) ≡ Some e)
     × (got_in e exchanges ≡ Some moment)
     × (x ≡ Some (moment, n))

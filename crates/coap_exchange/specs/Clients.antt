@@ -1,11 +1,10 @@
 -- How many items of a table each client has: exchanges that it opened, or requests that wait.
 use Rattle.std.specs.Prelude.{◌≡◌, ℕ, ◌≤◌, Bool, true, List, Option, Some, None}
-use Rattle.std.specs.BTreeMap.{BTreeMap, get}
 use Rattle.coap_endpoint.specs.declared.endpoint.Endpoint.{Endpoint}
-use Rattle.coap_exchange.specs.Lines.{one_if_at}
-use Rattle.coap_exchange.specs.Peers.{peer_cmp}
+use Rattle.coap_exchange.specs.Endpoints.{one_if_at, open_of}
+use Rattle.coap_exchange.specs.declared.slots.Entry.{Entry}
+use Rattle.coap_exchange.specs.Slots.{found}
 use Rattle.coap_exchange.specs.Table.{Numbered, Table, count}
-use Rattle.coap_exchange.specs.Tally.{count_or_none}
 
 -- no client has more items of a table than one client may have, given a function for whether an
 -- item is a client's
@@ -16,11 +15,11 @@ AreWithin is_whose t = (client : Endpoint) → count (is_whose client) t.items �
 
 -- items by client
 abbrev pub Clients : Type 0
-Clients = BTreeMap Endpoint ℕ
+Clients = Table Entry
 
 -- the count of a client: zero if it has no entry
 abbrev pub count_of : Clients → Endpoint → ℕ
-count_of counts client = count_or_none (get peer_cmp counts client)
+count_of counts client = open_of (found client counts.items)
 
 -- the count of each client is the number of its items
 abbrev pub AreOfClients :

@@ -1,11 +1,9 @@
 -- What is due: a moment, with the number of the item that is due then; and which item is due first.
-use Rattle.std.specs.Prelude.{ℕ, ◌==◌, ◌&&◌, ◌||◌, Bool, nat_lt, if◌then◌else◌, List, [], ◌∷◌, map, Option, Some, None}
+use Rattle.std.specs.Prelude.{ℕ, if◌then◌else◌, List, [], ◌∷◌, map, Option, Some, None}
 use Rattle.coap_exchange.specs.Table.{Numbered}
+use Rattle.ordered_index.specs.Ordered.{is_before}
 
--- a is due before b: earlier, or at the same moment with a lower number
-abbrev pub is_before : ℕ × ℕ → ℕ × ℕ → Bool
-is_before a b = nat_lt a.0 b.0 || (a.0 == b.0 && nat_lt a.1 b.1)
-
+-- the sooner of two: earlier, or at the same moment with a lower number
 abbrev pub sooner_of : ℕ × ℕ → ℕ × ℕ → ℕ × ℕ
 sooner_of a b = if is_before b a then b else a
 

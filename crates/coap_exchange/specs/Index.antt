@@ -4,40 +4,40 @@ use Rattle.std.specs.Option.{is_some}
 use Rattle.coap_exchange.specs.declared.exchange.Exchange.{Exchange}
 use Rattle.coap_exchange.specs.declared.exchange.Sending.{Sending}
 use Rattle.coap_exchange.specs.declared.index.Index.{Index}
-use Rattle.coap_exchange.specs.declared.index.Owners.{Owners}
+use Rattle.coap_exchange.specs.declared.index.ExchangeKeys.{ExchangeKeys}
 use Rattle.coap_exchange.specs.declared.index.Sought.{Sought}
 use Rattle.coap_exchange.specs.declared.index.Sought.TheVariants.{SentAs, Joinable, Queued}
 use Rattle.coap_exchange.specs.Digests.{digest_of_endpoint, digest_of_key, digest_of_target}
 use Rattle.coap_exchange.specs.Exchanges.{answer_at, is_acked, is_blocked, is_done, is_joinable, is_missing, is_queued, is_sent, was_sent_as}
-use Rattle.coap_exchange.specs.Lines.{is_queued_to}
-use Rattle.coap_exchange.specs.Roll.{Pair, Roll, is_in, is_owner, one_of, IsOwnerIn, IsPassed}
+use Rattle.coap_exchange.specs.Endpoints.{is_queued_to}
+use Rattle.ordered_index.specs.Ordered.{Pair, OrderedIndex, is_in, is_key, one_of, IsKeyIn, IsRekeyed}
 use Rattle.coap_exchange.specs.Table.{Numbered, IsRising, count, item_at, passes}
 use Rattle.coap_exchange.specs.Waiters.{moment_of}
 
 -- ---- a roll next to a table
 
-abbrev pub owner_at : {A : Type 0} → (A → Option ℕ) → Option A → Option ℕ
-owner_at owner_of None = None
-owner_at owner_of (Some a) = owner_of a
+abbrev pub key_at : {A : Type 0} → (A → Option ℕ) → Option A → Option ℕ
+key_at key_of None = None
+key_at key_of (Some a) = key_of a
 
--- the roll pairs each item's number with the item's owner, if it has one
-pub record IsRollOf {A : Type 0} (owner_of : A → Option ℕ) (items : List (Numbered A)) (most : ℕ)
-    (roll : Roll)
+-- the roll pairs each item's number with the item's key, if it has one
+pub record IsIndexOf {A : Type 0} (key_of : A → Option ℕ) (items : List (Numbered A)) (most : ℕ)
+    (roll : OrderedIndex)
     : Type 0 where
   pub members :
-      (o n : ℕ) → is_in (o, n) roll.pairs ≡ is_owner o (owner_at owner_of (item_at n items))
-  pub length : length roll.pairs ≡ count (λ a. is_some (owner_of a)) items
+      (o n : ℕ) → is_in (o, n) roll.pairs ≡ is_key o (key_at key_of (item_at n items))
+  pub length : length roll.pairs ≡ count (λ a. is_some (key_of a)) items
   pub limit : roll.limit ≡ most
 
--- a number can pass to another owner, and has passed to it
-pub record CanPass (roll : Roll) (number : ℕ) (was is : Option ℕ) : Type 0 where
-  pub owner : IsOwnerIn roll.pairs number was
+-- a number can pass to another key, and has passed to it
+pub record CanRekey (roll : OrderedIndex) (number : ℕ) (was is : Option ℕ) : Type 0 where
+  pub key : IsKeyIn roll.pairs number was
   pub room : length roll.pairs + one_of is ≤ roll.limit + one_of was
 
-pub record HasPassed (old new : Roll) (number : ℕ) (was is : Option ℕ) : Type 0 where
+pub record HasRekeyed (old new : OrderedIndex) (number : ℕ) (was is : Option ℕ) : Type 0 where
   pub limit : new.limit ≡ old.limit
   pub length : length new.pairs + one_of was ≡ length old.pairs + one_of is
-  pub passed : IsPassed old.pairs new.pairs number is
+  pub rekeyed : IsRekeyed old.pairs new.pairs number is
 
 -- ---- what an exchange is looked up by
 
@@ -70,8 +70,8 @@ abbrev pub queue_of : Exchange → Option ℕ
 queue_of x = if is_queued x then Some (digest_of_endpoint x.key.target.at) else None
 
 -- the digest of the cache key of a GET, until it is tainted or its answer has come
-abbrev pub key_of : Exchange → Option ℕ
-key_of x =
+abbrev pub cache_key_of : Exchange → Option ℕ
+cache_key_of x =
     if x.is_get && (not x.tainted && is_missing (answer_at x)) then Some (digest_of_key x.key)
     else None
 
@@ -81,45 +81,45 @@ target_of x =
     if not x.tainted && (is_sent x || is_acked x) then Some (digest_of_target x.key.target)
     else None
 
-abbrev pub owners_at : Option Exchange → Owners
-owners_at found =
+abbrev pub keys_at : Option Exchange → ExchangeKeys
+keys_at found =
     record {
-      id = owner_at id_of found;
-      got = owner_at got_of found;
-      opening = owner_at opening_of found;
-      end = owner_at end_of found;
-      queue = owner_at queue_of found;
-      key = owner_at key_of found;
-      target = owner_at target_of found;
+      id = key_at id_of found;
+      got = key_at got_of found;
+      opening = key_at opening_of found;
+      end = key_at end_of found;
+      queue = key_at queue_of found;
+      cache_key = key_at cache_key_of found;
+      target = key_at target_of found;
     }
 
 pub record AreIndexed (items : List (Numbered Exchange)) (limit : ℕ) (index : Index) : Type 0 where
   pub rising : IsRising 0 items
-  pub ids : IsRollOf id_of items limit index.ids
-  pub dones : IsRollOf got_of items limit index.dones
-  pub openings : IsRollOf opening_of items limit index.openings
-  pub ends : IsRollOf end_of items limit index.ends
-  pub queues : IsRollOf queue_of items limit index.queues
-  pub keys : IsRollOf key_of items limit index.keys
-  pub targets : IsRollOf target_of items limit index.targets
+  pub ids : IsIndexOf id_of items limit index.ids
+  pub dones : IsIndexOf got_of items limit index.dones
+  pub openings : IsIndexOf opening_of items limit index.openings
+  pub ends : IsIndexOf end_of items limit index.ends
+  pub queues : IsIndexOf queue_of items limit index.queues
+  pub cache_keys : IsIndexOf cache_key_of items limit index.cache_keys
+  pub targets : IsIndexOf target_of items limit index.targets
 
-pub record CanPassAll (index : Index) (number : ℕ) (was is : Owners) : Type 0 where
-  pub ids : CanPass index.ids number was.id is.id
-  pub dones : CanPass index.dones number was.got is.got
-  pub openings : CanPass index.openings number was.opening is.opening
-  pub ends : CanPass index.ends number was.end is.end
-  pub queues : CanPass index.queues number was.queue is.queue
-  pub keys : CanPass index.keys number was.key is.key
-  pub targets : CanPass index.targets number was.target is.target
+pub record CanRekeyAll (index : Index) (number : ℕ) (was is : ExchangeKeys) : Type 0 where
+  pub ids : CanRekey index.ids number was.id is.id
+  pub dones : CanRekey index.dones number was.got is.got
+  pub openings : CanRekey index.openings number was.opening is.opening
+  pub ends : CanRekey index.ends number was.end is.end
+  pub queues : CanRekey index.queues number was.queue is.queue
+  pub cache_keys : CanRekey index.cache_keys number was.cache_key is.cache_key
+  pub targets : CanRekey index.targets number was.target is.target
 
-pub record HavePassed (old new : Index) (number : ℕ) (was is : Owners) : Type 0 where
-  pub ids : HasPassed old.ids new.ids number was.id is.id
-  pub dones : HasPassed old.dones new.dones number was.got is.got
-  pub openings : HasPassed old.openings new.openings number was.opening is.opening
-  pub ends : HasPassed old.ends new.ends number was.end is.end
-  pub queues : HasPassed old.queues new.queues number was.queue is.queue
-  pub keys : HasPassed old.keys new.keys number was.key is.key
-  pub targets : HasPassed old.targets new.targets number was.target is.target
+pub record HaveRekeyed (old new : Index) (number : ℕ) (was is : ExchangeKeys) : Type 0 where
+  pub ids : HasRekeyed old.ids new.ids number was.id is.id
+  pub dones : HasRekeyed old.dones new.dones number was.got is.got
+  pub openings : HasRekeyed old.openings new.openings number was.opening is.opening
+  pub ends : HasRekeyed old.ends new.ends number was.end is.end
+  pub queues : HasRekeyed old.queues new.queues number was.queue is.queue
+  pub cache_keys : HasRekeyed old.cache_keys new.cache_keys number was.cache_key is.cache_key
+  pub targets : HasRekeyed old.targets new.targets number was.target is.target
 
 -- ---- what is looked for
 
@@ -128,10 +128,10 @@ is_met (SentAs at id now) = was_sent_as at id now
 is_met (Joinable key) = is_joinable key.now
 is_met (Queued at) = is_queued_to at
 
--- the roll has the numbers of the items that pass, under this owner
+-- the roll has the numbers of the items that pass, under this key
 abbrev pub AreListed : {A : Type 0} → (A → Bool) → ℕ → List (Numbered A) → List Pair → Type 0
-AreListed test owner items pairs =
-    (n : ℕ) → passes test (item_at n items) ≡ true → is_in (owner, n) pairs ≡ true
+AreListed test key items pairs =
+    (n : ℕ) → passes test (item_at n items) ≡ true → is_in (key, n) pairs ≡ true
 
 -- ---- what is due
 

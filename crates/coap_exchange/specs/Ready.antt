@@ -3,7 +3,7 @@ use Rattle.std.specs.Prelude.{◌≡◌, ℕ, true, Option, Some, None}
 use Rattle.coap_exchange.specs.declared.exchange.Exchange.{Exchange}
 use Rattle.coap_exchange.specs.declared.waiter.Waiter.{Waiter}
 use Rattle.coap_exchange.specs.Answered.{due_at, got_in}
-use Rattle.coap_exchange.specs.Roll.{Pair, Roll, is_in}
+use Rattle.ordered_index.specs.Ordered.{Pair, OrderedIndex, is_in}
 use Rattle.coap_exchange.specs.Table.{Table, first_that}
 use Rattle.coap_exchange.specs.Waiters.{waits_for}
 
@@ -28,7 +28,7 @@ ready_in t None = None
 ready_in t (Some number) = ready_at t number
 
 -- the roll holds that of each exchange, and nothing else
-pub record AreReady (t : Tables) (roll : Roll) : Type 0 where
+pub record AreReady (t : Tables) (roll : OrderedIndex) : Type 0 where
   pub only : (p : Pair) → is_in p roll.pairs ≡ true → (e : ℕ) × (ready_at t e ≡ Some p)
   pub all : (e : ℕ) (p : Pair) → ready_at t e ≡ Some p → is_in p roll.pairs ≡ true
   pub limit : roll.limit ≡ t.waiters.limit

@@ -29,7 +29,7 @@ pub(crate) fn digest_of_endpoint(at: &Endpoint) -> u64
     }
 }
 
-/// The digest of a cache key. Equal keys have equal digests.
+/// The digest of a cache key. Equal cache_keys have equal digests.
 pub(crate) fn digest_of_key(key: &CacheKey) -> u64
     ensures exact { result ≡ digest_of_key key.now }
 {

@@ -1,15 +1,10 @@
 //! What is due: the moment from which on an item is due, in milliseconds, and the item's number in
 //! its table.
 ghost use Rattle.std.specs.Prelude.{◌≡◌, ◌≤◌, ◌^◌, IfSome};
-ghost use Rattle.coap_exchange.specs.Due.{as_due, is_before, sooner};
+ghost use Rattle.coap_exchange.specs.Due.{as_due, sooner};
 ghost use Rattle.coap_exchange.specs.Index.{later};
 
-/// Whether `a` is due before `b`: earlier, or at the same moment with a lower number.
-pub(crate) fn is_before(a: (u64, u64), b: (u64, u64)) -> bool
-    ensures exact { result ≡ is_before a b }
-{
-    a.0 < b.0 || (a.0 == b.0 && a.1 < b.1)
-}
+use ordered_index::is_before;
 
 /// Pairs a number with the moment when its item is due, if it is due at all.
 pub(crate) fn due_under(number: u64, at: Option<u64>) -> Option<(u64, u64)>

@@ -2,17 +2,13 @@
 ghost use Rattle.std.specs.Prelude.{◌≡◌, ◌≤◌, ◌^◌};
 ghost use Rattle.std.specs.Option.{option_copied};
 ghost use Rattle.coap_exchange.specs.Exchanges.{answer_at, changed_by, fire_of_sending, fired_exchange, is_as, is_acked, is_changed_with, is_joinable, is_queued, is_sent, opened, tainted_by, was_sent_as, CanChange, CanFire};
-ghost use Rattle.coap_exchange.specs.Lines.{is_queued_to, sends};
+ghost use Rattle.coap_exchange.specs.Endpoints.{is_queued_to, sends};
 
-use crate::lines::Stage;
+use crate::endpoints::Stage;
 use crate::timer::{Fire, Timer};
 use coap_endpoint::{Endpoint, Target};
-use coap_message::{Seq, set_id};
+use coap_message::{EXCHANGE_LIFETIME, Seq, set_id};
 use coap_store::{Answer, CacheKey, Stored};
-
-/// How long a Message ID isn't reused after it was given, in milliseconds (EXCHANGE_LIFETIME; RFC
-/// 7252, 4.8.2).
-pub(crate) const LIFETIME: u64 = 247_000;
 
 /// How a request was sent.
 #[derive(Clone, Copy)]
@@ -29,7 +25,7 @@ impl Sending {
     pub fn is_as(&self, id: u16, now: u64) -> bool
         ensures exact { result ≡ is_as id now self.now }
     {
-        self.id == id && now.saturating_sub(self.timer.started) < LIFETIME
+        self.id == id && now.saturating_sub(self.timer.started) < EXCHANGE_LIFETIME
     }
 }
 

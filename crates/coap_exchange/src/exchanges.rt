@@ -9,42 +9,42 @@ ghost use Rattle.coap_exchange.specs.declared.table.AdmitError.TheVariants.{Clie
 ghost use Rattle.coap_exchange.specs.Clients.{count_of, AreWithin};
 ghost use Rattle.coap_exchange.specs.Due.{due_row, first_due};
 ghost use Rattle.coap_exchange.specs.Exchanges.{acked, answer_in, answered, changed_by, due_among, fire_at, fired_exchange, is_acked, is_done, is_joinable, is_opened_by, is_queued, is_sent, is_sent_to, is_timely, opened, sent, tainted_by, was_sent_as, AreTimely, CanChange, IsDue, IsFireDue};
-ghost use Rattle.coap_exchange.specs.Index.{owners_at, turn_among, AreIndexed};
-ghost use Rattle.coap_exchange.specs.Lines.{is_queued_to, is_with, one_if_at, open_in, queued_in, sent_in, AreLined};
+ghost use Rattle.coap_exchange.specs.Index.{keys_at, turn_among, AreIndexed};
+ghost use Rattle.coap_exchange.specs.Endpoints.{is_queued_to, is_with, one_if_at, open_in, queued_in, sent_in, AreCounted};
 ghost use Rattle.coap_exchange.specs.Table.{empty_table, item_at, admitted_to, without, withdrawn, changed_at, all_changed, count, first_that, passes, IsTable};
-ghost use Rattle.coap_exchange.specs.Turns.{AreTurns};
+ghost use Rattle.coap_exchange.specs.SendQueue.{IsSendQueue};
 
-use crate::by_client::{Clients, count_of, depart, enter};
+use crate::by_client::{count_of, depart, enter};
 use crate::digests::{digest_of_key, digest_of_target};
 use crate::due::{later, sooner};
+use crate::endpoint_map::EndpointMap;
+use crate::endpoints::{Stage, close_one, counts_at, lowered, move_one, open_one};
 use crate::exchange::{Change, Exchange, Sending};
-use crate::index::{Index, Owners, Sought, first_sought, owners_at, owners_in, owners_of};
-use crate::lines::{Line, Stage, close_one, has_turn, line_to, lowered, move_one, open_one};
-use crate::listed::{Listed, client_of};
+use crate::index::{ExchangeKeys, Index, Sought, first_sought, keys_at, keys_in, keys_of};
+use crate::indexed_exchange::{IndexedExchange, client_of};
 use crate::peer::Peer;
+use crate::send_queue::{SendQueue, head_of, peer_of};
 use crate::table::{AdmitError, Items, Table};
 use crate::timer::Fire;
-use crate::turns::{Turns, head_of, peer_of};
 use coap_endpoint::{Endpoint, Target};
 use coap_message::{OutOfMemory, Seq};
 use coap_store::{Answer, CacheKey, Stored};
 use std::alloc::Global;
-use std::collections::BTreeMap;
 use std::marker::Model;
 
 /// Exchanges in order of number. A contract sees the table. Only `new` and `admit` allocate.
 pub struct Exchanges {
-    table: Table<Listed>,
+    table: Table<IndexedExchange>,
     /// The number of exchanges that are still to be sent.
     queued: usize,
     /// The number of exchanges with each endpoint.
-    lines: BTreeMap<Peer, Line>,
+    endpoints: EndpointMap,
     /// The number of exchanges that each client opened.
-    clients: Clients,
+    clients: EndpointMap,
     /// What they are looked up by.
     index: Index,
     /// Whose turn it is.
-    turns: Turns,
+    send_queue: SendQueue,
 }
 
 impl Drop for Exchanges {
@@ -52,22 +52,23 @@ impl Drop for Exchanges {
         let Exchanges {
             table: _,
             queued: _,
-            lines: _,
+            endpoints: _,
             clients: _,
             index: _,
-            turns: _,
+            send_queue: _,
         } = self;
     }
 }
 
 impl Model for Exchanges {
+    ghost use Rattle.std.specs.Prelude.{◌≡◌};
     ghost use Rattle.coap_exchange.specs.declared.exchange.Exchange.{Exchange};
     ghost use Rattle.coap_exchange.specs.Clients.{AreOfClients, AreWithin};
     ghost use Rattle.coap_exchange.specs.Exchanges.{AreExchanges, is_opened_by};
     ghost use Rattle.coap_exchange.specs.Index.{AreIndexed};
-    ghost use Rattle.coap_exchange.specs.Lines.{AreLined};
+    ghost use Rattle.coap_exchange.specs.Endpoints.{AreCounted, HaveRoom};
     ghost use Rattle.coap_exchange.specs.Table.{Table};
-    ghost use Rattle.coap_exchange.specs.Turns.{AreTurns};
+    ghost use Rattle.coap_exchange.specs.SendQueue.{IsSendQueue};
 
     ghost Value = { Table Exchange };
 
@@ -75,11 +76,12 @@ impl Model for Exchanges {
 
     ghost invariant = { λ e.
         AreExchanges e.table.items e.queued
-        × AreLined e.table.items e.lines
+        × AreCounted e.table.items e.endpoints
         × AreIndexed e.table.items e.table.limit e.index
-        × AreTurns e.table.items e.turns
+        × IsSendQueue e.table.items e.send_queue
         × AreOfClients is_opened_by e.table.items e.clients
-        × AreWithin is_opened_by e.table };
+        × AreWithin is_opened_by e.table
+        × HaveRoom e.table.limit e.send_queue.heads e.endpoints e.clients };
 }
 
 impl Exchanges {
@@ -108,14 +110,14 @@ impl Exchanges {
     {
         let table = Table::new(alloc, limit, per_client, seed)?;
         let index = Index::new(alloc, limit)?;
-        let turns = Turns::new(alloc)?;
+        let send_queue = SendQueue::new(alloc, limit)?;
         Ok(Exchanges {
             table,
             queued: 0,
-            lines: BTreeMap::new(alloc),
-            clients: BTreeMap::new(alloc),
+            endpoints: EndpointMap::new(alloc, limit)?,
+            clients: EndpointMap::new(alloc, limit)?,
             index,
-            turns,
+            send_queue,
         })
     }
 
@@ -192,7 +194,12 @@ impl Exchanges {
         ensures exact { result ≡ first_that (is_joinable key.now) self.now.items }
     {
         let sought = Sought::Joinable(key);
-        first_sought(&self.table, &self.index.keys, digest_of_key(key), &sought)
+        first_sought(
+            &self.table,
+            &self.index.cache_keys,
+            digest_of_key(key),
+            &sought,
+        )
     }
 
     /// The number of the exchange whose request was sent to the endpoint `at` with Message ID `id`,
@@ -222,7 +229,13 @@ impl Exchanges {
     {
         let deadline = later(self.index.openings.first(), exchange_ms);
         let end = self.index.ends.first();
-        let turn = first_turn(&self.table, &self.lines, self.queued, &self.turns, nstart);
+        let turn = first_turn(
+            &self.table,
+            &self.endpoints,
+            self.queued,
+            &self.send_queue,
+            nstart,
+        );
         sooner(deadline, sooner(end, turn))
     }
 
@@ -267,27 +280,26 @@ impl Exchanges {
             return Err(AdmitError::ClientFull);
         }
         let exchange = Exchange::opened(client, key, is_get, form, copy, now);
-        let listed = Listed::new(exchange, opener);
+        let listed = IndexedExchange::new(exchange, opener);
         let at = listed.peer();
-        let head = head_of(&self.table, &self.index, &self.lines, &Some(at));
-        let Ok(()) = self.turns.heads.make_room() else {
-            return Err(AdmitError::OutOfMemory);
-        };
-        let Ok(()) = open_for(&mut self.lines, &mut self.clients, at, opener) else {
-            return Err(AdmitError::OutOfMemory);
-        };
-        let (was, is) = (owners_in(None), owners_of(&listed));
+        self.send_queue.heads.rises();
+        self.endpoints.holds();
+        self.clients.holds();
+        let head = head_of(&self.table, &self.index, &self.endpoints, &Some(at));
+        open_one(&mut self.endpoints, at);
+        enter(&mut self.clients, opener);
+        let (was, is) = (keys_in(None), keys_of(&listed));
         match self.table.admit(listed) {
             Ok(number) => {
                 self.queued += 1;
-                self.index.pass(number, was, is);
-                let next = head_of(&self.table, &self.index, &self.lines, &Some(at));
-                self.turns.heads.replace(head, next);
-                self.turns.note(now);
+                self.index.rekey(number, was, is);
+                let next = head_of(&self.table, &self.index, &self.endpoints, &Some(at));
+                self.send_queue.heads.replace(head, next);
+                self.send_queue.note(now);
                 Ok(number)
             }
             Err(error) => {
-                close_one(&mut self.lines, at, Stage::QUEUED);
+                close_one(&mut self.endpoints, at, Stage::QUEUED);
                 depart(&mut self.clients, Some(opener));
                 Err(error)
             }
@@ -306,16 +318,16 @@ impl Exchanges {
         let number = self.table.admitted();
         let found = self.table.get(number);
         let at = peer_of(found);
-        let head = head_of(&self.table, &self.index, &self.lines, &at);
+        let head = head_of(&self.table, &self.index, &self.endpoints, &at);
         let queued = queued_without(self.queued, &self.table, number, found);
-        leave(&mut self.lines, &self.table, number, found);
+        leave(&mut self.endpoints, &self.table, number, found);
         depart(&mut self.clients, client_of(found));
-        let was = owners_in(found);
+        let was = keys_in(found);
         self.queued = queued;
         self.table.withdraw();
-        self.index.pass(number, was, owners_in(None));
-        let next = head_of(&self.table, &self.index, &self.lines, &at);
-        self.turns.heads.replace(head, next);
+        self.index.rekey(number, was, keys_in(None));
+        let next = head_of(&self.table, &self.index, &self.endpoints, &at);
+        self.send_queue.heads.replace(head, next);
     }
 
     /// Removes the exchange numbered `number`, if there is one.
@@ -324,16 +336,16 @@ impl Exchanges {
     {
         let found = self.table.get(number);
         let at = peer_of(found);
-        let head = head_of(&self.table, &self.index, &self.lines, &at);
+        let head = head_of(&self.table, &self.index, &self.endpoints, &at);
         let queued = queued_without(self.queued, &self.table, number, found);
-        leave(&mut self.lines, &self.table, number, found);
+        leave(&mut self.endpoints, &self.table, number, found);
         depart(&mut self.clients, client_of(found));
-        let was = owners_in(found);
+        let was = keys_in(found);
         self.queued = queued;
         self.table.close(number);
-        self.index.pass(number, was, owners_in(None));
-        let next = head_of(&self.table, &self.index, &self.lines, &at);
-        self.turns.heads.replace(head, next);
+        self.index.rekey(number, was, keys_in(None));
+        let next = head_of(&self.table, &self.index, &self.endpoints, &at);
+        self.send_queue.heads.replace(head, next);
     }
 
     /// Marks the request of the exchange numbered `number`, which was waiting for its turn, as
@@ -403,64 +415,27 @@ impl Exchanges {
     {
         let found = self.table.get(number);
         let at = peer_of(found);
-        let head = head_of(&self.table, &self.index, &self.lines, &at);
+        let head = head_of(&self.table, &self.index, &self.endpoints, &at);
         let queued = queued_without(self.queued, &self.table, number, found);
-        recount(&mut self.lines, &self.table, number, found, &change);
-        let was = owners_in(found);
+        recount(&mut self.endpoints, &self.table, number, found, &change);
+        let was = keys_in(found);
         self.queued = queued;
         let is = self.table.change(number, change);
-        self.index.pass(number, was, is);
-        let next = head_of(&self.table, &self.index, &self.lines, &at);
-        self.turns.heads.replace(head, next);
+        self.index.rekey(number, was, is);
+        let next = head_of(&self.table, &self.index, &self.endpoints, &at);
+        self.send_queue.heads.replace(head, next);
     }
 }
 
-/// Counts an exchange with this endpoint, which is waiting for its turn, for the endpoint and for
-/// the client that opens it.
-///
-/// # Errors
-/// Out of memory. Nothing is changed then.
-fn open_for(
-    lines: &mut BTreeMap<Peer, Line>,
-    clients: &mut Clients,
-    at: Peer,
-    client: Peer,
-) -> Result<(), OutOfMemory>
-    requires all { open_in lines.old at < 2 ^ 64 - 1 }
-    requires sent { sent_in lines.old at ≤ open_in lines.old at }
-    requires queued { queued_in lines.old at ≤ open_in lines.old at }
-    requires client { count_of clients.old client < 2 ^ 64 - 1 }
-    ensures all { OnOk result ((e : Endpoint)
-        → open_in lines.new e ≡ open_in lines.old e + one_if_at true at e) }
-    ensures sent { OnOk result ((e : Endpoint) → sent_in lines.new e ≡ sent_in lines.old e) }
-    ensures queued { OnOk result ((e : Endpoint)
-        → queued_in lines.new e ≡ queued_in lines.old e + one_if_at true at e) }
-    ensures client { OnOk result ((e : Endpoint)
-        → count_of clients.new e ≡ count_of clients.old e + one_if_at true client e) }
-    ensures err_all { OnErr result ((e : Endpoint) → open_in lines.new e ≡ open_in lines.old e) }
-    ensures err_sent { OnErr result ((e : Endpoint) → sent_in lines.new e ≡ sent_in lines.old e) }
-    ensures err_queued { OnErr result ((e : Endpoint)
-        → queued_in lines.new e ≡ queued_in lines.old e) }
-    ensures err_client { OnErr result ((e : Endpoint)
-        → count_of clients.new e ≡ count_of clients.old e) }
-{
-    open_one(lines, at)?;
-    let entered = enter(clients, client);
-    if entered.is_err() {
-        close_one(lines, at, Stage::QUEUED);
-    }
-    entered
-}
-
-impl Table<Listed> {
+impl Table<IndexedExchange> {
     /// Changes the exchange numbered `number`, if there is one, and returns what it is looked up by
     /// then.
-    fn change(&mut self, number: u64, change: Change) -> Owners
+    fn change(&mut self, number: u64, change: Change) -> ExchangeKeys
         requires { IfSome (item_at number self.old.items) (CanChange change) }
         ensures changed { self.new
             ≡ record self.old { items = changed_at number (changed_by change) self.old.items } }
-        ensures owners { result
-            ≡ owners_at (option_map (changed_by change) (item_at number self.old.items)) }
+        ensures keys { result
+            ≡ keys_at (option_map (changed_by change) (item_at number self.old.items)) }
     {
         change_under(&mut self.items, number, change)
     }
@@ -478,66 +453,70 @@ impl Table<Listed> {
 /// Which of the queued exchanges is to be sent first. They are only scanned if they weren't
 /// admitted in order.
 fn first_turn(
-    exchanges: &Table<Listed>,
-    lines: &BTreeMap<Peer, Line>,
+    exchanges: &Table<IndexedExchange>,
+    endpoints: &EndpointMap,
     queued: usize,
-    turns: &Turns,
+    send_queue: &SendQueue,
     nstart: usize,
 ) -> Option<(u64, u64)>
     requires queued { queued ≡ count is_queued exchanges.now.items }
-    requires lined { AreLined exchanges.now.items lines.now }
-    requires turns { AreTurns exchanges.now.items turns.now }
+    requires counted { AreCounted exchanges.now.items endpoints.now }
+    requires send_queue { IsSendQueue exchanges.now.items send_queue.now }
     ensures exact { result
         ≡ first_due (turn_among nstart exchanges.now.items) exchanges.now.items }
 {
-    if turns.in_order {
-        first_in_order(exchanges, turns, nstart)
+    if send_queue.in_order {
+        first_in_order(exchanges, send_queue, nstart)
     } else {
-        first_of_all(exchanges, lines, queued, nstart)
+        first_of_all(exchanges, endpoints, queued, nstart)
     }
 }
 
 /// The same, if they were admitted in order.
-fn first_in_order(exchanges: &Table<Listed>, turns: &Turns, nstart: usize) -> Option<(u64, u64)>
-    requires turns { AreTurns exchanges.now.items turns.now }
-    requires order { turns.now.in_order ≡ true }
+fn first_in_order(
+    exchanges: &Table<IndexedExchange>,
+    send_queue: &SendQueue,
+    nstart: usize,
+) -> Option<(u64, u64)>
+    requires send_queue { IsSendQueue exchanges.now.items send_queue.now }
+    requires order { send_queue.now.in_order ≡ true }
     ensures exact { result
         ≡ first_due (turn_among nstart exchanges.now.items) exchanges.now.items }
 {
     let _sound = exchanges.is_full();
-    let number = turns.first(nstart)?;
+    let number = send_queue.first(nstart)?;
     let exchange = exchanges.exchange(number)?;
     Some((exchange.admitted, number))
 }
 
-/// The same, in whatever order they were admitted. `queued` of them are waiting. They are only
-/// scanned if one of them can be sent.
+/// The same, in whatever order they were admitted. `queued` of them are waiting. A proxy, to which
+/// time never goes back, never comes here.
 fn first_of_all(
-    exchanges: &Table<Listed>,
-    lines: &BTreeMap<Peer, Line>,
+    exchanges: &Table<IndexedExchange>,
+    endpoints: &EndpointMap,
     queued: usize,
     nstart: usize,
 ) -> Option<(u64, u64)>
     requires queued { queued ≡ count is_queued exchanges.now.items }
-    requires lined { AreLined exchanges.now.items lines.now }
+    requires counted { AreCounted exchanges.now.items endpoints.now }
     ensures exact { result
         ≡ first_due (turn_among nstart exchanges.now.items) exchanges.now.items }
 {
     let _sound = exchanges.is_full();
-    if queued == 0 || !has_turn(lines, nstart) {
+    if queued == 0 {
         return None;
     }
-    exchanges.first_turn(lines, nstart)
+    exchanges.first_turn(endpoints, nstart)
 }
 
-impl Table<Listed> {
-    fn first_turn(&self, lines: &BTreeMap<Peer, Line>, nstart: usize) -> Option<(u64, u64)>
-        requires lined { AreLined self.now.items lines.now }
+impl Table<IndexedExchange> {
+    fn first_turn(&self, endpoints: &EndpointMap, nstart: usize) -> Option<(u64, u64)>
+        requires counted { AreCounted self.now.items endpoints.now }
         ensures exact { result ≡ first_due (turn_among nstart self.now.items) self.now.items }
     {
         let mut first = None;
         for (number, listed) in self.items.iter() {
-            let turn = self.turn_at(lines, *number, listed, nstart);
+            let turn = self.turn_at(endpoints, *number, listed, nstart);
             first = sooner(first, turn);
         }
         first
@@ -546,17 +525,17 @@ impl Table<Listed> {
     /// When a queued exchange of the table gets its turn, with its number.
     fn turn_at(
         &self,
-        lines: &BTreeMap<Peer, Line>,
+        endpoints: &EndpointMap,
         number: u64,
-        listed: &Listed,
+        listed: &IndexedExchange,
         nstart: usize,
     ) -> Option<(u64, u64)>
-        requires lined { AreLined self.now.items lines.now }
+        requires counted { AreCounted self.now.items endpoints.now }
         ensures exact { result
             ≡ due_row (turn_among nstart self.now.items) (number, listed.now) }
     {
         let exchange = listed.exchange();
-        if exchange.is_queued() && line_to(lines, listed.peer()).sent < nstart {
+        if exchange.is_queued() && counts_at(endpoints, listed.peer()).sent < nstart {
             Some((exchange.admitted, number))
         } else {
             None
@@ -564,26 +543,26 @@ impl Table<Listed> {
     }
 }
 
-fn change_under(exchanges: &mut Items<Listed>, number: u64, change: Change) -> Owners
+fn change_under(exchanges: &mut Items<IndexedExchange>, number: u64, change: Change) -> ExchangeKeys
     requires { IfSome (get nat_eq exchanges.old number) (CanChange change) }
     ensures found { IfSome (get nat_eq exchanges.old number) (λ x.
         exchanges.new.entries
         ≡ set_value (nat_eq number) exchanges.old.entries (changed_by change x)) }
     ensures missing { IfNone (get nat_eq exchanges.old number)
         (exchanges.new.entries ≡ exchanges.old.entries) }
-    ensures owners { result
-        ≡ owners_at (option_map (changed_by change) (get nat_eq exchanges.old number)) }
+    ensures keys { result
+        ≡ keys_at (option_map (changed_by change) (get nat_eq exchanges.old number)) }
 {
     match exchanges.get_mut(&number) {
         Some(exchange) => {
             exchange.change(change);
-            owners_of(exchange)
+            keys_of(exchange)
         }
-        None => owners_in(None),
+        None => keys_in(None),
     }
 }
 
-fn taint_under(exchanges: &mut Items<Listed>, number: u64, target: &Target)
+fn taint_under(exchanges: &mut Items<IndexedExchange>, number: u64, target: &Target)
     ensures found { IfSome (get nat_eq exchanges.old number) (λ x.
         exchanges.new.entries
         ≡ set_value (nat_eq number) exchanges.old.entries (tainted_by target.now x)) }
@@ -596,7 +575,7 @@ fn taint_under(exchanges: &mut Items<Listed>, number: u64, target: &Target)
 }
 
 /// Taints those that a change of this target affects. They are found by the target's digest.
-fn taint_all(exchanges: &mut Table<Listed>, index: &mut Index, target: &Target)
+fn taint_all(exchanges: &mut Table<IndexedExchange>, index: &mut Index, target: &Target)
     requires { AreIndexed exchanges.old.items exchanges.old.limit index.old }
     ensures tainted { exchanges.new
         ≡ record exchanges.old {
@@ -613,7 +592,12 @@ fn taint_all(exchanges: &mut Table<Listed>, index: &mut Index, target: &Target)
 }
 
 /// Taints the exchange numbered `number` if a change of this target affects it.
-fn taint_one(exchanges: &mut Table<Listed>, index: &mut Index, number: u64, target: &Target)
+fn taint_one(
+    exchanges: &mut Table<IndexedExchange>,
+    index: &mut Index,
+    number: u64,
+    target: &Target,
+)
     requires { AreIndexed exchanges.old.items exchanges.old.limit index.old }
     ensures tainted { exchanges.new
         ≡ record exchanges.old {
@@ -621,17 +605,17 @@ fn taint_one(exchanges: &mut Table<Listed>, index: &mut Index, number: u64, targ
         } }
     ensures indexed { AreIndexed exchanges.new.items exchanges.new.limit index.new }
 {
-    let was = owners_at(exchanges, number);
+    let was = keys_at(exchanges, number);
     exchanges.taint(number, target);
-    index.pass(number, was, owners_at(exchanges, number));
+    index.rekey(number, was, keys_at(exchanges, number));
 }
 
 /// The number of exchanges that are still to be sent, once the one numbered `number` no longer is.
 fn queued_without(
     queued: usize,
-    exchanges: &Table<Listed>,
+    exchanges: &Table<IndexedExchange>,
     number: u64,
-    found: Option<&Listed>,
+    found: Option<&IndexedExchange>,
 ) -> usize
     requires queued { queued ≡ count is_queued exchanges.now.items }
     requires found { option_copied found ≡ item_at number exchanges.now.items }
@@ -649,54 +633,56 @@ fn queued_without(
 
 /// Stops counting the exchange numbered `number` for its endpoint.
 fn leave(
-    lines: &mut BTreeMap<Peer, Line>,
-    exchanges: &Table<Listed>,
+    endpoints: &mut EndpointMap,
+    exchanges: &Table<IndexedExchange>,
     number: u64,
-    found: Option<&Listed>,
+    found: Option<&IndexedExchange>,
 )
-    requires lined { AreLined exchanges.now.items lines.old }
+    requires counted { AreCounted exchanges.now.items endpoints.old }
     requires found { option_copied found ≡ item_at number exchanges.now.items }
+    ensures limit { endpoints.new.limit ≡ endpoints.old.limit }
     ensures all { (e : Endpoint)
-        → open_in lines.new e
+        → open_in endpoints.new e
         + (if passes (is_with e) (item_at number exchanges.now.items) then 1 else 0)
-        ≡ open_in lines.old e }
+        ≡ open_in endpoints.old e }
     ensures sent { (e : Endpoint)
-        → sent_in lines.new e
+        → sent_in endpoints.new e
         + (if passes (is_sent_to e) (item_at number exchanges.now.items) then 1 else 0)
-        ≡ sent_in lines.old e }
+        ≡ sent_in endpoints.old e }
     ensures queued { (e : Endpoint)
-        → queued_in lines.new e
+        → queued_in endpoints.new e
         + (if passes (is_queued_to e) (item_at number exchanges.now.items) then 1 else 0)
-        ≡ queued_in lines.old e }
+        ≡ queued_in endpoints.old e }
 {
     let _sound = exchanges.is_full();
     if let Some(listed) = found {
-        close_one(lines, listed.peer(), listed.stage());
+        close_one(endpoints, listed.peer(), listed.stage());
     }
 }
 
 /// Counts the exchange numbered `number` for its endpoint in its state after a change, in which it
 /// no longer waits for its turn.
 fn recount(
-    lines: &mut BTreeMap<Peer, Line>,
-    exchanges: &Table<Listed>,
+    endpoints: &mut EndpointMap,
+    exchanges: &Table<IndexedExchange>,
     number: u64,
-    found: Option<&Listed>,
+    found: Option<&IndexedExchange>,
     change: &Change,
 )
-    requires lined { AreLined exchanges.now.items lines.old }
+    requires counted { AreCounted exchanges.now.items endpoints.old }
     requires found { option_copied found ≡ item_at number exchanges.now.items }
-    ensures all { (e : Endpoint) → open_in lines.new e ≡ open_in lines.old e }
+    ensures limit { endpoints.new.limit ≡ endpoints.old.limit }
+    ensures all { (e : Endpoint) → open_in endpoints.new e ≡ open_in endpoints.old e }
     ensures sent { (e : Endpoint)
-        → sent_in lines.new e
+        → sent_in endpoints.new e
         + (if passes (is_sent_to e) (item_at number exchanges.now.items) then 1 else 0)
-        ≡ sent_in lines.old e
+        ≡ sent_in endpoints.old e
         + (if passes (λ x. is_sent_to e (changed_by change.now x))
         (item_at number exchanges.now.items) then 1 else 0) }
     ensures queued { (e : Endpoint)
-        → queued_in lines.new e
+        → queued_in endpoints.new e
         + (if passes (is_queued_to e) (item_at number exchanges.now.items) then 1 else 0)
-        ≡ queued_in lines.old e }
+        ≡ queued_in endpoints.old e }
 {
     let (_few, _sound) = (exchanges.len(), exchanges.is_full());
     if let Some(listed) = found {
@@ -705,6 +691,6 @@ fn recount(
             sent: change.sends(was.sent),
             queued: false,
         };
-        move_one(lines, listed.peer(), was, is);
+        move_one(endpoints, listed.peer(), was, is);
     }
 }

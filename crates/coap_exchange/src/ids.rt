@@ -2,6 +2,8 @@
 ghost use Rattle.std.specs.Prelude.{◌≡◌};
 ghost use Rattle.coap_exchange.specs.Ids.{called, left_of, new_ids, next_of};
 
+use coap_message::EXCHANGE_LIFETIME;
+
 /// The Message IDs that a proxy gives out: they count up from the first, and wrap from 65,535 to 0.
 ///
 /// Time is divided into windows of 247,000 milliseconds (EXCHANGE_LIFETIME; RFC 7252, 4.8.2), and
@@ -21,9 +23,6 @@ impl Ids {
     /// The most ids that are given in a window.
     pub const MOST: u32 = 32_768;
 
-    /// How long a window is, in milliseconds.
-    pub const WINDOW: u64 = 247_000;
-
     /// Ids that start at `first`, with none given yet.
     pub fn new(first: u16) -> Ids
         ensures exact { result ≡ new_ids first }
@@ -39,7 +38,7 @@ impl Ids {
     pub fn left(&self, now: u64) -> u32
         ensures exact { result ≡ left_of now self.now }
     {
-        if self.window == now / Ids::WINDOW {
+        if self.window == now / EXCHANGE_LIFETIME {
             Ids::MOST.saturating_sub(self.given)
         } else {
             Ids::MOST
@@ -57,7 +56,7 @@ impl Ids {
         }
         let id = self.following;
         self.following = id.wrapping_add(1);
-        self.window = now / Ids::WINDOW;
+        self.window = now / EXCHANGE_LIFETIME;
         self.given = Ids::MOST - left + 1;
         Some(id)
     }

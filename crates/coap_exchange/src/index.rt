@@ -1,49 +1,48 @@
 //! What exchanges are looked up by, so that no lookup scans them all.
 ghost use Rattle.std.specs.Prelude.{◌≡◌, Some, IfOk};
 ghost use Rattle.std.specs.Option.{option_copied};
-ghost use Rattle.coap_exchange.specs.Index.{queue_of, end_of, got_of, id_of, key_of, target_of, is_met, opening_of, owners_at, AreListed, CanPassAll, HavePassed};
-ghost use Rattle.coap_exchange.specs.Roll.{empty_roll};
+ghost use Rattle.coap_exchange.specs.Index.{queue_of, end_of, got_of, id_of, cache_key_of, target_of, is_met, opening_of, keys_at, AreListed, CanRekeyAll, HaveRekeyed};
+ghost use Rattle.ordered_index.specs.Ordered.{empty_index};
 ghost use Rattle.coap_exchange.specs.Table.{first_that, item_at, passes, IsRising, IsTable};
 
-use crate::buckets::Buckets;
 use crate::exchange::Exchange;
-use crate::listed::Listed;
-use crate::roll::Roll;
+use crate::indexed_exchange::IndexedExchange;
 use crate::table::Table;
 use coap_endpoint::Endpoint;
 use coap_message::OutOfMemory;
 use coap_store::CacheKey;
+use ordered_index::{HashedIndex, OrderedIndex};
 use std::alloc::Global;
 
 /// Numbers of exchanges, by what they are looked up by. Room for all of them is allocated up front.
 #[derive(Drop)]
 pub(crate) struct Index {
     /// By the Message ID that they were sent with.
-    pub(crate) ids: Buckets,
+    pub(crate) ids: HashedIndex,
     /// By the moment when their answer came.
-    pub(crate) dones: Roll,
+    pub(crate) dones: OrderedIndex,
     /// By the moment of their admission, until their answer comes.
-    pub(crate) openings: Roll,
+    pub(crate) openings: OrderedIndex,
     /// By the end of the current timeout.
-    pub(crate) ends: Roll,
+    pub(crate) ends: OrderedIndex,
     /// By the digest of their endpoint, while they wait for their turn.
-    pub(crate) queues: Buckets,
+    pub(crate) queues: HashedIndex,
     /// GETs by the digest of their cache key, until they are tainted or their answer comes.
-    pub(crate) keys: Buckets,
+    pub(crate) cache_keys: HashedIndex,
     /// By the digest of their target, from when they are sent until they are tainted or their
     /// answer comes.
-    pub(crate) targets: Buckets,
+    pub(crate) targets: HashedIndex,
 }
 
 /// What one exchange is looked up by.
 #[derive(Clone, Copy)]
-pub(crate) struct Owners {
+pub(crate) struct ExchangeKeys {
     pub(crate) id: Option<u64>,
     pub(crate) got: Option<u64>,
     pub(crate) opening: Option<u64>,
     pub(crate) end: Option<u64>,
     pub(crate) queue: Option<u64>,
-    pub(crate) key: Option<u64>,
+    pub(crate) cache_key: Option<u64>,
     pub(crate) target: Option<u64>,
 }
 
@@ -77,78 +76,78 @@ impl Index {
     /// # Errors
     /// Out of memory.
     pub(crate) fn new(alloc: Global, limit: usize) -> Result<Index, OutOfMemory>
-        ensures ids { IfOk result (λ index. index.ids ≡ empty_roll limit) }
-        ensures dones { IfOk result (λ index. index.dones ≡ empty_roll limit) }
-        ensures openings { IfOk result (λ index. index.openings ≡ empty_roll limit) }
-        ensures ends { IfOk result (λ index. index.ends ≡ empty_roll limit) }
-        ensures queues { IfOk result (λ index. index.queues ≡ empty_roll limit) }
-        ensures keys { IfOk result (λ index. index.keys ≡ empty_roll limit) }
-        ensures targets { IfOk result (λ index. index.targets ≡ empty_roll limit) }
+        ensures ids { IfOk result (λ index. index.ids ≡ empty_index limit) }
+        ensures dones { IfOk result (λ index. index.dones ≡ empty_index limit) }
+        ensures openings { IfOk result (λ index. index.openings ≡ empty_index limit) }
+        ensures ends { IfOk result (λ index. index.ends ≡ empty_index limit) }
+        ensures queues { IfOk result (λ index. index.queues ≡ empty_index limit) }
+        ensures cache_keys { IfOk result (λ index. index.cache_keys ≡ empty_index limit) }
+        ensures targets { IfOk result (λ index. index.targets ≡ empty_index limit) }
     {
         Ok(Index {
-            ids: Buckets::new(alloc, limit)?,
-            dones: Roll::new(alloc, limit)?,
-            openings: Roll::new(alloc, limit)?,
-            ends: Roll::new(alloc, limit)?,
-            queues: Buckets::new(alloc, limit)?,
-            keys: Buckets::new(alloc, limit)?,
-            targets: Buckets::new(alloc, limit)?,
+            ids: HashedIndex::new(alloc, limit)?,
+            dones: OrderedIndex::new(alloc, limit)?,
+            openings: OrderedIndex::new(alloc, limit)?,
+            ends: OrderedIndex::new(alloc, limit)?,
+            queues: HashedIndex::new(alloc, limit)?,
+            cache_keys: HashedIndex::new(alloc, limit)?,
+            targets: HashedIndex::new(alloc, limit)?,
         })
     }
 
     /// Updates what the exchange numbered `number` is looked up by, from `was` to `is`.
-    pub(crate) fn pass(&mut self, number: u64, was: Owners, is: Owners)
-        requires { CanPassAll self.old number was is }
-        ensures exact { HavePassed self.old self.new number was is }
+    pub(crate) fn rekey(&mut self, number: u64, was: ExchangeKeys, is: ExchangeKeys)
+        requires { CanRekeyAll self.old number was is }
+        ensures exact { HaveRekeyed self.old self.new number was is }
     {
-        self.ids.pass(number, was.id, is.id);
-        self.dones.pass(number, was.got, is.got);
-        self.openings.pass(number, was.opening, is.opening);
-        self.ends.pass(number, was.end, is.end);
-        self.queues.pass(number, was.queue, is.queue);
-        self.keys.pass(number, was.key, is.key);
-        self.targets.pass(number, was.target, is.target);
+        self.ids.rekey(number, was.id, is.id);
+        self.dones.rekey(number, was.got, is.got);
+        self.openings.rekey(number, was.opening, is.opening);
+        self.ends.rekey(number, was.end, is.end);
+        self.queues.rekey(number, was.queue, is.queue);
+        self.cache_keys.rekey(number, was.cache_key, is.cache_key);
+        self.targets.rekey(number, was.target, is.target);
     }
 }
 
 /// What the exchange numbered `number` is looked up by, if there is one.
-pub(crate) fn owners_at(exchanges: &Table<Listed>, number: u64) -> Owners
-    ensures exact { result ≡ owners_at (item_at number exchanges.now.items) }
+pub(crate) fn keys_at(exchanges: &Table<IndexedExchange>, number: u64) -> ExchangeKeys
+    ensures exact { result ≡ keys_at (item_at number exchanges.now.items) }
     ensures sound { IsTable exchanges.now }
 {
-    owners_in(exchanges.get(number))
+    keys_in(exchanges.get(number))
 }
 
 /// What an exchange is looked up by, if there is one.
-pub(crate) fn owners_in(found: Option<&Listed>) -> Owners
-    ensures exact { result ≡ owners_at (option_copied found.entry) }
+pub(crate) fn keys_in(found: Option<&IndexedExchange>) -> ExchangeKeys
+    ensures exact { result ≡ keys_at (option_copied found.entry) }
 {
     match found {
-        Some(listed) => owners_of(listed),
-        None => Owners {
+        Some(listed) => keys_of(listed),
+        None => ExchangeKeys {
             id: None,
             got: None,
             opening: None,
             end: None,
             queue: None,
-            key: None,
+            cache_key: None,
             target: None,
         },
     }
 }
 
 /// What an exchange is looked up by.
-pub(crate) fn owners_of(listed: &Listed) -> Owners
-    ensures exact { result ≡ owners_at (Some listed.now) }
+pub(crate) fn keys_of(listed: &IndexedExchange) -> ExchangeKeys
+    ensures exact { result ≡ keys_at (Some listed.now) }
 {
     let exchange = listed.exchange();
-    Owners {
+    ExchangeKeys {
         id: id_of(exchange),
         got: got_of(exchange),
         opening: opening_of(exchange),
         end: end_of(exchange),
         queue: queue_of(listed),
-        key: key_of(listed),
+        cache_key: cache_key_of(listed),
         target: target_of(listed),
     }
 }
@@ -191,19 +190,19 @@ fn end_of(exchange: &Exchange) -> Option<u64>
 }
 
 /// The number of the first exchange that is looked for. All of those are in the roll, under this
-/// owner.
+/// key.
 pub(crate) fn first_sought(
-    exchanges: &Table<Listed>,
-    roll: &Buckets,
-    owner: u64,
+    exchanges: &Table<IndexedExchange>,
+    roll: &HashedIndex,
+    key: u64,
     sought: &Sought,
 ) -> Option<u64>
     requires rising { IsRising 0 exchanges.now.items }
-    requires listed { AreListed (is_met sought.now) owner exchanges.now.items roll.now.pairs }
+    requires listed { AreListed (is_met sought.now) key exchanges.now.items roll.now.pairs }
     ensures exact { result ≡ first_that (is_met sought.now) exchanges.now.items }
 {
     let mut after = 0;
-    while let Some(number) = roll.next_of(owner, after) {
+    while let Some(number) = roll.next_of(key, after) {
         if is_sought_at(exchanges, number, sought) {
             return Some(number);
         }
@@ -213,7 +212,7 @@ pub(crate) fn first_sought(
 }
 
 /// Whether the exchange numbered `number` is one that is looked for.
-fn is_sought_at(exchanges: &Table<Listed>, number: u64, sought: &Sought) -> bool
+fn is_sought_at(exchanges: &Table<IndexedExchange>, number: u64, sought: &Sought) -> bool
     ensures exact { result
         ≡ passes (is_met sought.now) (item_at number exchanges.now.items) }
 {
@@ -223,7 +222,7 @@ fn is_sought_at(exchanges: &Table<Listed>, number: u64, sought: &Sought) -> bool
     }
 }
 
-fn queue_of(listed: &Listed) -> Option<u64>
+fn queue_of(listed: &IndexedExchange) -> Option<u64>
     ensures exact { result ≡ queue_of listed.now }
 {
     let exchange = listed.exchange();
@@ -234,8 +233,8 @@ fn queue_of(listed: &Listed) -> Option<u64>
     }
 }
 
-fn key_of(listed: &Listed) -> Option<u64>
-    ensures exact { result ≡ key_of listed.now }
+fn cache_key_of(listed: &IndexedExchange) -> Option<u64>
+    ensures exact { result ≡ cache_key_of listed.now }
 {
     let exchange = listed.exchange();
     if exchange.is_get && !exchange.tainted && exchange.answer().is_none() {
@@ -245,7 +244,7 @@ fn key_of(listed: &Listed) -> Option<u64>
     }
 }
 
-fn target_of(listed: &Listed) -> Option<u64>
+fn target_of(listed: &IndexedExchange) -> Option<u64>
     ensures exact { result ≡ target_of listed.now }
 {
     let exchange = listed.exchange();

@@ -6,36 +6,39 @@
 //! ```rust
 //! let mut exchanges = Exchanges::new(alloc, 256, 16)?;
 //! let number = exchanges.admit(client, key, true, form, None, 0)?;
-//! assert!(exchanges.due(1, 93_000) == Some((0, number))); // it is its turn
-//! exchanges.send(number, Sending { asked: 0, id: 7, timer: Timer::start(0, 250) });
-//! assert!(exchanges.due(1, 93_000) == Some((2_250, number))); // when it is sent again
-//! assert!(exchanges.sent_as(origin, 7, 100) == Some(number)); // an acknowledgement of it came
+//! assert!(rt; exchanges.due(1, 93_000) == Some((0, number))); // it is its turn
+//! let sending = Sending {
+//!     asked: 0,
+//!     id: 7,
+//!     timer: Timer::start(0, 250),
+//! };
+//! exchanges.send(number, sending);
+//! assert!(rt; exchanges.due(1, 93_000) == Some((2_250, number))); // when it is sent again
+//! assert!(rt; exchanges.sent_as(origin, 7, 100) == Some(number)); // an acknowledgement came
 //! exchanges.acked(number);
 //! ```
 #![tactic(auto)]
 
-mod buckets;
 mod by_client;
 mod digests;
 mod due;
+mod endpoint_map;
+mod endpoints;
 pub mod examples;
 mod exchange;
 mod exchanges;
 mod ids;
 mod index;
+mod indexed_exchange;
 pub mod laws;
-mod lines;
-mod listed;
-mod marks;
 mod peer;
-mod roll;
-mod row;
+mod send_queue;
+mod slots;
 mod table;
-mod tally;
 mod timer;
-mod turns;
 mod under_way;
 mod waiter;
+mod waiter_index;
 mod waiters;
 
 pub use coap_store::Answer;

@@ -6,10 +6,8 @@ use crate::digests::digest_of_endpoint;
 use coap_endpoint::Endpoint;
 use std::marker::Model;
 
-/// An endpoint with its digest, which is computed once. Peers are in order of their digests, which
-/// differ at the first look, while the addresses of a network differ in their last bytes. A
-/// contract sees the endpoint.
-#[derive(Clone, Copy, PartialEq, Eq, PartialOrd, Ord)]
+/// An endpoint with its digest, which is computed once. A contract sees the endpoint.
+#[derive(Clone, Copy)]
 pub(crate) struct Peer {
     digest: u64,
     at: Endpoint,

@@ -2,6 +2,8 @@
 ghost use Rattle.std.specs.Prelude.{◌≡◌, ◌<◌, ◌≤◌, ◌^◌, true};
 ghost use Rattle.coap_exchange.specs.Timers.{fire_of, fired, goes_on, started};
 
+use coap_message::{ACK_TIMEOUT, MAX_RETRANSMIT, MAX_TRANSMIT_WAIT};
+
 /// What is to be done when a timer is due.
 #[derive(Clone, Copy)]
 pub enum Fire {
@@ -27,14 +29,6 @@ pub struct Timer {
 }
 
 impl Timer {
-    /// The most times that a message is sent: once, and four retransmissions (MAX_RETRANSMIT; RFC
-    /// 7252, 4.8).
-    pub const MOST: u8 = 5;
-
-    /// A message is retransmitted only within less than this many milliseconds after it was first
-    /// sent (MAX_TRANSMIT_WAIT; RFC 7252, 4.8.2).
-    pub const SPAN: u64 = 93_000;
-
     /// The timer of a message that is first sent now. The first timeout is 2,000 milliseconds
     /// (ACK_TIMEOUT; RFC 7252, 4.8) plus `draw`, which is at most 1,000. `now` is at most 2^62.
     pub fn start(now: u64, draw: u16) -> Timer
@@ -42,7 +36,7 @@ impl Timer {
         requires draw { draw ≤ 1000 }
         ensures exact { result ≡ started now draw }
     {
-        let timeout = 2_000 + u64::from(draw);
+        let timeout = ACK_TIMEOUT + u64::from(draw);
         Timer {
             started: now,
             timeout,
@@ -57,7 +51,7 @@ impl Timer {
         ensures exact { result ≡ goes_on now self.now }
         ensures few { result ≡ true → self.now.sends < 5 }
     {
-        self.sends < Timer::MOST && now.saturating_sub(self.started) < Timer::SPAN
+        self.sends <= MAX_RETRANSMIT && now.saturating_sub(self.started) < MAX_TRANSMIT_WAIT
     }
 
     /// What is to be done if it is due now.

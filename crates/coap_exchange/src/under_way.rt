@@ -15,7 +15,6 @@ ghost use Rattle.coap_exchange.specs.Waiters as waiters;
 use crate::due::sooner;
 use crate::exchange::{Exchange, Sending};
 use crate::exchanges::Exchanges;
-use crate::roll::Roll;
 use crate::table::AdmitError;
 use crate::timer::{Fire, Timer};
 use crate::waiter::Waiter;
@@ -23,6 +22,7 @@ use crate::waiters::{Waiters, due_at};
 use coap_endpoint::{Endpoint, Target};
 use coap_message::{Kind, OutOfMemory, Pieces, Seq, Token};
 use coap_store::{Answer, CacheKey, Stored};
+use ordered_index::OrderedIndex;
 use std::alloc::Global;
 use std::marker::Model;
 
@@ -34,7 +34,7 @@ pub struct UnderWay {
     waiters: Waiters,
     /// For each exchange whose answer has come, and that a client waits for: the moment when it
     /// came, and the first of those clients.
-    ready: Roll,
+    ready: OrderedIndex,
 }
 
 impl Drop for UnderWay {
@@ -73,7 +73,7 @@ impl UnderWay {
         ensures exact { IfOk result (λ under_way.
             under_way ≡ record { exchanges = exchanges; waiters = waiters }) }
     {
-        let ready = Roll::new(alloc, waiters.limit())?;
+        let ready = OrderedIndex::new(alloc, waiters.limit())?;
         Ok(UnderWay {
             exchanges,
             waiters,

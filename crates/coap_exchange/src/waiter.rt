@@ -2,10 +2,9 @@
 ghost use Rattle.std.specs.Prelude.{◌≡◌, ◌≤◌, ◌^◌};
 ghost use Rattle.coap_exchange.specs.Waiters.{changed_by, exchange_of, fire_of_state, fired_waiter, is_waiting, was_sent_as, waits_for, CanChange, CanFire};
 
-use crate::exchange::LIFETIME;
 use crate::timer::{Fire, Timer};
 use coap_endpoint::Endpoint;
-use coap_message::{Kind, Pieces, Seq, Token};
+use coap_message::{EXCHANGE_LIFETIME, Kind, Pieces, Seq, Token};
 use std::alloc::Global;
 
 /// The state of a waiter.
@@ -112,7 +111,9 @@ impl Waiter {
                 id: other,
                 timer,
             } => {
-                self.client == at && *other == id && now.saturating_sub(timer.started) < LIFETIME
+                self.client == at
+                    && *other == id
+                    && now.saturating_sub(timer.started) < EXCHANGE_LIFETIME
             }
         }
     }

@@ -10,26 +10,23 @@ ghost use Rattle.coap_exchange.specs.Answered.{due_at};
 ghost use Rattle.coap_endpoint.specs.declared.endpoint.Endpoint.{Endpoint};
 ghost use Rattle.coap_exchange.specs.Clients.{count_of, AreWithin};
 ghost use Rattle.coap_exchange.specs.Due.{due_row, first_due};
-ghost use Rattle.coap_exchange.specs.Lines.{one_if_at};
-ghost use Rattle.coap_exchange.specs.Marks.{answered_of, end_of, marks_at};
+ghost use Rattle.coap_exchange.specs.Endpoints.{one_if_at};
+ghost use Rattle.coap_exchange.specs.WaiterIndex.{answered_of, end_of, waiter_keys_at};
 ghost use Rattle.coap_exchange.specs.Table.{empty_table, item_at, admitted_to, without, withdrawn, changed_at, count, first_that, passes, IsTable};
-ghost use Rattle.coap_exchange.specs.Tally.{tally, AreTallied};
 ghost use Rattle.coap_exchange.specs.Waiters.{awaited_by, changed_by, delivered, due_after, fire_at, fired_waiter, is_of, is_waiting, waits_for, was_sent_as, CanChange, IsDue};
 
-use crate::by_client::{Clients, count_of, depart, enter};
+use crate::by_client::{count_of, depart, enter};
 use crate::due::{due_under, sooner};
+use crate::endpoint_map::EndpointMap;
 use crate::exchanges::Exchanges;
-use crate::marks::{Marks, WaiterIndex, marks_in, marks_of};
 use crate::peer::Peer;
 use crate::table::{AdmitError, Items, Table};
-use crate::tally::{Counts, count_one, counted, discount_one};
 use crate::timer::{Fire, Timer};
 use crate::waiter::{Waiter, WaiterChange, WaiterState};
-use coap_endpoint::{Endpoint, Seeded};
+use crate::waiter_index::{WaiterIndex, WaiterKeys, waiter_keys_in, waiter_keys_of};
+use coap_endpoint::Endpoint;
 use coap_message::{Kind, OutOfMemory, Pieces, Seq, Token};
-use indexmap::IndexMap;
 use std::alloc::Global;
-use std::collections::BTreeMap;
 use std::marker::Model;
 
 /// Waiters in order of number. A contract sees the table. Only `new` and `admit` allocate.
@@ -37,10 +34,8 @@ pub struct Waiters {
     table: Table<Waiter>,
     /// The number of waiters that wait for an exchange.
     waiting: usize,
-    /// The number of waiters for each exchange, by the exchange's number.
-    by_exchange: Counts,
     /// The number of waiters of each client.
-    clients: Clients,
+    clients: EndpointMap,
     /// What they are looked up by.
     index: WaiterIndex,
     alloc: Global,
@@ -51,7 +46,6 @@ impl Drop for Waiters {
         let Waiters {
             table: _,
             waiting: _,
-            by_exchange: _,
             clients: _,
             index: _,
             alloc: _,
@@ -60,9 +54,10 @@ impl Drop for Waiters {
 }
 
 impl Model for Waiters {
+    ghost use Rattle.std.specs.Prelude.{◌≡◌};
     ghost use Rattle.coap_exchange.specs.declared.waiter.Waiter.{Waiter};
     ghost use Rattle.coap_exchange.specs.Clients.{AreOfClients, AreWithin};
-    ghost use Rattle.coap_exchange.specs.Marks.{AreMarked};
+    ghost use Rattle.coap_exchange.specs.WaiterIndex.{AreWaitersIndexed};
     ghost use Rattle.coap_exchange.specs.Table.{Table, IsTable};
     ghost use Rattle.coap_exchange.specs.Tally.{AreWaiters};
     ghost use Rattle.coap_exchange.specs.Waiters.{is_of};
@@ -72,11 +67,12 @@ impl Model for Waiters {
     ghost view = { λ w. w.table };
 
     ghost invariant = { λ w.
-        AreWaiters w.table.items w.waiting w.by_exchange
-        × AreMarked w.table.items w.table.limit w.index
+        AreWaiters w.table.items w.waiting w.index.awaited.pairs
+        × AreWaitersIndexed w.table.items w.table.limit w.index
         × IsTable w.table
         × AreOfClients is_of w.table.items w.clients
-        × AreWithin is_of w.table };
+        × AreWithin is_of w.table
+        × (w.clients.limit ≡ w.table.limit) };
 }
 
 impl Waiters {
@@ -103,13 +99,10 @@ impl Waiters {
     ) -> Result<Waiters, OutOfMemory>
         ensures empty { IfOk result (λ waiters. waiters ≡ empty_table limit per_client) }
     {
-        let table = Table::new(alloc, limit, per_client, seed)?;
-        let (room, hasher) = (limit.saturating_mul(2), Seeded::new(seed));
         Ok(Waiters {
-            table,
+            table: Table::new(alloc, limit, per_client, seed)?,
             waiting: 0,
-            by_exchange: IndexMap::with_capacity_and_hasher(alloc, room, hasher)?,
-            clients: BTreeMap::new(alloc),
+            clients: EndpointMap::new(alloc, limit)?,
             index: WaiterIndex::new(alloc, limit)?,
             alloc,
         })
@@ -149,7 +142,7 @@ impl Waiters {
     pub fn waiting_for(&self, exchange: u64) -> usize
         ensures exact { result ≡ count (waits_for exchange) self.now.items }
     {
-        counted(&self.by_exchange, exchange)
+        self.index.awaited.count_of(exchange)
     }
 
     /// The waiter numbered `number`.
@@ -301,9 +294,8 @@ impl Waiters {
         if count_of(&self.clients, peer) == self.table.per_client() {
             return Err(AdmitError::ClientFull);
         }
-        let Ok(()) = wait_for(&mut self.by_exchange, &mut self.clients, exchange, peer) else {
-            return Err(AdmitError::OutOfMemory);
-        };
+        self.clients.holds();
+        enter(&mut self.clients, peer);
         let waiter = Waiter {
             client,
             kind,
@@ -311,15 +303,14 @@ impl Waiters {
             tags,
             state: WaiterState::Waiting(exchange),
         };
-        let (was, is) = (marks_in(None), marks_of(&waiter));
+        let (was, is) = (waiter_keys_in(None), waiter_keys_of(&waiter));
         match self.table.admit(waiter) {
             Ok(number) => {
                 self.waiting += 1;
-                self.index.pass(number, was, is);
+                self.index.rekey(number, was, is);
                 Ok(number)
             }
             Err(error) => {
-                discount_one(&mut self.by_exchange, exchange);
                 depart(&mut self.clients, Some(peer));
                 Err(error)
             }
@@ -338,12 +329,11 @@ impl Waiters {
         let number = self.table.admitted();
         let found = self.table.get(number);
         let waiting = waiting_without(self.waiting, &self.table, number, found);
-        stop_waiting(&mut self.by_exchange, &self.table, number, found);
         depart(&mut self.clients, client_of(found));
-        let was = marks_in(found);
+        let was = waiter_keys_in(found);
         self.waiting = waiting;
         self.table.withdraw();
-        self.index.pass(number, was, marks_in(None));
+        self.index.rekey(number, was, waiter_keys_in(None));
     }
 
     /// Removes the waiter numbered `number`, if there is one.
@@ -352,12 +342,11 @@ impl Waiters {
     {
         let found = self.table.get(number);
         let waiting = waiting_without(self.waiting, &self.table, number, found);
-        stop_waiting(&mut self.by_exchange, &self.table, number, found);
         depart(&mut self.clients, client_of(found));
-        let was = marks_in(found);
+        let was = waiter_keys_in(found);
         self.waiting = waiting;
         self.table.close(number);
-        self.index.pass(number, was, marks_in(None));
+        self.index.rekey(number, was, waiter_keys_in(None));
     }
 
     /// Marks the waiter numbered `number`, which was waiting for an exchange, as being sent its
@@ -374,12 +363,11 @@ impl Waiters {
     {
         let found = self.table.get(number);
         let waiting = waiting_without(self.waiting, &self.table, number, found);
-        stop_waiting(&mut self.by_exchange, &self.table, number, found);
-        let was = marks_in(found);
+        let was = waiter_keys_in(found);
         self.waiting = waiting;
         let change = WaiterChange::Deliver { bytes, id, timer };
         let is = self.table.change(number, change, self.alloc);
-        self.index.pass(number, was, is);
+        self.index.rekey(number, was, is);
     }
 
     /// Fires the timer of the waiter numbered `number`, which was sent its response, and returns
@@ -397,53 +385,24 @@ impl Waiters {
             Some(waiter) => waiter.fire_of(now),
             None => Fire::GiveUp,
         };
-        let was = marks_in(found);
+        let was = waiter_keys_in(found);
         let is = self
             .table
             .change(number, WaiterChange::Fire(now), self.alloc);
-        self.index.pass(number, was, is);
+        self.index.rekey(number, was, is);
         fire
     }
-}
-
-/// Counts a waiter for the exchange that it waits for, and for its client.
-///
-/// # Errors
-/// Out of memory. Nothing is changed then.
-fn wait_for(
-    by_exchange: &mut Counts,
-    clients: &mut Clients,
-    exchange: u64,
-    client: Peer,
-) -> Result<(), OutOfMemory>
-    requires tally { tally by_exchange.old exchange < 2 ^ 64 - 1 }
-    requires client { count_of clients.old client < 2 ^ 64 - 1 }
-    ensures ok { OnOk result ((n : ℕ)
-        → tally by_exchange.new n
-        ≡ tally by_exchange.old n + (if exchange == n then 1 else 0)) }
-    ensures client { OnOk result ((e : Endpoint)
-        → count_of clients.new e ≡ count_of clients.old e + one_if_at true client e) }
-    ensures err { OnErr result ((n : ℕ) → tally by_exchange.new n ≡ tally by_exchange.old n) }
-    ensures err_client { OnErr result ((e : Endpoint)
-        → count_of clients.new e ≡ count_of clients.old e) }
-{
-    count_one(by_exchange, exchange)?;
-    let entered = enter(clients, client);
-    if entered.is_err() {
-        discount_one(by_exchange, exchange);
-    }
-    entered
 }
 
 impl Table<Waiter> {
     /// Changes the waiter numbered `number`, if there is one, and returns what it is looked up by
     /// then.
-    fn change(&mut self, number: u64, change: WaiterChange, alloc: Global) -> Marks
+    fn change(&mut self, number: u64, change: WaiterChange, alloc: Global) -> WaiterKeys
         requires { IfSome (item_at number self.old.items) (CanChange change) }
         ensures changed { self.new
             ≡ record self.old { items = changed_at number (changed_by change) self.old.items } }
-        ensures marks { result
-            ≡ marks_at (option_map (changed_by change) (item_at number self.old.items)) }
+        ensures keys { result
+            ≡ waiter_keys_at (option_map (changed_by change) (item_at number self.old.items)) }
     {
         change_under(&mut self.items, number, change, alloc)
     }
@@ -482,22 +441,22 @@ fn change_under(
     number: u64,
     change: WaiterChange,
     alloc: Global,
-) -> Marks
+) -> WaiterKeys
     requires { IfSome (get nat_eq waiters.old number) (CanChange change) }
     ensures found { IfSome (get nat_eq waiters.old number) (λ w.
         waiters.new.entries
         ≡ set_value (nat_eq number) waiters.old.entries (changed_by change w)) }
     ensures missing { IfNone (get nat_eq waiters.old number)
         (waiters.new.entries ≡ waiters.old.entries) }
-    ensures marks { result
-        ≡ marks_at (option_map (changed_by change) (get nat_eq waiters.old number)) }
+    ensures keys { result
+        ≡ waiter_keys_at (option_map (changed_by change) (get nat_eq waiters.old number)) }
 {
     match waiters.get_mut(&number) {
         Some(waiter) => {
             waiter.change(change, alloc);
-            marks_of(waiter)
+            waiter_keys_of(waiter)
         }
-        None => marks_in(None),
+        None => waiter_keys_in(None),
     }
 }
 
@@ -539,26 +498,5 @@ fn awaited_by(found: Option<&Waiter>) -> Option<u64>
     match found {
         Some(waiter) => waiter.exchange(),
         None => None,
-    }
-}
-
-/// Stops counting `found`, which is the waiter numbered `number`, for the exchange that it waits
-/// for.
-fn stop_waiting(
-    by_exchange: &mut Counts,
-    waiters: &Table<Waiter>,
-    number: u64,
-    found: Option<&Waiter>,
-)
-    requires tallied { AreTallied waiters.now.items by_exchange.old }
-    requires found { option_copied found ≡ item_at number waiters.now.items }
-    ensures fewer { (e : ℕ)
-        → tally by_exchange.new e
-        + (if passes (waits_for e) (item_at number waiters.now.items) then 1 else 0)
-        ≡ tally by_exchange.old e }
-{
-    let _sound = waiters.is_full();
-    if let Some(exchange) = awaited_by(found) {
-        discount_one(by_exchange, exchange);
     }
 }

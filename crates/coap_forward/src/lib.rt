@@ -6,9 +6,13 @@
 //! ```rust
 //! let token = token_of(salt, number); // of the exchange with this number
 //! put_forwarded(&token, &request, &target, None, &mut out, 1500)?;
+//! assert_eq!(rt;
+//!     out.bytes(),
+//!     b"\x48\x01\0\0\0\0\0\0\0\0\0\x01\xB4temp".as_slice()
+//! );
 //! // its response, received at `now`
 //! let answer = answer_of(alloc, 1500, true, None, now, &response)?;
-//! assert!(answer.message.code == Code::CONTENT && answer.got == now);
+//! assert!(rt; answer.message.code == Code::CONTENT && answer.got == now);
 //! ```
 #![tactic(auto)]
 

@@ -3,8 +3,11 @@
 //! # First use
 //!
 //! ```rust
-//! let limits = Limits::new(LimitValues { exchanges: 64, ..LimitValues::default() })?;
-//! assert_eq!(limits.values().waiters, 1024);
+//! let limits = Limits::new(LimitValues {
+//!     exchanges: 64,
+//!     ..LimitValues::default()
+//! })?;
+//! assert_eq!(rt; limits.values().waiters, 1024);
 //! ```
 #![tactic(auto)]
 

@@ -2,6 +2,7 @@
 ghost use Rattle.std.specs.Prelude.{◌≡◌, None, Some, not, IfOk, IfErr};
 ghost use Rattle.coap_limits.specs.Limits.{AreLimits, default_limits, limits_per_client, without_client_limits, range_of, value_of, is_out, first_fault};
 
+use coap_message::MAX_TRANSMIT_WAIT;
 use std::marker::Model;
 use thiserror::Error;
 
@@ -163,7 +164,7 @@ impl Default for LimitValues {
             waiters: 1_024,
             nstart: 1,
             datagram: 1_500,
-            exchange_ms: 93_000,
+            exchange_ms: MAX_TRANSMIT_WAIT,
             retry_s: 5,
             client_con_records: 4_096,
             client_non_records: 4_096,

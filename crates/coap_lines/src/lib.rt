@@ -4,12 +4,16 @@
 //!
 //! ```rust
 //! let mut datagram = Datagram::new(alloc, LONGEST / 2)?;
-//! let turn = read_turn(b"500 250 192.0.2.7:40001 50010007B174", 0, &mut datagram).unwrap();
-//! assert_eq!((turn.now, turn.draw), (500, 250));
-//! assert_eq!(datagram.bytes(), b"\x50\x01\x00\x07\xB1t");
-//! let mut line = line_buffer(alloc, 1500)?;
-//! put_line(&mut line, 500, from, b"\x50\x01\x00\x07\xB1t");
-//! assert_eq!(line, b"500 192.0.2.7:40001 50010007B174\n");
+//! let line = b"500 250 192.0.2.7:40001 50010007B174";
+//! let turn = read_turn(line, 0, &mut datagram).ok_or("not a turn")?;
+//! assert_eq!(rt; (turn.now, turn.draw), (500, 250));
+//! assert_eq!(rt; datagram.bytes(), b"\x50\x01\x00\x07\xB1t".as_slice());
+//! let mut out = line_buffer(alloc, 1500)?;
+//! put_line(&mut out, 500, to, b"\x50\x01\x00\x07\xB1t");
+//! assert_eq!(rt;
+//!     out.as_slice(),
+//!     b"500 192.0.2.7:40001 50010007B174\n".as_slice()
+//! );
 //! ```
 #![tactic(auto)]
 

@@ -4,10 +4,10 @@
 //!
 //! ```rust
 //! let request = decode(alloc, b"\x40\x01\x12\x34\xB1t")?; // a Confirmable GET of /t
-//! assert!(request.kind == Kind::Con && request.code == Code::GET && request.id == 0x1234);
+//! assert!(rt; request.kind == Kind::Con && request.code == Code::GET && request.id == 0x1234);
 //! let mut out = Datagram::new(alloc, 64)?;
 //! encode_into(&request, &mut out, 64)?;
-//! assert_eq!(out.bytes(), b"\x40\x01\x12\x34\xB1t");
+//! assert_eq!(rt; out.bytes(), b"\x40\x01\x12\x34\xB1t".as_slice());
 //! ```
 #![tactic(auto)]
 
@@ -24,6 +24,7 @@ mod pieces;
 mod reading;
 mod seq;
 mod token;
+mod transmission;
 mod writing;
 
 pub use code::Code;
@@ -38,6 +39,10 @@ pub use pieces::{PieceRefs, Pieces};
 pub use reading::{decode, head_of};
 pub use seq::Seq;
 pub use token::Token;
+pub use transmission::{
+    ACK_TIMEOUT, EXCHANGE_LIFETIME, LAST_MOMENT, MAX_RETRANSMIT, MAX_TRANSMIT_WAIT, MOST_JITTER,
+    NON_LIFETIME,
+};
 pub use writing::{
     encode_into, put_head, put_message, put_option, put_options, put_payload, set_id,
 };

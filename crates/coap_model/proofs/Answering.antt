@@ -19,7 +19,7 @@ use Rattle.coap_store.specs.Entries.{Entry}
 use Rattle.coap_model.specs.declared.report.Outcome.TheVariants.{Answered}
 use Rattle.coap_model.specs.declared.report.Storing.{Storing}
 use Rattle.coap_model.specs.Justified.{TakesUp, IsNew, Acknowledges, to_acknowledge, to_reset, a_request, IsAnswer, got}
-use Rattle.coap_model.specs.World.{World, silent, says, known_of, has_record_room, remembers}
+use Rattle.coap_model.specs.State.{State, silent, says, known_of, has_record_room, remembers}
 use Rattle.coap_model.specs.Step.{message_in}
 use Rattle.coap_model.specs.Empties.{acknowledges}
 use Rattle.coap_model.specs.History.{moves, Deed, Brings, last_of}
@@ -53,17 +53,17 @@ use Rattle.coap_model.proofs.Stores.{store-otherwise}
 -- ---- one request
 
 -- Message IDs aren't reused too soon
-pub differ : (w : World) (history : List Deed) → Bears history w → IdsDiffer history
+pub differ : (w : State) (history : List Deed) → Bears history w → IdsDiffer history
 differ w history c = ids-differ w.setting.first_id history c.ids.are_ids c.ids.windows c.clock.in_order
 
 -- the last moment isn't later than now
-pub last-now : (w : World) (history : List Deed) → Bears history w → (now : ℕ) → w.last ≤ now → last_of history ≤ now
+pub last-now : (w : State) (history : List Deed) → Bears history w → (now : ℕ) → w.last ≤ now → last_of history ≤ now
 last-now w history c now onward = let h = c.clock.last in omega (arith, h, onward)
 
 -- ---- the answer
 
 -- an answer that arrives preserves what is carried, whatever is sent immediately and remembered
-module _ (w : World) (history : List Deed) (c : Bears history w) (now draw : ℕ) (source : Endpoint) (bytes : List ℕ) (grown : Bool) (m : Message) (x : Numbered Exchange) (storing : Storing) (store : List Entry) (send : Option Endpoint) (told : List ℕ) (con non : Records) where
+module _ (w : State) (history : List Deed) (c : Bears history w) (now draw : ℕ) (source : Endpoint) (bytes : List ℕ) (grown : Bool) (m : Message) (x : Numbered Exchange) (storing : Storing) (store : List Entry) (send : Option Endpoint) (told : List ℕ) (con non : Records) where
   abbrev answer_deed : Deed
   answer_deed = doing (moves x.0) (record { now = now; draw = draw; event = arrival source bytes; report = record { send = send; outcome = Answered storing }; bytes = told })
 
@@ -133,7 +133,7 @@ module _ (w : World) (history : List Deed) (c : Bears history w) (now draw : ℕ
       (answered-so w history c now m x e refl flight refl refl brings a.1 fits grown storing store answer stored, c.past)
 
 -- a message that isn't Confirmable and gives an answer preserves what is carried
-pub keeps_answering : (w : World) (history : List Deed) (c : Bears history w) → (now draw : ℕ) (source : Endpoint) (bytes : List ℕ) (grown : Bool) (m : Message) (x : Numbered Exchange) (storing : Storing) (store : List Entry) → w.last ≤ now → IsBytes bytes → message_in w.setting.limits.datagram bytes ≡ Some m → IsAnswerFor w now source m x → is_con m.kind ≡ false → IsStoring (changed_world w m x) now grown x (answer_for w now m x.1) storing store
+pub keeps_answering : (w : State) (history : List Deed) (c : Bears history w) → (now draw : ℕ) (source : Endpoint) (bytes : List ℕ) (grown : Bool) (m : Message) (x : Numbered Exchange) (storing : Storing) (store : List Entry) → w.last ≤ now → IsBytes bytes → message_in w.setting.limits.datagram bytes ≡ Some m → IsAnswerFor w now source m x → is_con m.kind ≡ false → IsStoring (changed_world w m x) now grown x (answer_for w now m x.1) storing store
     → Bears (doing (moves x.0) (entry_of now draw (arrival source bytes) (silent (Answered storing) (answered_world (changed_world w m x) now x.0 (answer_for w now m x.1) store))) ∷ history) (answered_world (changed_world w m x) now x.0 (answer_for w now m x.1) store)
 keeps_answering w history c now draw source bytes grown m x storing store onward fits read for other stored =
     let e = doing (moves x.0) (entry_of now draw (arrival source bytes) (silent (Answered storing) (answered_world (changed_world w m x) now x.0 (answer_for w now m x.1) store))) in
@@ -146,8 +146,8 @@ keeps_answering w history c now draw source bytes grown m x storing store onward
     )
 
 -- and so does a Confirmable one, which is acknowledged and remembered
-pub keeps_answering_con : (w : World) (history : List Deed) (c : Bears history w) → (now draw : ℕ) (source : Endpoint) (bytes : List ℕ) (grown : Bool) (m : Message) (x : Numbered Exchange) (storing : Storing) (store : List Entry) → w.last ≤ now → IsBytes bytes → Recorded w bytes m → IsAnswerFor w now source m x → is_con m.kind ≡ true → known_of w now source m ≡ None → has_record_room w now source m.kind ≡ true → IsStoring (changed_world w m x) now grown x (answer_for w now m x.1) storing store
-    → Bears (doing (moves x.0) (entry_of now draw (arrival source bytes) (says (Answered storing) source (acknowledgement m.id) (answered_world (changed_world w m x) now x.0 (answer_for w now m x.1) store))) ∷ history) (remembers now source m (says (Answered storing) source (acknowledgement m.id) (answered_world (changed_world w m x) now x.0 (answer_for w now m x.1) store))).world
+pub keeps_answering_con : (w : State) (history : List Deed) (c : Bears history w) → (now draw : ℕ) (source : Endpoint) (bytes : List ℕ) (grown : Bool) (m : Message) (x : Numbered Exchange) (storing : Storing) (store : List Entry) → w.last ≤ now → IsBytes bytes → Recorded w bytes m → IsAnswerFor w now source m x → is_con m.kind ≡ true → known_of w now source m ≡ None → has_record_room w now source m.kind ≡ true → IsStoring (changed_world w m x) now grown x (answer_for w now m x.1) storing store
+    → Bears (doing (moves x.0) (entry_of now draw (arrival source bytes) (says (Answered storing) source (acknowledgement m.id) (answered_world (changed_world w m x) now x.0 (answer_for w now m x.1) store))) ∷ history) (remembers now source m (says (Answered storing) source (acknowledgement m.id) (answered_world (changed_world w m x) now x.0 (answer_for w now m x.1) store))).state
 keeps_answering_con w history c now draw source bytes grown m x storing store onward fits recorded for con unknown room stored =
     let s = says (Answered storing) source (acknowledgement m.id) (answered_world (changed_world w m x) now x.0 (answer_for w now m x.1) store) in
     let e = doing (moves x.0) (entry_of now draw (arrival source bytes) s) in
@@ -160,8 +160,8 @@ keeps_answering_con w history c now draw source bytes grown m x storing store on
 -- ---- an acknowledgement
 
 -- acknowledging the request of an exchange preserves what is carried
-pub keeps_acknowledging : (w : World) (history : List Deed) (c : Bears history w) → (now draw : ℕ) (source : Endpoint) (bytes : List ℕ) (m : Message) (x : Numbered Exchange) → w.last ≤ now → IsBytes bytes → message_in w.setting.limits.datagram bytes ≡ Some m → IsAbout w now source m x → is_ack m.kind ≡ true
-    → Bears (doing (moves x.0) (entry_of now draw (arrival source bytes) (acknowledges w now x.0)) ∷ history) (acknowledges w now x.0).world
+pub keeps_acknowledging : (w : State) (history : List Deed) (c : Bears history w) → (now draw : ℕ) (source : Endpoint) (bytes : List ℕ) (m : Message) (x : Numbered Exchange) → w.last ≤ now → IsBytes bytes → message_in w.setting.limits.datagram bytes ≡ Some m → IsAbout w now source m x → is_ack m.kind ≡ true
+    → Bears (doing (moves x.0) (entry_of now draw (arrival source bytes) (acknowledges w now x.0)) ∷ history) (acknowledges w now x.0).state
 keeps_acknowledging w history c now draw source bytes m x onward fits read about ack =
     let e = doing (moves x.0) (entry_of now draw (arrival source bytes) (acknowledges w now x.0)) in
     let a = about-here w history c now source m x about in

@@ -35,7 +35,7 @@ use Rattle.coap_model.specs.Setting.{Setting}
 use Rattle.coap_model.specs.Events.{arrival}
 use Rattle.coap_message.specs.Codes.{is_response}
 use Rattle.coap_forward.specs.Messages.{is_ack, is_rst, is_bare, is_empty, brings_requests, brings_responses, token_of}
-use Rattle.coap_model.specs.World.{World, records_of}
+use Rattle.coap_model.specs.State.{State, records_of}
 use Rattle.coap_model.specs.Step.{message_in}
 use Rattle.coap_model.specs.Responses.{is_in_flight, was_sent_with, has_id, awaits, awaiting}
 use Rattle.coap_model.specs.Standing.{sent, stage_of, told, service_of}
@@ -67,7 +67,7 @@ asked-opened setting history all x p at s =
 -- ---- from the tables to the history
 
 -- what is known of an exchange whose request was sent, and that isn't answered
-pub record IsHere (w : World) (history : List Deed) (source : Endpoint) (x : Numbered Exchange) : Type 0 where
+pub record IsHere (w : State) (history : List Deed) (source : Endpoint) (x : Numbered Exchange) : Type 0 where
   pub exchange : IsExchangeOf w.setting history x
   pub there : Has x w.exchanges
   pub found : item_at x.0 w.exchanges ≡ Some x.1
@@ -119,7 +119,7 @@ rst-brings Rst is e = absurd cc
 pub empty-is : (m : Message) → is_bare m ≡ true → m.code ≡ EMPTY
 empty-is m bare = code-same m.code EMPTY (eqb-true m.code.0 0 (and_parts (is_empty m.code) (is_ack m.kind || is_rst m.kind) bare).0)
 
-module _ (w : World) (history : List Deed) (c : Bears history w) (now : ℕ) (source : Endpoint) (m : Message) (x : Numbered Exchange) where
+module _ (w : State) (history : List Deed) (c : Bears history w) (now : ℕ) (source : Endpoint) (m : Message) (x : Numbered Exchange) where
   -- the exchange that the search for a response finds awaits it
   response-here : awaiting w source m ≡ Some x → IsHere w history source x × (has_id m x.1.sending ≡ true) × (m.token ≡ token_of w.setting.salt x.0)
   response-here found =
@@ -151,13 +151,13 @@ first-passes test xs least x rising first there = go (find (λ (y : Numbered Exc
         subst (λ (b : Exchange). test b ≡ true) one f.1
 
 -- what is known of the exchange whose request an Empty message refers to
-pub record IsSentAs (w : World) (history : List Deed) (now : ℕ) (source : Endpoint) (m : Message) (x : Numbered Exchange) : Type 0 where
+pub record IsSentAs (w : State) (history : List Deed) (now : ℕ) (source : Endpoint) (m : Message) (x : Numbered Exchange) : Type 0 where
   pub here : IsHere w history source x
   pub state_is : x.1.state ≡ Sent
   pub id_is : here.flight.sending.id ≡ m.id
   pub soon : now - here.flight.sending.timer.started < 247000
 
-module _ (w : World) (history : List Deed) (c : Bears history w) (now : ℕ) (source : Endpoint) (m : Message) (x : Numbered Exchange) where
+module _ (w : State) (history : List Deed) (c : Bears history w) (now : ℕ) (source : Endpoint) (m : Message) (x : Numbered Exchange) where
   -- the exchange that an Empty message refers to is there, and was sent with its id
   pub about-here : IsAbout w now source m x → IsSentAs w history now source m x
   about-here a =
@@ -275,7 +275,7 @@ sent-stage at to Sent e = refl
 sent-stage at to Acked e = absurd cc
 sent-stage at to (Done a) e = absurd cc
 
-module _ (w : World) (history : List Deed) (c : Bears history w) (now : ℕ) (source : Endpoint) (bytes : List ℕ) (onward : w.last ≤ now) (none : IsNothing w now source bytes) where
+module _ (w : State) (history : List Deed) (c : Bears history w) (now : ℕ) (source : Endpoint) (bytes : List ℕ) (onward : w.last ≤ now) (none : IsNothing w now source bytes) where
   -- the message that an event brings is the one that is read
   read-here : {to : Endpoint} {m : Message} → (b : Brings w.setting.limits.datagram to m (arrival source bytes)) → (source ≡ to) × (message_in w.setting.limits.datagram bytes ≡ Some m)
   read-here {to} {m} b =
@@ -400,7 +400,7 @@ bare-kind Non e = absurd cc
 bare-kind Ack e = inl refl
 bare-kind Rst e = inr refl
 
-module _ (w : World) (history : List Deed) (c : Bears history w) (now : ℕ) (source : Endpoint) (bytes : List ℕ) where
+module _ (w : State) (history : List Deed) (c : Bears history w) (now : ℕ) (source : Endpoint) (bytes : List ℕ) where
   -- an Empty message closes the client that was sent its answer with this id at its source
   closes-one : (m : Message) (v : Numbered Waiter) → IsBytes bytes → message_in w.setting.limits.datagram bytes ≡ Some m → is_bare m ≡ true → IsWaiterOf w.setting history v → Has v w.waiters → waiters.was_sent_as source m.id now v.1 ≡ true → Closes w.setting history now v.0 (arrival source bytes)
   closes-one m v fits read bare f there passes =

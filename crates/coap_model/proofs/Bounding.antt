@@ -5,7 +5,7 @@ use Rattle.std.proofs.lemmas.Nat.{mul-le}
 use Rattle.coap_limits.specs.Limits.{AreLimits}
 use Rattle.coap_limits.specs.declared.limits.Limit.TheVariants.{ExchangeMs}
 use Rattle.coap_model.specs.Setting.{Setting}
-use Rattle.coap_model.specs.World.{World}
+use Rattle.coap_model.specs.State.{State}
 use Rattle.coap_model.specs.History.{Entry, Act, no_item, admits, moves, serves, Deed, told_by, Place, IsPlaceOf}
 use Rattle.coap_model.specs.Schedules.{next_send, oldest, sends_by, sends_for}
 use Rattle.coap_model.specs.Due.{IsDueAt, to_send, to_repeat, to_end, to_serve, to_serve_again}
@@ -66,7 +66,7 @@ due-in setting deeds schedules r most (serves v) at (to_serve due) = omega (arit
 due-in setting deeds schedules r most (serves v) at (to_serve_again due) = omega (arith, due.at_is, next-in (sends_by (serves v) deeds) (schedules (serves v)).few (sends-in (serves v) deeds r))
 
 -- so is the next moment at which something is due
-pub next-bounded : (w : World) (history : List Entry) (at : ℕ) → Carries history w → AreInRange history → AreLimits w.setting.limits → next_due w ≡ Some at → at ≤ 2 ^ 62 + 600000
+pub next-bounded : (w : State) (history : List Entry) (at : ℕ) → Carries history w → AreInRange history → AreLimits w.setting.limits → next_due w ≡ Some at → at ≤ 2 ^ 62 + 600000
 next-bounded w history at c r limits next =
     let is = next-is w c.deeds c.bears at next in
     due-in w.setting c.deeds c.bears.schedules (subst AreInRange (sym c.told) r) (limits ExchangeMs).1 is.act at is.due

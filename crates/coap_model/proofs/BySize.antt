@@ -12,7 +12,7 @@ use Rattle.coap_model.specs.declared.report.Storing.TheVariants.{Kept, TooLarge,
 use Rattle.coap_limits.specs.declared.limits.Limit.TheVariants.{CacheEntries}
 use Rattle.coap_limits.specs.Limits.{AreLimits}
 use Rattle.coap_model.specs.Setting.{Setting}
-use Rattle.coap_model.specs.World.{World}
+use Rattle.coap_model.specs.State.{State}
 use Rattle.coap_model.specs.History.{Entry as Told, Deed, takes, Gets}
 use Rattle.coap_model.specs.Pairs.{Pairs}
 use Rattle.coap_model.specs.Changed.{asked_of, key_asked, to_get, Unchanged, IsTold}
@@ -124,7 +124,7 @@ newest-unmarked setting past d o stored is = is.same ∙ ap (λ (b : Bool). entr
     go true t = absurd (told-contrary gets.meets.asking unchanged t)
 
 -- and it comes first in the store of a proxy
-pub stored-first : (w : World) (history : List Told) (c : Carries history w) (past : List Deed) (d : Deed) → AreLimits w.setting.limits → c.deeds ≡ d ∷ past → d.entry.report.outcome ≡ Answered Kept → (o : IsObtainedHere w.setting past d) → StandsFirst (entry_of_cached (entry_here o)) w.store
+pub stored-first : (w : State) (history : List Told) (c : Carries history w) (past : List Deed) (d : Deed) → AreLimits w.setting.limits → c.deeds ≡ d ∷ past → d.entry.report.outcome ≡ Answered Kept → (o : IsObtainedHere w.setting past d) → StandsFirst (entry_of_cached (entry_here o)) w.store
 stored-first w history c past d limits deeds is o =
     let store = subst (λ (ds : List Deed). IsStoreOf w.setting ds w.store) deeds c.bears.store in
     let all = subst (λ (ds : List Deed). AllJustified w.setting ds) deeds c.bears.past in

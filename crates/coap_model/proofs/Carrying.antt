@@ -5,7 +5,7 @@ use Rattle.std.specs.Prelude.{◌/◌}
 use Rattle.coap_target.specs.Routes.{AreRoutes}
 use Rattle.coap_model.specs.Setting.{Setting}
 use Rattle.coap_model.specs.Events.{Event, IsEvent}
-use Rattle.coap_model.specs.World.{World, Step, new_world}
+use Rattle.coap_model.specs.State.{State, Step, new_world}
 use Rattle.coap_model.specs.Step.{step_of}
 use Rattle.coap_model.specs.History.{Entry, Act, no_item, admits, moves, serves, Deed, opened_in, admitted_in}
 use Rattle.coap_model.specs.Runs.{entry_of}
@@ -24,12 +24,12 @@ use Rattle.coap_model.proofs.Delivering.{keeps_delivering}
 use Rattle.coap_model.proofs.Clients.{keeps_closing, keeps_redelivering, keeps_abandoning}
 
 -- the tables after an entry agree with its deed in front of the deeds before it
-pub record IsKept (history : List Deed) (e : Entry) (w : World) : Type 0 where
+pub record IsKept (history : List Deed) (e : Entry) (w : State) : Type 0 where
   pub act : Act
   pub bears : Bears (doing act e ∷ history) w
 
 -- each case of a step preserves what is carried
-keeps_rule : {w : World} {now draw : ℕ} {grown : Bool} {event : Event} {s : Step} (history : List Deed) → Bears history w → w.last ≤ now → Rule w now draw grown event s → IsKept history (entry_of now draw event s) s.world
+keeps_rule : {w : State} {now draw : ℕ} {grown : Bool} {event : Event} {s : Step} (history : List Deed) → Bears history w → w.last ≤ now → Rule w now draw grown event s → IsKept history (entry_of now draw event s) s.state
 keeps_rule {w = w} {now = now} {draw = draw} history c onward (refusing client bytes m code first denied free) = record { act = no_item; bears = keeps_refusing w history c now draw client bytes m onward first code denied free }
 keeps_rule {w = w} {now = now} {draw = draw} history c onward (lacking client bytes m first free) = record { act = no_item; bears = keeps_lacking w history c now draw client bytes m onward first free }
 keeps_rule {w = w} {now = now} {draw = draw} history c onward (overloading client bytes m key first verdict lacks free) = record { act = no_item; bears = keeps_overloading w history c now draw client bytes m onward first key verdict lacks free }
@@ -54,11 +54,11 @@ keeps_rule {w = w} {now = now} {draw = draw} history c onward (idling nothing) =
 keeps_rule {w = w} {now = now} {draw = draw} history c onward (stuck s) = not-stuck w history c now s
 
 -- a step continues the deeds before it
-pub keeps_deeds : (w : World) (history : List Deed) (now draw : ℕ) (grown : Bool) (event : Event) → Bears history w → w.last ≤ now → IsEvent event → IsKept history (entry_of now draw event (step_of w now draw grown event)) (step_of w now draw grown event).world
+pub keeps_deeds : (w : State) (history : List Deed) (now draw : ℕ) (grown : Bool) (event : Event) → Bears history w → w.last ≤ now → IsEvent event → IsKept history (entry_of now draw event (step_of w now draw grown event)) (step_of w now draw grown event).state
 keeps_deeds w history now draw grown event c onward fits = keeps_rule history c onward (rule_of w now draw grown event fits)
 
 -- so each step preserves what is carried
-pub keeps_step : (w : World) (history : List Entry) (now draw : ℕ) (grown : Bool) (event : Event) → Carries history w → w.last ≤ now → IsEvent event → Carries (entry_of now draw event (step_of w now draw grown event) ∷ history) (step_of w now draw grown event).world
+pub keeps_step : (w : State) (history : List Entry) (now draw : ℕ) (grown : Bool) (event : Event) → Carries history w → w.last ≤ now → IsEvent event → Carries (entry_of now draw event (step_of w now draw grown event) ∷ history) (step_of w now draw grown event).state
 keeps_step w history now draw grown event c onward fits =
     let e = entry_of now draw event (step_of w now draw grown event) in
     let k = keeps_deeds w c.deeds now draw grown event c.bears onward fits in

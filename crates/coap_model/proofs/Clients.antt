@@ -23,7 +23,7 @@ use Rattle.std.proofs.lemmas.Option.{same_Some}
 use Rattle.coap_model.specs.declared.due.DueItem.TheVariants.{OfWaiter}
 use Rattle.coap_model.specs.declared.report.Outcome.TheVariants.{Resent, Delivered}
 use Rattle.coap_model.specs.Events.{arrival, tick}
-use Rattle.coap_model.specs.World.{World, later}
+use Rattle.coap_model.specs.State.{State, later}
 use Rattle.coap_model.specs.Ticks.{redelivers, abandons}
 use Rattle.coap_model.specs.Empties.{closes}
 use Rattle.coap_model.specs.Step.{message_in}
@@ -64,7 +64,7 @@ pub record IsService (n : ℕ) (e : Deed) : Type 0 where
   pub leaves_open : (standing : List Standing) (xs : List Open) → open_by e.entry.report.outcome e.act e.entry.event e.entry.report.send standing xs ≡ xs
 
 -- what is known of the remaining clients: as many wait for each exchange as before
-pub record AreLeft (w : World) (left : List (Numbered Waiter)) : Type 0 where
+pub record AreLeft (w : State) (left : List (Numbered Waiter)) : Type 0 where
   pub rising : IsRising 0 left
   pub fewer : length left ≤ length w.waiters
   pub waiting : count is_waiting left ≡ count is_waiting w.waiters
@@ -72,7 +72,7 @@ pub record AreLeft (w : World) (left : List (Numbered Waiter)) : Type 0 where
   pub awaited : AllByRecursion (λ v. HasExchange v.1.state w.exchanges) left
 
 -- such a step preserves what is carried
-pub keeps_service : (w : World) (history : List Deed) (c : Bears history w) (e : Deed) (n : ℕ) (left : List (Numbered Waiter)) → IsService n e → ((k : Kind) → is_remembered e.entry.report.outcome k ≡ false) → w.last ≤ e.entry.now → Somewhere (Serves n) history
+pub keeps_service : (w : State) (history : List Deed) (c : Bears history w) (e : Deed) (n : ℕ) (left : List (Numbered Waiter)) → IsService n e → ((k : Kind) → is_remembered e.entry.report.outcome k ≡ false) → w.last ≤ e.entry.now → Somewhere (Serves n) history
     → AreLeft w left
     → map standing_seen left ≡ standing_in (e ∷ history)
     → ((v : ℕ) → v ≢ n → HasNumber v w.waiters → HasNumber v left)
@@ -120,11 +120,11 @@ keeps_service w history c e n left s none onward served are seen there each numb
 -- ---- what was sent to a client
 
 -- the client that is due was sent its answer
-pub told-is : (w : World) (history : List Deed) (c : Bears history w) (n id : ℕ) (v : Waiter) (bytes : List ℕ) (timer : Timer) → item_at n w.waiters ≡ Some v → v.state ≡ Delivering bytes id timer → IsDelivering w.setting history (n, v) bytes id timer
+pub told-is : (w : State) (history : List Deed) (c : Bears history w) (n id : ℕ) (v : Waiter) (bytes : List ℕ) (timer : Timer) → item_at n w.waiters ≡ Some v → v.state ≡ Delivering bytes id timer → IsDelivering w.setting history (n, v) bytes id timer
 told-is w history c n id v bytes timer found state = subst (IsWaiterIn w.setting history (n, v)) state (item-holds (IsWaiterOf w.setting history) n w.waiters v c.waiters found)
 
 -- it is due to be sent it again when its timer is due
-pub to-serve-again : (w : World) (history : List Deed) (c : Bears history w) (now at n id : ℕ) (v : Waiter) (bytes : List ℕ) (timer : Timer) → IsTurnOfTold w now at n v bytes id timer → IsToServeAgain history n at × (timer.due ≡ at) × (at ≤ now)
+pub to-serve-again : (w : State) (history : List Deed) (c : Bears history w) (now at n id : ℕ) (v : Waiter) (bytes : List ℕ) (timer : Timer) → IsTurnOfTold w now at n v bytes id timer → IsToServeAgain history n at × (timer.due ≡ at) × (at ≤ now)
 to-serve-again w history c now at n id v bytes timer turn =
     let g = told-is w history c n id v bytes timer turn.found turn.state in
     let there = item-Has n w.waiters v turn.found in
@@ -141,7 +141,7 @@ to-serve-again w history c now at n id v bytes timer turn =
 
 -- ---- the remaining clients
 
-module _ (w : World) (history : List Deed) (c : Bears history w) (n : ℕ) where
+module _ (w : State) (history : List Deed) (c : Bears history w) (n : ℕ) where
   -- the others stay as they were
   pub others-are : (e : Deed) → e.act ≡ serves n → AllByRecursion (IsWaiterOf w.setting (e ∷ history)) (without n w.waiters)
   others-are e act =
@@ -192,8 +192,8 @@ module _ (w : World) (history : List Deed) (c : Bears history w) (n : ℕ) where
 -- ---- the rules
 
 -- sending a client its answer again preserves what is carried
-pub keeps_redelivering : (w : World) (history : List Deed) (c : Bears history w) (now draw at n : ℕ) (v : Waiter) (bytes : List ℕ) (id : ℕ) (timer : Timer) → w.last ≤ now → IsTurnOfTold w now at n v bytes id timer → fire_of now timer ≡ Again
-    → Bears (doing (serves n) (entry_of now draw tick (redelivers w now n v bytes)) ∷ history) (redelivers w now n v bytes).world
+pub keeps_redelivering : (w : State) (history : List Deed) (c : Bears history w) (now draw at n : ℕ) (v : Waiter) (bytes : List ℕ) (id : ℕ) (timer : Timer) → w.last ≤ now → IsTurnOfTold w now at n v bytes id timer → fire_of now timer ≡ Again
+    → Bears (doing (serves n) (entry_of now draw tick (redelivers w now n v bytes)) ∷ history) (redelivers w now n v bytes).state
 keeps_redelivering w history c now draw at n v bytes id timer onward turn fire =
     let e = doing (serves n) (entry_of now draw tick (redelivers w now n v bytes)) in
     let g = told-is w history c n id v bytes timer turn.found turn.state in
@@ -254,8 +254,8 @@ keeps_redelivering w history c now draw at n v bytes id timer onward turn fire =
     still-so (Delivering bytes id timer) = refl
 
 -- and so does giving up a client
-pub keeps_abandoning : (w : World) (history : List Deed) (c : Bears history w) (now draw at n : ℕ) (v : Waiter) (bytes : List ℕ) (id : ℕ) (timer : Timer) → w.last ≤ now → IsTurnOfTold w now at n v bytes id timer → fire_of now timer ≡ GiveUp
-    → Bears (doing (serves n) (entry_of now draw tick (abandons w now n)) ∷ history) (abandons w now n).world
+pub keeps_abandoning : (w : State) (history : List Deed) (c : Bears history w) (now draw at n : ℕ) (v : Waiter) (bytes : List ℕ) (id : ℕ) (timer : Timer) → w.last ≤ now → IsTurnOfTold w now at n v bytes id timer → fire_of now timer ≡ GiveUp
+    → Bears (doing (serves n) (entry_of now draw tick (abandons w now n)) ∷ history) (abandons w now n).state
 keeps_abandoning w history c now draw at n v bytes id timer onward turn fire =
     let e = doing (serves n) (entry_of now draw tick (abandons w now n)) in
     let g = told-is w history c n id v bytes timer turn.found turn.state in
@@ -273,8 +273,8 @@ keeps_abandoning w history c now draw at n v bytes id timer onward turn fire =
     (unacknowledged n (acting w history c now (OfWaiter at n) turn.due e refl refl refl) refl t.0 (may-not now (sends_by (serves n) history) timer g.timer_is (goes-no_more now timer fire)) (record { sent = refl; bytes = refl }), c.past)
 
 -- and so does closing a client that acknowledged its answer
-pub keeps_closing : (w : World) (history : List Deed) (c : Bears history w) (now draw : ℕ) (source : Endpoint) (bytes : List ℕ) (m : Message) (n : ℕ) → w.last ≤ now → IsBytes bytes → message_in w.setting.limits.datagram bytes ≡ Some m → IsOfAnswer w now source m n
-    → Bears (doing (serves n) (entry_of now draw (arrival source bytes) (closes w now n)) ∷ history) (closes w now n).world
+pub keeps_closing : (w : State) (history : List Deed) (c : Bears history w) (now draw : ℕ) (source : Endpoint) (bytes : List ℕ) (m : Message) (n : ℕ) → w.last ≤ now → IsBytes bytes → message_in w.setting.limits.datagram bytes ≡ Some m → IsOfAnswer w now source m n
+    → Bears (doing (serves n) (entry_of now draw (arrival source bytes) (closes w now n)) ∷ history) (closes w now n).state
 keeps_closing w history c now draw source bytes m n onward fits read about =
     let e = doing (serves n) (entry_of now draw (arrival source bytes) (closes w now n)) in
     let k = closes-here w history c now source bytes m n fits read about in

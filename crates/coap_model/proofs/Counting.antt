@@ -18,7 +18,7 @@ use Rattle.coap_exchange.specs.declared.waiter.Waiter.{Waiter}
 use Rattle.coap_exchange.specs.declared.waiter.WaiterState.{WaiterState}
 use Rattle.coap_exchange.specs.declared.waiter.WaiterState.TheVariants.{Waiting, Delivering}
 use Rattle.coap_exchange.specs.Table.{Numbered}
-use Rattle.coap_model.specs.World.{World}
+use Rattle.coap_model.specs.State.{State}
 use Rattle.coap_model.specs.Held.{host_bytes, key_bytes, response_bytes, copy_bytes, state_bytes, exchange_bytes, answer_bytes, waiter_bytes, held, response_size, answer_size, copy_size, exchange_size, waiter_size, bytes_held}
 
 -- values, each with one extra byte, take at most as much as the pieces that are kept
@@ -75,7 +75,7 @@ waiter-kept v (Waiting exchange) = omega (arith, tags-kept v.tags)
 waiter-kept v (Delivering bytes id timer) = omega arith
 
 -- and everything that is held
-pub bytes-kept : (w : World) → bytes_held w ≤ held w
+pub bytes-kept : (w : State) → bytes_held w ≤ held w
 bytes-kept w =
     omega (
       arith,

@@ -35,7 +35,7 @@ use Rattle.coap_model.specs.Events.{tick}
 use Rattle.coap_exchange.specs.declared.exchange.ExchangeState.{ExchangeState}
 use Rattle.coap_exchange.specs.declared.exchange.ExchangeState.TheVariants.{Queued, Sent, Acked, Done}
 use Rattle.coap_model.specs.Setting.{Setting}
-use Rattle.coap_model.specs.World.{World, next_id}
+use Rattle.coap_model.specs.State.{State, next_id}
 use Rattle.coap_model.specs.Ticks.{item_due, if_due, without_idle, given_to, tells}
 use Rattle.coap_model.specs.Schedules.{IsSchedule, sends_by}
 use Rattle.coap_model.specs.History.{Entry, serves, moves, Deed, Place, IsPlaceOf, Never, admits_one, ends, Ends, Serves, is_con_datagram}
@@ -65,7 +65,7 @@ use Rattle.coap_model.proofs.Tables.{item-Has, item-holds, one-item, without-few
 -- ---- what is served
 
 -- what is known of a client that is served with an answer
-pub record IsServed (w : World) (history : List Deed) (number exchange : ℕ) (v : Waiter) (x : Exchange) (a : Answer) : Type 0 where
+pub record IsServed (w : State) (history : List Deed) (number exchange : ℕ) (v : Waiter) (x : Exchange) (a : Answer) : Type 0 where
   pub waits : IsWaiting w.setting history (number, v) exchange
   pub is : IsExchangeOf w.setting history (exchange, x)
   pub there : Has (exchange, x) w.exchanges
@@ -80,7 +80,7 @@ done-by setting history x a Acked e state = absurd cc
 done-by setting history x a (Done b) e state = subst (IsDone setting history x) (same_Some b a e) state
 
 -- a client whose exchange has its answer is served with it
-pub served : (w : World) (history : List Deed) (c : Bears history w) (number exchange : ℕ) (v : Waiter) (x : Exchange) (a : Answer) → item_at number w.waiters ≡ Some v → v.state ≡ Waiting exchange → item_at exchange w.exchanges ≡ Some x → answer_at x ≡ Some a → IsServed w history number exchange v x a
+pub served : (w : State) (history : List Deed) (c : Bears history w) (number exchange : ℕ) (v : Waiter) (x : Exchange) (a : Answer) → item_at number w.waiters ≡ Some v → v.state ≡ Waiting exchange → item_at exchange w.exchanges ≡ Some x → answer_at x ≡ Some a → IsServed w history number exchange v x a
 served w history c number exchange v x a found waits there answer =
     let g : IsWaiting w.setting history (number, v) exchange = subst (IsWaiterIn w.setting history (number, v)) waits (item-holds (IsWaiterOf w.setting history) number w.waiters v c.waiters found) in
     let is = item-holds (IsExchangeOf w.setting history) exchange w.exchanges x c.exchanges there in
@@ -95,11 +95,11 @@ served w history c number exchange v x a found waits there answer =
 -- ---- what is sent
 
 -- the answer of an exchange is sent as a message
-pub ending-is : (w : World) (kind : Kind) (to_get : Bool) (now id x : ℕ) (key : CacheKey) (p : Place) (a : Answer) (token : List ℕ) (tags : List (List ℕ)) → EndsWith w.setting x key p a → length token ≤ 8 → IsMessage (shown_as kind to_get now a id token tags)
+pub ending-is : (w : State) (kind : Kind) (to_get : Bool) (now id x : ℕ) (key : CacheKey) (p : Place) (a : Answer) (token : List ℕ) (tags : List (List ℕ)) → EndsWith w.setting x key p a → length token ≤ 8 → IsMessage (shown_as kind to_get now a id token tags)
 ending-is w kind to_get now id x key p a token tags ending short = shown-is w.setting.limits.datagram kind to_get now a id token tags (ending-holdable w.setting x key p a ending) short
 
 -- and is no longer than the limit of datagrams, or than 128 bytes
-pub ending-fits : (w : World) (kind : Kind) (to_get : Bool) (now id x : ℕ) (key : CacheKey) (p : Place) (a : Answer) (token : List ℕ) (tags : List (List ℕ)) (most : ℕ) → EndsWith w.setting x key p a → length token ≤ 8 → 128 ≤ most → w.setting.limits.datagram ≤ most → length (spelling (shown_as kind to_get now a id token tags)) ≤ most
+pub ending-fits : (w : State) (kind : Kind) (to_get : Bool) (now id x : ℕ) (key : CacheKey) (p : Place) (a : Answer) (token : List ℕ) (tags : List (List ℕ)) (most : ℕ) → EndsWith w.setting x key p a → length token ≤ 8 → 128 ≤ most → w.setting.limits.datagram ≤ most → length (spelling (shown_as kind to_get now a id token tags)) ≤ most
 ending-fits w kind to_get now id x key p a token tags most ending short wide long = shown-fits w.setting.limits.datagram most kind to_get now a id token tags wide long (ending-holdable w.setting x key p a ending) short
 
 -- it is sent in a Confirmable message if the client's request was Confirmable
@@ -109,7 +109,7 @@ con-told bytes m spells = ap (λ (o : Option Head). option_map_or (λ h. is_con 
 -- ---- the remaining clients
 
 -- what is known of the remaining clients after one was served: one fewer waits, for its exchange
-pub record IsServing (w : World) (number exchange : ℕ) (left : List (Numbered Waiter)) : Type 0 where
+pub record IsServing (w : State) (number exchange : ℕ) (left : List (Numbered Waiter)) : Type 0 where
   pub rising : IsRising 0 left
   pub fewer : length left ≤ length w.waiters
   pub less : count is_waiting left + 1 ≡ count is_waiting w.waiters
@@ -117,7 +117,7 @@ pub record IsServing (w : World) (number exchange : ℕ) (left : List (Numbered 
   pub awaited : AllByRecursion (λ u. HasExchange u.1.state w.exchanges) left
   pub numbers : (u : ℕ) → u ≢ number → HasNumber u w.waiters → HasNumber u left
 
-module _ (w : World) (history : List Deed) (c : Bears history w) (number exchange : ℕ) (v : Waiter) (found : item_at number w.waiters ≡ Some v) (waits : v.state ≡ Waiting exchange) where
+module _ (w : State) (history : List Deed) (c : Bears history w) (number exchange : ℕ) (v : Waiter) (found : item_at number w.waiters ≡ Some v) (waits : v.state ≡ Waiting exchange) where
   -- it waited before
   waited_here : one_if (passes is_waiting (item_at number w.waiters)) ≡ 1
   waited_here = ap (λ (b : Bool). one_if b) (ap (passes is_waiting) found ∙ ap is_waiting_state waits)
@@ -160,7 +160,7 @@ module _ (w : World) (history : List Deed) (c : Bears history w) (number exchang
 
 -- ---- the remaining exchanges
 
-module _ (w : World) (history : List Deed) (c : Bears history w) (number exchange : ℕ) (left : List (Numbered Waiter)) (r : IsServing w number exchange left) where
+module _ (w : State) (history : List Deed) (c : Bears history w) (number exchange : ℕ) (left : List (Numbered Waiter)) (r : IsServing w number exchange left) where
   -- as many wait for another exchange as before
   others-waited : (y : Numbered Exchange) → Has y w.exchanges → y.0 ≢ exchange → 0 < count (waits_for y.0) left
   others-waited y there other =
@@ -256,14 +256,14 @@ module _ (w : World) (history : List Deed) (c : Bears history w) (number exchang
           has
 
 -- it is due to be served since the end of its exchange
-served-at : (w : World) (history : List Deed) (c : Bears history w) (at number exchange : ℕ) (v : Waiter) (x : Exchange) (a : Answer) (f : IsServed w history number exchange v x a) → item_due w ≡ Some (OfWaiter at number) → item_at number w.waiters ≡ Some v → v.state ≡ Waiting exchange → item_at exchange w.exchanges ≡ Some x → answer_at x ≡ Some a → at ≡ f.done.ending.deed.entry.now
+served-at : (w : State) (history : List Deed) (c : Bears history w) (at number exchange : ℕ) (v : Waiter) (x : Exchange) (a : Answer) (f : IsServed w history number exchange v x a) → item_due w ≡ Some (OfWaiter at number) → item_at number w.waiters ≡ Some v → v.state ≡ Waiting exchange → item_at exchange w.exchanges ≡ Some x → answer_at x ≡ Some a → at ≡ f.done.ending.deed.entry.now
 served-at w history c at number exchange v x a f due found waits there answer =
     let d = first_due-holds (λ u. Has u w.waiters) (due_after w.exchanges) w.waiters (at, number) (Has-all w.waiters) (client-turn w history c at number due) in
     let here : due_after w.exchanges v ≡ Some at = subst (λ (u : Waiter). due_after w.exchanges u ≡ Some at) (one-item 0 w.waiters d.0 (number, v) c.whole.waiters_rise d.1 (item-Has number w.waiters v found) d.2) d.3 in
     let moment : Some a.got ≡ Some at = sym (ap (λ (s : WaiterState). due_in s w.exchanges) waits ∙ ap moment_of (ap answer_of there ∙ answer)) ∙ here in
     sym (same_Some a.got at moment) ∙ f.done.got
 
-abbrev to-serve : (w : World) (history : List Deed) (c : Bears history w) (at number exchange : ℕ) (v : Waiter) (x : Exchange) (a : Answer) (f : IsServed w history number exchange v x a) → at ≡ f.done.ending.deed.entry.now → IsToServe w.setting history number at
+abbrev to-serve : (w : State) (history : List Deed) (c : Bears history w) (at number exchange : ℕ) (v : Waiter) (x : Exchange) (a : Answer) (f : IsServed w history number exchange v x a) → at ≡ f.done.ending.deed.entry.now → IsToServe w.setting history number at
 to-serve w history c at number exchange v x a f moment =
     record {
       admitted = f.waits.admitted;
@@ -275,7 +275,7 @@ to-serve w history c at number exchange v x a f moment =
     }
 
 -- the exchange ended after the client was admitted
-ended-later : (w : World) (history : List Deed) (number exchange : ℕ) (v : Waiter) (x : Exchange) (a : Answer) (f : IsServed w history number exchange v x a) → IsPlaceOf f.done.ending.before f.waits.admitted.admission
+ended-later : (w : State) (history : List Deed) (number exchange : ℕ) (v : Waiter) (x : Exchange) (a : Answer) (f : IsServed w history number exchange v x a) → IsPlaceOf f.done.ending.before f.waits.admitted.admission
 ended-later w history number exchange v x a f =
     ⊎_elim
     (λ (same : f.done.ending ≡ admission). absurd (no-both f.done.ending.deed.entry.report.outcome f.done.ends.outcome (ap (λ (p : Place). admits_one p.deed.entry.report.outcome) same ∙ f.waits.admitted.admits.outcome)))
@@ -298,7 +298,7 @@ ended-later w history number exchange v x a f =
 
 -- if it is finished, the others stay as they are; if it has to acknowledge its answer, it was sent
 -- it once
-module _ (w : World) (history : List Deed) (c : Bears history w) (now draw at number exchange : ℕ) (v : Waiter) (x : Exchange) (a : Answer) (found : item_at number w.waiters ≡ Some v) (waits : v.state ≡ Waiting exchange) (f : IsServed w history number exchange v x a) where
+module _ (w : State) (history : List Deed) (c : Bears history w) (now draw at number exchange : ℕ) (v : Waiter) (x : Exchange) (a : Answer) (found : item_at number w.waiters ≡ Some v) (waits : v.state ≡ Waiting exchange) (f : IsServed w history number exchange v x a) where
   abbrev reply : Message
   reply = given_to w now v x.is_get a
 
@@ -369,8 +369,8 @@ module _ (w : World) (history : List Deed) (c : Bears history w) (now draw at nu
 -- ---- the rule
 
 -- serving a client preserves what is carried
-pub keeps_delivering : (w : World) (history : List Deed) (c : Bears history w) (now draw at number exchange : ℕ) (v : Waiter) (x : Exchange) (a : Answer) (left : List (Numbered Waiter)) → w.last ≤ now → if_due now (item_due w) ≡ Some (OfWaiter at number) → item_at number w.waiters ≡ Some v → v.state ≡ Waiting exchange → item_at exchange w.exchanges ≡ Some x → answer_at x ≡ Some a → IsTold w now draw number (given_to w now v x.is_get a) left
-    → Bears (doing (serves number) (entry_of now draw tick (tells w now v exchange (given_to w now v x.is_get a) left)) ∷ history) (tells w now v exchange (given_to w now v x.is_get a) left).world
+pub keeps_delivering : (w : State) (history : List Deed) (c : Bears history w) (now draw at number exchange : ℕ) (v : Waiter) (x : Exchange) (a : Answer) (left : List (Numbered Waiter)) → w.last ≤ now → if_due now (item_due w) ≡ Some (OfWaiter at number) → item_at number w.waiters ≡ Some v → v.state ≡ Waiting exchange → item_at exchange w.exchanges ≡ Some x → answer_at x ≡ Some a → IsTold w now draw number (given_to w now v x.is_get a) left
+    → Bears (doing (serves number) (entry_of now draw tick (tells w now v exchange (given_to w now v x.is_get a) left)) ∷ history) (tells w now v exchange (given_to w now v x.is_get a) left).state
 keeps_delivering w history c now draw at number exchange v x a left onward due found waits there answer told =
     let s = tells w now v exchange (given_to w now v x.is_get a) left in
     let e = doing (serves number) (entry_of now draw tick s) in
@@ -394,7 +394,7 @@ keeps_delivering w history c now draw at number exchange v x a left onward due f
       routes = c.routes;
       clock = clock_frame c.clock onward refl refl;
       numbers = numbers_frame c.numbers (omega arith) (omega arith);
-      ids = ids-given history w s.world e c.clock c.ids onward refl refl refl (omega arith) (record { gives = refl; message = reply; spells = spells; id_is = id-same w history c });
+      ids = ids-given history w s.state e c.clock c.ids onward refl refl refl (omega arith) (record { gives = refl; message = reply; spells = spells; id_is = id-same w history c });
       unused = unused_frame w.setting history e (λ x above. unmoved x) (λ u above same. let k = same_serves number u same in let i = admitted-number g.admitted in omega (arith, k, above, i.1)) c.unused;
       schedules = schedules_with history e (subst IsSchedule (sym (sends-first w history c now draw at number exchange v x a found waits f left)) (record { few = omega arith; spaced = tt })) c.schedules;
       whole = record {

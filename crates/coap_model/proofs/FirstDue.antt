@@ -5,7 +5,8 @@ use Rattle.std.proofs.lemmas.Bool.Decides.{nat_tests}
 use Rattle.std.proofs.lemmas.Option.{same_Some}
 use Rattle.coap_endpoint.proofs.Lists.{All-weaken}
 use Rattle.coap_exchange.specs.Table.{Numbered}
-use Rattle.coap_exchange.specs.Due.{is_before, sooner, as_due, due_row, first_due}
+use Rattle.ordered_index.specs.Ordered.{is_before}
+use Rattle.coap_exchange.specs.Due.{sooner, as_due, due_row, first_due}
 
 -- a moment and a number
 abbrev pub Due : Type 0

@@ -7,7 +7,7 @@ use Rattle.coap_limits.specs.declared.limits.Limit.TheVariants.{Datagram}
 use Rattle.coap_limits.specs.Limits.{AreLimits}
 use Rattle.coap_model.specs.Events.{Event, IsEvent}
 use Rattle.coap_forward.specs.Messages.{reset}
-use Rattle.coap_model.specs.World.{World, Step, repeats, next_id, records_of}
+use Rattle.coap_model.specs.State.{State, Step, repeats, next_id, records_of}
 use Rattle.coap_model.specs.Step.{step_of}
 use Rattle.coap_model.specs.History.{Entry, Deed}
 use Rattle.coap_model.specs.Carries.{Bears, Carries}
@@ -39,7 +39,7 @@ reset-short id = omega (arith, spelling-length (reset id))
 -- ---- each case
 
 -- in each case of a step, its datagram fits
-rule_fits : {w : World} {now draw : ℕ} {grown : Bool} {event : Event} {s : Step} (history : List Deed) → Bears history w → AreLimits w.setting.limits → Rule w now draw grown event s → length s.bytes ≤ w.setting.limits.datagram
+rule_fits : {w : State} {now draw : ℕ} {grown : Bool} {event : Event} {s : Step} (history : List Deed) → Bears history w → AreLimits w.setting.limits → Rule w now draw grown event s → length s.bytes ≤ w.setting.limits.datagram
 rule_fits {w = w} history c are (refusing client bytes m code first denied free) = let came = request-came w client bytes m first.fits first.asked in omega (arith, (are Datagram).0, own-short m code (next_id w) m.token came.brings.spells.message.token)
 rule_fits {w = w} history c are (lacking client bytes m first free) = omega arith
 rule_fits {w = w} history c are (overloading client bytes m key first verdict lacks free) = let came = request-came w client bytes m first.fits first.asked in omega (arith, (are Datagram).0, busy-short m w.setting.limits.retry_s (next_id w) m.token came.brings.spells.message.token)
@@ -82,5 +82,5 @@ rule_fits {w = w} history c are (idling nothing) = omega arith
 rule_fits {w = w} history c are (stuck s) = omega arith
 
 -- so each datagram fits
-pub datagrams_fit : (w : World) (history : List Entry) (now draw : ℕ) (grown : Bool) (event : Event) → Carries history w → AreLimits w.setting.limits → IsEvent event → length (step_of w now draw grown event).bytes ≤ w.setting.limits.datagram
+pub datagrams_fit : (w : State) (history : List Entry) (now draw : ℕ) (grown : Bool) (event : Event) → Carries history w → AreLimits w.setting.limits → IsEvent event → length (step_of w now draw grown event).bytes ≤ w.setting.limits.datagram
 datagrams_fit w history now draw grown event c are fits = rule_fits c.deeds c.bears are (rule_of w now draw grown event fits)

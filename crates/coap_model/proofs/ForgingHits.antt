@@ -44,7 +44,7 @@ use Rattle.coap_model.specs.Changed.{key_asked, Changes, IsTold, Unchanged, WasC
 use Rattle.coap_model.specs.CacheExamples.{get_for, kept_past, hits, hit_past, opens_again, opened_past, asks_again, asked_past, first_entry}
 use Rattle.coap_model.specs.ForgedHits.{reply, change_told, changed_message, change, changed_past, overtaken_past, keeps_overtaken, opens_two}
 use Rattle.coap_model.specs.Setting.{Setting}
-use Rattle.coap_model.specs.World.{World}
+use Rattle.coap_model.specs.State.{State}
 use Rattle.coap_model.specs.Word.{IsFromCache, KeepsItsWord}
 use Rattle.coap_model.specs.Standing.{Open, queued, open_by, open_in, standing_in}
 use Rattle.coap_model.specs.Justified.{IsHit, IsKept, IsOpening, JustifiedBy, AllJustified, verdict_on}
@@ -337,7 +337,7 @@ two-open setting past d e first second all =
     omega (arith, ap (λ (xs : List Open). length xs) there, more, room)
 
 -- so with room for one, this isn't the history of a proxy that keeps its promise
-pub two_exchanges : (w : World) → w.setting.limits.exchanges ≡ 1 → ¬ KeepsItsWord opens_two w
+pub two_exchanges : (w : State) → w.setting.limits.exchanges ≡ 1 → ¬ KeepsItsWord opens_two w
 two_exchanges w one word = go word.deeds word.told word.justified
   where
     outcome : Entry → Outcome

@@ -39,7 +39,7 @@ use Rattle.coap_model.specs.Verdicts.{verdict_of}
 use Rattle.coap_endpoint.specs.Endpoint.{same_endpoint}
 use Rattle.coap_dedup.specs.declared.record.Record.{Record}
 use Rattle.coap_model.specs.MessageIds.{IdsDiffer}
-use Rattle.coap_model.specs.World.{World}
+use Rattle.coap_model.specs.State.{State}
 use Rattle.coap_model.specs.Schedules.{AreSpaced}
 use Rattle.coap_model.specs.Standing.{one_if}
 use Rattle.coap_model.specs.Word.{IsFromCache, IsWithin, KeepsItsWord}
@@ -363,7 +363,7 @@ gives_1 : (now : ℕ) → Gives 1 (refused_with_1 now)
 gives_1 now = record { gives = refl; message = own_reply NOT_FOUND [] 1 []; spells = refusal_spelled; id_is = refl }
 
 -- a proxy that gives it out twice doesn't keep its promise
-pub one_id : (w : World) → ¬ KeepsItsWord of_one_id w
+pub one_id : (w : State) → ¬ KeepsItsWord of_one_id w
 one_id w word = go word.deeds word.told word.ids
   where
     nth : ℕ → List Entry → Entry

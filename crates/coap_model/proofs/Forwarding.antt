@@ -30,7 +30,7 @@ use Rattle.coap_forward.proofs.Tagging.{tag_for-is, tag_for-other, tags-forwarde
 use Rattle.coap_forward.proofs.Tokens.{length-token_of}
 use Rattle.coap_model.specs.declared.due.DueItem.TheVariants.{OfExchange}
 use Rattle.coap_model.specs.Events.{tick}
-use Rattle.coap_model.specs.World.{World, next_id}
+use Rattle.coap_model.specs.State.{State, next_id}
 use Rattle.coap_model.specs.Ticks.{sends}
 use Rattle.coap_model.specs.Runs.{entry_of}
 use Rattle.coap_model.specs.History.{Entry, moves, Deed}
@@ -75,8 +75,8 @@ sent-copy token key former tag m id get screened is = go tag ∙ sym (ap (λ (ts
 -- ---- the rule
 
 -- forwarding a request preserves what is carried
-pub keeps_forwarding : (w : World) (history : List Deed) (c : Bears history w) → (now draw at number : ℕ) (x : Exchange) → w.last ≤ now → IsTurnOf w now at number x → x.state ≡ Queued → now < deadline w.setting.limits.exchange_ms x
-    → Bears (doing (moves number) (entry_of now draw tick (sends w now draw number x)) ∷ history) (sends w now draw number x).world
+pub keeps_forwarding : (w : State) (history : List Deed) (c : Bears history w) → (now draw at number : ℕ) (x : Exchange) → w.last ≤ now → IsTurnOf w now at number x → x.state ≡ Queued → now < deadline w.setting.limits.exchange_ms x
+    → Bears (doing (moves number) (entry_of now draw tick (sends w now draw number x)) ∷ history) (sends w now draw number x).state
 keeps_forwarding w history c now draw at number x onward turn queued early =
     let e = doing (moves number) (entry_of now draw tick (sends w now draw number x)) in
     let p = here history e in

@@ -24,7 +24,7 @@ use Rattle.coap_exchange.specs.Table.{Numbered}
 use Rattle.coap_model.specs.declared.report.Outcome.{Outcome}
 use Rattle.coap_model.specs.declared.report.Outcome.TheVariants.{Opened}
 use Rattle.coap_model.specs.Setting.{Setting}
-use Rattle.coap_model.specs.World.{World}
+use Rattle.coap_model.specs.State.{State}
 use Rattle.coap_model.specs.History.{Act, no_item, admits, moves, serves, Deed, Place, IsPlaceOf, Somewhere, opens_one, admits_one, takes, Gets, opened_in, admitted_in, Opens, Admits}
 use Rattle.coap_model.specs.Schedules.{same_act, is_sending, sends_for, sends_by, IsSchedule}
 use Rattle.coap_model.specs.Carries.{Clock, Numbers, IsTimer, AreOfBytes, WasAsked, WasSent, IsInFlight, IsState, IsExchangeOf, IsWaiterIn, IsWaiterOf, AreUnused, AreSchedules}
@@ -33,11 +33,11 @@ use Rattle.coap_model.proofs.Places.{here, index_below, opened-later, admitted-l
 -- ---- the clock and the numbers
 
 -- the clock advances by an entry
-pub clock_frame : {history : List Deed} {w v : World} {e : Deed} → Clock history w → w.last ≤ e.entry.now → v.events ≡ w.events + 1 → v.last ≡ e.entry.now → Clock (e ∷ history) v
+pub clock_frame : {history : List Deed} {w v : State} {e : Deed} → Clock history w → w.last ≤ e.entry.now → v.events ≡ w.events + 1 → v.last ≡ e.entry.now → Clock (e ∷ history) v
 clock_frame c onward events last = record { events = let h = c.events in omega arith; last = last; in_order = (let h = c.last in omega arith, c.in_order) }
 
 -- the numbers count what an entry does
-pub numbers_frame : {history : List Deed} {w v : World} {e : Deed} → Numbers history w → v.opened ≡ w.opened + opens_one e.entry.report.outcome → v.admitted ≡ w.admitted + admits_one e.entry.report.outcome → Numbers (e ∷ history) v
+pub numbers_frame : {history : List Deed} {w v : State} {e : Deed} → Numbers history w → v.opened ≡ w.opened + opens_one e.entry.report.outcome → v.admitted ≡ w.admitted + admits_one e.entry.report.outcome → Numbers (e ∷ history) v
 numbers_frame n opened admitted = record { opened = let h = n.opened in omega arith; admitted = let h = n.admitted in omega arith }
 
 -- no more exchanges were opened than there are deeds

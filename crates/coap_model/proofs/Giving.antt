@@ -6,7 +6,7 @@ use Rattle.coap_message.specs.Message.{Message}
 use Rattle.coap_message.proofs.WholeMessages.{one_message}
 use Rattle.coap_exchange.specs.declared.ids.Ids.{Ids as Given}
 use Rattle.coap_exchange.specs.Ids.{window, given_in, left_of, called}
-use Rattle.coap_model.specs.World.{World}
+use Rattle.coap_model.specs.State.{State}
 use Rattle.coap_model.specs.Standing.{window_ids}
 use Rattle.coap_model.specs.History.{Entry, Deed, Place, IsPlaceOf, gives_id, ids_in, last_of, IsInOrder, Gives, AreIds}
 use Rattle.coap_model.specs.Carries.{Clock, Ids}
@@ -65,7 +65,7 @@ room-called ids now kept room n = go (eqb (window now) (window n)) (given-called
 
 -- ---- one more entry
 
-module _ (history : List Deed) (w v : World) (e : Deed) (clock : Clock history w) (i : Ids history w) (onward : w.last ≤ e.entry.now) (same : v.setting.first_id ≡ w.setting.first_id) where
+module _ (history : List Deed) (w v : State) (e : Deed) (clock : Clock history w) (i : Ids history w) (onward : w.last ≤ e.entry.now) (same : v.setting.first_id ≡ w.setting.first_id) where
   since : last_of history ≤ e.entry.now
   since = let h = clock.last in omega arith
 

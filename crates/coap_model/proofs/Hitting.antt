@@ -18,7 +18,7 @@ use Rattle.coap_model.specs.Events.{arrival}
 use Rattle.coap_forward.specs.Answers.{stored_answer, shown}
 use Rattle.coap_model.specs.Verdicts.{may_ask}
 use Rattle.coap_forward.specs.Messages.{is_con, is_get, at_once}
-use Rattle.coap_model.specs.World.{World, remembers, next_id, can_reply}
+use Rattle.coap_model.specs.State.{State, remembers, next_id, can_reply}
 use Rattle.coap_model.specs.Requests.{hits}
 use Rattle.coap_model.specs.History.{gives_id, no_item, Deed}
 use Rattle.coap_model.specs.Changed.{IsTold}
@@ -41,7 +41,7 @@ use Rattle.coap_model.proofs.Verdicts.{askable}
 -- ---- what is sent of an entry
 
 -- the entry that is stored for a key, according to the history
-module _ (w : World) (history : List Deed) (c : Bears history w) (key : CacheKey) (entry : Entry) (found : of_key entry_key key w.store ≡ Some entry) where
+module _ (w : State) (history : List Deed) (c : Bears history w) (key : CacheKey) (entry : Entry) (found : of_key entry_key key w.store ≡ Some entry) where
   abbrev pub cached-entry : IsEntryOf w.setting history c.store.cached key entry
   cached-entry = found-cached w.setting history w.store c.store.cached key entry c.store.each found
 
@@ -75,8 +75,8 @@ usable-entry setting history cached key entry now f usable =
     }
 
 -- a hit preserves what is carried
-pub keeps_hitting : (w : World) (history : List Deed) (c : Bears history w) (now draw : ℕ) (client : Endpoint) (bytes : List ℕ) (m : Message) (key : CacheKey) (entry : Entry) → w.last ≤ now → IsFirst w now client bytes m → is_get m.code ≡ true → verdict_in w m ≡ may_ask key → of_key entry_key key w.store ≡ Some entry → is_usable now entry.1 ≡ true → can_reply w now m.kind ≡ true
-    → Bears (doing no_item (entry_of now draw (arrival client bytes) (hits w now client m key entry.1)) ∷ history) (remembers now client m (hits w now client m key entry.1)).world
+pub keeps_hitting : (w : State) (history : List Deed) (c : Bears history w) (now draw : ℕ) (client : Endpoint) (bytes : List ℕ) (m : Message) (key : CacheKey) (entry : Entry) → w.last ≤ now → IsFirst w now client bytes m → is_get m.code ≡ true → verdict_in w m ≡ may_ask key → of_key entry_key key w.store ≡ Some entry → is_usable now entry.1 ≡ true → can_reply w now m.kind ≡ true
+    → Bears (doing no_item (entry_of now draw (arrival client bytes) (hits w now client m key entry.1)) ∷ history) (remembers now client m (hits w now client m key entry.1)).state
 keeps_hitting w history c now draw client bytes m key entry onward first get verdict found usable free =
     let s = hits w now client m key entry.1 in
     let e = doing no_item (entry_of now draw (arrival client bytes) s) in

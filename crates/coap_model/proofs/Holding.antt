@@ -37,7 +37,7 @@ use Rattle.coap_forward.specs.Forms.{is_used_up, host_options, port_options, sch
 use Rattle.coap_model.specs.Keys.{request_key}
 use Rattle.coap_model.specs.Cached.{kept_for}
 use Rattle.coap_store.specs.declared.stored.Stored.{Stored}
-use Rattle.coap_model.specs.World.{World}
+use Rattle.coap_model.specs.State.{State}
 use Rattle.coap_model.specs.History.{Deed}
 use Rattle.coap_model.specs.Carries.{form_id, copy_for, IsState, IsExchangeOf, IsWaiterIn, IsWaiterOf, Bears}
 use Rattle.coap_endpoint.specs.Target.{IsShort, IsTarget}
@@ -323,7 +323,7 @@ waiter-held setting history v f = go v.1.state refl f
         omega (arith, ap length g.token_gone, tags, answer, short)
 
 -- so everything that is held is within the bound
-pub within-bound : (history : List Deed) (w : World) → Bears history w → held w ≤ most_held w.setting.limits
+pub within-bound : (history : List Deed) (w : State) → Bears history w → held w ≤ most_held w.setting.limits
 within-bound history w c =
     let d = w.setting.limits.datagram in
     let xs = sum_by-le exchange_bytes (4 * d + 256) w.exchanges (All-from_recursion (λ x. exchange_bytes x ≤ 4 * d + 256) w.exchanges (All-weaken (IsExchangeOf w.setting history) (λ x. exchange_bytes x ≤ 4 * d + 256) w.exchanges (exchange-held w.setting history c.routes) c.exchanges)) in

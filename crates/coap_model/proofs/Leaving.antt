@@ -17,7 +17,7 @@ use Rattle.coap_limits.specs.Limits.{Limits}
 use Rattle.coap_model.specs.declared.report.Outcome.{Outcome}
 use Rattle.coap_model.specs.declared.report.Outcome.TheVariants.{NoRecordRoom, Overloaded}
 use Rattle.coap_model.specs.Setting.{Setting}
-use Rattle.coap_model.specs.World.{World}
+use Rattle.coap_model.specs.State.{State}
 use Rattle.coap_model.specs.Events.{Event, arrival, tick}
 use Rattle.coap_model.specs.History.{Entry, Deed, Place, IsPlaceOf, IsRequestOf, last_of, IsInOrder}
 use Rattle.coap_model.specs.Standing.{open_in, standing_in, HasIds, HasOwnRoomToOpen, HasSharedRoomToOpen}
@@ -170,7 +170,7 @@ module _ (setting : Setting) (past : List Deed) (d : Deed) (all : AllJustified s
 -- ---- the promise
 
 -- in any history that a proxy carries, one client leaves room for the others
-pub leaves-room : (history : List Entry) (w : World) → Carries history w → LeavesRoom history w
+pub leaves-room : (history : List Entry) (w : State) → Carries history w → LeavesRoom history w
 leaves-room history w c =
     let setting = w.setting in
     let justified = λ (p : Place) (at : IsPlaceOf c.deeds p). justified-at setting c.deeds p p.deed.entry.report.outcome c.bears.past at refl in
@@ -192,5 +192,5 @@ leaves-room history w c =
     }
 
 -- and so it is for a new proxy, whatever happens
-pub runs-leave-room : (setting : Setting) (turns : List Taken) → AreRoutes setting.routes → AreTurns 0 (turns_of turns) → LeavesRoom (run_of (new_run setting) turns).history (run_of (new_run setting) turns).world
+pub runs-leave-room : (setting : Setting) (turns : List Taken) → AreRoutes setting.routes → AreTurns 0 (turns_of turns) → LeavesRoom (run_of (new_run setting) turns).history (run_of (new_run setting) turns).state
 runs-leave-room setting turns routes are = leaves-room _ _ (runs_carry (new_run setting) turns (starts setting routes) are)

@@ -5,7 +5,7 @@ use Rattle.std.specs.List.{AllByRecursion}
 use Rattle.coap_model.specs.declared.report.Outcome.{Outcome}
 use Rattle.coap_model.specs.declared.report.Outcome.TheVariants.{Ignored, Rejected, Again, NoRecordRoom, Refused, Hit, Joined, Opened, Overloaded, NoId, Answered, Acked, SentRequest, Resent, GaveUp, Delivered, Idle}
 use Rattle.coap_model.specs.Setting.{Setting}
-use Rattle.coap_model.specs.History.{admits, serves, Deed, Place, IsPlaceOf, Never, admits_one, admitted_in, lets_go, Serves, LetsGo}
+use Rattle.coap_model.specs.History.{admits, serves, Deed, Place, IsPlaceOf, Never, admits_one, admitted_in, closes_unused, Serves, LetsGo}
 use Rattle.coap_model.specs.Standing.{told, service_of, standing_in}
 use Rattle.coap_model.specs.Justified.{Settles, a_request, an_answer, IsToSendAgain, request_again, answer_again, IsGivingUp, overdue, unheard, unacknowledged, IsDelivery, JustifiedBy, AllJustified}
 use Rattle.coap_model.proofs.Owing.{taken-so}
@@ -93,7 +93,7 @@ all-stay setting (d ∷ past) all =
       (λ g. let e = sym is ∙ g.act in cc),
       never-from (LetsGo v) past (λ p at g. let next = comes-next setting past d v x d.entry.report.outcome all.0 one is in let below = gone-number setting past v p all.1 at g in omega (arith, next, below)),
     ))
-    (λ v is con act s h same. ((λ g. let e = sym g.outcome ∙ ap (λ (o : Outcome). lets_go o d.entry.bytes) is ∙ ap not con in cc), h))
+    (λ v is con act s h same. ((λ g. let e = sym g.outcome ∙ ap (λ (o : Outcome). closes_unused o d.entry.bytes) is ∙ ap not con in cc), h))
     (λ s h stays. ((λ g. stays g.outcome g.act), h))
     (all-stay setting past all.1)
 

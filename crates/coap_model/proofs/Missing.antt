@@ -18,7 +18,7 @@ use Rattle.coap_exchange.specs.Exchanges.{answer_in_state, answer_at, is_missing
 use Rattle.coap_exchange.specs.Table.{Numbered, first_that}
 use Rattle.coap_model.specs.Setting.{Setting}
 use Rattle.coap_model.specs.Verdicts.{may_ask}
-use Rattle.coap_model.specs.World.{World}
+use Rattle.coap_model.specs.State.{State}
 use Rattle.coap_model.specs.History.{Deed, Place, IsPlaceOf, Never, Sends, Asks, Ends}
 use Rattle.coap_forward.specs.Messages.{is_get}
 use Rattle.coap_store.specs.Entries.{Entry}
@@ -41,7 +41,7 @@ usable-of true false e f = absurd cc
 usable-of false marked e f = absurd cc
 
 -- if the store has no usable entry, the cache has none
-pub missed : (w : World) (history : List Deed) (c : Bears history w) (now : ℕ) (key : CacheKey) → IsMissed w now key → IsMiss w.setting history key now
+pub missed : (w : State) (history : List Deed) (c : Bears history w) (now : ℕ) (key : CacheKey) → IsMissed w now key → IsMiss w.setting history key now
 missed w history c now key none =
     let s = c.store in
     record {
@@ -101,7 +101,7 @@ not-true true e = absurd cc
 not-true false e = refl
 
 -- the exchange that the search finds may be joined according to the history, and is there
-pub joinable-found : (w : World) (history : List Deed) (c : Bears history w) (key : CacheKey) (n : ℕ) → first_that (is_joinable key) w.exchanges ≡ Some n → IsJoinable w.setting history key n × HasNumber n w.exchanges
+pub joinable-found : (w : State) (history : List Deed) (c : Bears history w) (key : CacheKey) (n : ℕ) → first_that (is_joinable key) w.exchanges ≡ Some n → IsJoinable w.setting history key n × HasNumber n w.exchanges
 joinable-found w history c key n e = go (find (λ (x : Numbered Exchange). is_joinable key x.1) w.exchanges) refl e
   where
     go : (o : Option (Numbered Exchange)) → find (λ (x : Numbered Exchange). is_joinable key x.1) w.exchanges ≡ o → option_map (λ (x : Numbered Exchange). x.0) o ≡ Some n → IsJoinable w.setting history key n × HasNumber n w.exchanges
@@ -124,7 +124,7 @@ joinable-found w history c key n e = go (find (λ (x : Numbered Exchange). is_jo
         )
 
 -- if the search finds none, none may be joined
-pub none-joinable : (w : World) (history : List Deed) (c : Bears history w) (key : CacheKey) → first_that (is_joinable key) w.exchanges ≡ None → (x : ℕ) → IsJoinable w.setting history key x → ⊥
+pub none-joinable : (w : State) (history : List Deed) (c : Bears history w) (key : CacheKey) → first_that (is_joinable key) w.exchanges ≡ None → (x : ℕ) → IsJoinable w.setting history key x → ⊥
 none-joinable w history c key e x j = go (find (λ (y : Numbered Exchange). is_joinable key y.1) w.exchanges) refl e
   where
     go : (o : Option (Numbered Exchange)) → find (λ (y : Numbered Exchange). is_joinable key y.1) w.exchanges ≡ o → option_map (λ (y : Numbered Exchange). y.0) o ≡ None → ⊥
@@ -148,17 +148,17 @@ none-joinable w history c key e x j = go (find (λ (y : Numbered Exchange). is_j
         same_asked a b f = cc
 
 -- so a request that has to be forwarded here has to be according to the history
-pub unanswered : (w : World) (history : List Deed) (c : Bears history w) (now : ℕ) (key : CacheKey) (m : Message) → rules.IsUnanswered w now key m → IsUnanswered w.setting history now key m
+pub unanswered : (w : State) (history : List Deed) (c : Bears history w) (now : ℕ) (key : CacheKey) (m : Message) → rules.IsUnanswered w now key m → IsUnanswered w.setting history now key m
 unanswered w history c now key m none = record { miss = λ get. missed w history c now key (none.missed get); alone = λ get. none-joinable w history c key (none.alone get) }
 
 -- ---- why a request is turned away
 
 -- a request that is refused deserves its code
-pub deserves : (w : World) (history : List Deed) (c : Bears history w) (now : ℕ) (m : Message) (code : Code) → IsDenied w now m code → Deserves w.setting history now m code
+pub deserves : (w : State) (history : List Deed) (c : Bears history w) (now : ℕ) (m : Message) (code : Code) → IsDenied w now m code → Deserves w.setting history now m code
 deserves w history c now m code (rules.by_verdict verdict) = by_verdict verdict
 deserves w history c now m code (rules.by_length key verdict none long is) = by_length key verdict (unanswered w history c now key m none) long is
 
 -- if the tables have no room for it, there is none according to the history
-pub lacks_room : (w : World) (history : List Deed) (c : Bears history w) (now : ℕ) (client : Endpoint) (key : CacheKey) (m : Message) → w.last ≤ now → IsFull w now client key m → LacksRoom w.setting history now client key m
+pub lacks_room : (w : State) (history : List Deed) (c : Bears history w) (now : ℕ) (client : Endpoint) (key : CacheKey) (m : Message) → w.last ≤ now → IsFull w now client key m → LacksRoom w.setting history now client key m
 lacks_room w history c now client key m onward (rules.to_join exchange get none found full) = to_join exchange get (missed w history c now key none) (joinable-found w history c key exchange found).0 (join-none now client history w c onward full)
 lacks_room w history c now client key m onward (rules.to_open none short full) = to_open (unanswered w history c now key m none) short (room-none now client history w c onward full)

@@ -22,7 +22,7 @@ use Rattle.coap_exchange.proofs.Changes.{length-changed_at, IsRising-changed_at}
 use Rattle.coap_model.specs.Cached.{IsStoreOf}
 use Rattle.coap_message.specs.declared.kind.Kind.TheVariants.{Con, Non}
 use Rattle.coap_dedup.specs.Records.{Records}
-use Rattle.coap_model.specs.World.{World, later}
+use Rattle.coap_model.specs.State.{State, later}
 use Rattle.coap_model.specs.History.{moves, serves, Deed, opens_one, admits_one, takes, Gets}
 use Rattle.coap_model.specs.Standing.{Standing, Open, standing_by, open_by, standing_in}
 use Rattle.coap_model.specs.Justified.{AllJustified}
@@ -41,7 +41,7 @@ pub record IsMove (n : ℕ) (e : Deed) : Type 0 where
 
 -- What is known of the exchanges before one of them changes: they are those of the table, except
 -- for taints, and the others are already right.
-pub record AreOthers (w : World) (history : List Deed) (e : Deed) (n : ℕ) (xs : List (Numbered Exchange)) : Type 0 where
+pub record AreOthers (w : State) (history : List Deed) (e : Deed) (n : ℕ) (xs : List (Numbered Exchange)) : Type 0 where
   pub rising : IsRising 0 xs
   pub many : length xs ≡ length w.exchanges
   pub seen : map stage_seen xs ≡ map stage_seen w.exchanges
@@ -50,7 +50,7 @@ pub record AreOthers (w : World) (history : List Deed) (e : Deed) (n : ℕ) (xs 
   pub others : AllByRecursion (λ y. y.0 ≢ n → IsExchangeOf w.setting (e ∷ history) y) xs
 
 -- if no answer is accepted, they are those of the table
-pub others-quiet : (w : World) (history : List Deed) (c : Bears history w) (e : Deed) (n : ℕ) → e.act ≡ moves n → takes e.entry.report.outcome ≡ false → AreOthers w history e n w.exchanges
+pub others-quiet : (w : State) (history : List Deed) (c : Bears history w) (e : Deed) (n : ℕ) → e.act ≡ moves n → takes e.entry.report.outcome ≡ false → AreOthers w history e n w.exchanges
 others-quiet w history c e n act none =
     record {
       rising = c.whole.rising;
@@ -62,7 +62,7 @@ others-quiet w history c e n act none =
     }
 
 -- if one is, they are tainted accordingly
-pub others-changed : (w : World) (history : List Deed) (c : Bears history w) (e : Deed) (n : ℕ) (gets : Gets w.setting n (here history e)) → AreOthers w history e n (tainted_all (changed_by (key_asked gets).target gets.meets.message) w.exchanges)
+pub others-changed : (w : State) (history : List Deed) (c : Bears history w) (e : Deed) (n : ℕ) (gets : Gets w.setting n (here history e)) → AreOthers w history e n (tainted_all (changed_by (key_asked gets).target gets.meets.message) w.exchanges)
 others-changed w history c e n gets = subst (AreOthers w history e n) (sym (tainted-all changed w.exchanges)) (
     record {
       rising = rises 0 w.exchanges c.whole.rising;
@@ -111,12 +111,12 @@ count-tainted test blind changed xs = ap (count test) (tainted-all changed xs) �
 
 -- the clock advances, one of these exchanges changes, these ids are given out, and this is stored
 -- and remembered
-abbrev pub moved_world : World → ℕ → List (Numbered Exchange) → ℕ → (Exchange → Exchange) → Given → List cache.Entry → Records → Records → World
+abbrev pub moved_world : State → ℕ → List (Numbered Exchange) → ℕ → (Exchange → Exchange) → Given → List cache.Entry → Records → Records → State
 moved_world w now xs n f ids store con non =
     record (later w now) { exchanges = changed_at n f xs; ids = ids; store = store; con_records = con; non_records = non }
 
 -- such a step preserves what is carried
-pub keeps_moving : (w : World) (history : List Deed) (c : Bears history w) (e : Deed) (xs : List (Numbered Exchange)) (n : ℕ) (x : Exchange) (f : Exchange → Exchange) (ids : Given) (store : List cache.Entry) (con non : Records) → IsMove n e → AreOthers w history e n xs → item_at n xs ≡ Some x → w.last ≤ e.entry.now
+pub keeps_moving : (w : State) (history : List Deed) (c : Bears history w) (e : Deed) (xs : List (Numbered Exchange)) (n : ℕ) (x : Exchange) (f : Exchange → Exchange) (ids : Given) (store : List cache.Entry) (con non : Records) → IsMove n e → AreOthers w history e n xs → item_at n xs ≡ Some x → w.last ≤ e.entry.now
     → IsExchangeOf w.setting (e ∷ history) (n, f x)
     → map stage_seen (changed_at n f xs) ≡ open_by e.entry.report.outcome e.act e.entry.event e.entry.report.send (standing_in (e ∷ history)) (map stage_seen xs)
     → Ids (e ∷ history) (moved_world w e.entry.now xs n f ids store con non)

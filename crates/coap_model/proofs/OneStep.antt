@@ -3,7 +3,7 @@ use Rattle.std.proofs.Common.{◌≡◌, Bool, ◌<◌, ◌≤◌, List, ◌∷�
 use Rattle.std.specs.Prelude.{◌^◌}
 use Rattle.coap_model.specs.Setting.{Setting}
 use Rattle.coap_model.specs.Events.{IsEvent}
-use Rattle.coap_model.specs.World.{World}
+use Rattle.coap_model.specs.State.{State}
 use Rattle.coap_model.specs.Step.{step_of}
 use Rattle.coap_model.specs.History.{Entry, Deed, AreIds}
 use Rattle.coap_model.specs.Justified.{HaveOneMemory, AllJustified, MayFollow}
@@ -15,7 +15,7 @@ use Rattle.coap_model.proofs.Running.{setting_stays}
 use Rattle.coap_model.proofs.OneAnswer.{one-answer}
 
 -- what may follow is the entry of the step, with the same memory
-pub step-answer : (w : World) (history : List Entry) (c : Carries history w) (d : Deed) (grown : Bool) → w.last ≤ d.entry.now → w.opened < 2 ^ 64 → IsEvent d.entry.event → MayFollow w.setting c.deeds d → HaveOneMemory d.entry.report.outcome (step_of w d.entry.now d.entry.draw grown d.entry.event).report.outcome → d.entry ≡ entry_of d.entry.now d.entry.draw d.entry.event (step_of w d.entry.now d.entry.draw grown d.entry.event)
+pub step-answer : (w : State) (history : List Entry) (c : Carries history w) (d : Deed) (grown : Bool) → w.last ≤ d.entry.now → w.opened < 2 ^ 64 → IsEvent d.entry.event → MayFollow w.setting c.deeds d → HaveOneMemory d.entry.report.outcome (step_of w d.entry.now d.entry.draw grown d.entry.event).report.outcome → d.entry ≡ entry_of d.entry.now d.entry.draw d.entry.event (step_of w d.entry.now d.entry.draw grown d.entry.event)
 step-answer w history c d grown onward few fits f memory =
     let now = d.entry.now in
     let draw = d.entry.draw in

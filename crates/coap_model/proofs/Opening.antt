@@ -33,7 +33,7 @@ use Rattle.coap_model.specs.declared.report.Outcome.TheVariants.{Joined, Opened}
 use Rattle.coap_model.specs.Events.{arrival}
 use Rattle.coap_model.specs.Verdicts.{may_ask}
 use Rattle.coap_model.specs.Justified.{verdict_on}
-use Rattle.coap_model.specs.World.{World, remembers, reserved, has_ids, has_exchange_room, has_waiter_room, has_room_to_join, has_room_to_open}
+use Rattle.coap_model.specs.State.{State, remembers, reserved, has_ids, has_exchange_room, has_waiter_room, has_room_to_join, has_room_to_open}
 use Rattle.coap_model.specs.Requests.{new_exchange, new_waiter, next_token, tag_carried, copy_of}
 use Rattle.coap_model.specs.Cached.{kept_for}
 use Rattle.coap_model.specs.History.{Act, admits, moves, serves, Deed, Somewhere, Never, admits_one, opened_in, admitted_in, last_of, Opens, Admits, Ends, Serves, IsRequestOf, WasOpened}
@@ -58,12 +58,12 @@ use Rattle.coap_model.proofs.Verdicts.{form-short}
 -- ---- numbers
 
 -- the numbers of exchanges are at most the number of exchanges that were opened
-exchanges-below : (w : World) (history : List Deed) → Bears history w → AllByRecursion (λ x. x.0 < w.opened + 1) w.exchanges
+exchanges-below : (w : State) (history : List Deed) → Bears history w → AllByRecursion (λ x. x.0 < w.opened + 1) w.exchanges
 exchanges-below w history c =
     All-weaken (IsExchangeOf w.setting history) (λ x. x.0 < w.opened + 1) w.exchanges (λ x f. let i = opened-number f.opened in let h = c.numbers.opened in omega (arith, i.1)) c.exchanges
 
 -- and so are those of clients
-waiters-below : (w : World) (history : List Deed) → Bears history w → AllByRecursion (λ v. v.0 < w.admitted + 1) w.waiters
+waiters-below : (w : State) (history : List Deed) → Bears history w → AllByRecursion (λ v. v.0 < w.admitted + 1) w.waiters
 waiters-below w history c = All-weaken (IsWaiterOf w.setting history) (λ v. v.0 < w.admitted + 1) w.waiters (λ v f. below v f) c.waiters
   where
     below : (v : Numbered Waiter) → IsWaiterOf w.setting history v → v.0 < w.admitted + 1
@@ -75,7 +75,7 @@ waiters-below w history c = All-weaken (IsWaiterOf w.setting history) (λ v. v.0
 
 -- ---- a client that is admitted
 
-module _ (w : World) (history : List Deed) (c : Bears history w) (e : Deed) (client : Endpoint) (m : Message) (exchange : ℕ) (act : e.act ≡ admits (admitted_in history + 1) exchange) (outcome : admits_one e.entry.report.outcome ≡ 1) where
+module _ (w : State) (history : List Deed) (c : Bears history w) (e : Deed) (client : Endpoint) (m : Message) (exchange : ℕ) (act : e.act ≡ admits (admitted_in history + 1) exchange) (outcome : admits_one e.entry.report.outcome ≡ 1) where
   -- the waiting clients then
   abbrev pub clients : List (Numbered Waiter)
   clients = w.waiters ++ new_waiter w client m exchange ∷ []
@@ -170,7 +170,7 @@ copied-response most t m (Some s) = go (is_some (tag_to_send most t m s.response
     go true = refl
     go false = refl
 
-module _ (w : World) (history : List Deed) (c : Bears history w) (key : CacheKey) (m : Message) where
+module _ (w : State) (history : List Deed) (c : Bears history w) (key : CacheKey) (m : Message) where
   -- the stored response is the one that is kept
   stored-response : option_map {T = Stored} (λ s. s.response) (option_map (λ (e : Entry). e.1) (of_key entry_key key w.store)) ≡ kept_for key c.store.cached
   stored-response = go (of_key entry_key key w.store) ∙ stored-kept w.setting history w.store c.store.cached key c.store.each
@@ -198,8 +198,8 @@ module _ (w : World) (history : List Deed) (c : Bears history w) (key : CacheKey
 -- ---- the rules
 
 -- joining an exchange preserves what is carried
-pub keeps_joining : (w : World) (history : List Deed) (c : Bears history w) → (now draw : ℕ) (client : Endpoint) (bytes : List ℕ) (m : Message) (key : CacheKey) (exchange : ℕ) (send : Option Endpoint) (told : List ℕ) → w.last ≤ now → IsFirst w now client bytes m → is_get m.code ≡ true → verdict_in w m ≡ may_ask key → IsMissed w now key → first_that (is_joinable key) w.exchanges ≡ Some exchange → has_room_to_join w now client ≡ true → IsTakenUp client m send told
-    → Bears (doing (admits (admitted_in history + 1) exchange) (entry_of now draw (arrival client bytes) (sending Joined send told (joined_world w now client m exchange))) ∷ history) (remembers now client m (sending Joined send told (joined_world w now client m exchange))).world
+pub keeps_joining : (w : State) (history : List Deed) (c : Bears history w) → (now draw : ℕ) (client : Endpoint) (bytes : List ℕ) (m : Message) (key : CacheKey) (exchange : ℕ) (send : Option Endpoint) (told : List ℕ) → w.last ≤ now → IsFirst w now client bytes m → is_get m.code ≡ true → verdict_in w m ≡ may_ask key → IsMissed w now key → first_that (is_joinable key) w.exchanges ≡ Some exchange → has_room_to_join w now client ≡ true → IsTakenUp client m send told
+    → Bears (doing (admits (admitted_in history + 1) exchange) (entry_of now draw (arrival client bytes) (sending Joined send told (joined_world w now client m exchange))) ∷ history) (remembers now client m (sending Joined send told (joined_world w now client m exchange))).state
 keeps_joining w history c now draw client bytes m key exchange send told onward first get verdict none found may up =
     let s = sending Joined send told (joined_world w now client m exchange) in
     let act : Act = admits (admitted_in history + 1) exchange in
@@ -246,8 +246,8 @@ keeps_joining w history c now draw client bytes m key exchange send told onward 
     }
 
 -- and so does opening one
-pub keeps_opening : (w : World) (history : List Deed) (c : Bears history w) → (now draw : ℕ) (client : Endpoint) (bytes : List ℕ) (m : Message) (key : CacheKey) (send : Option Endpoint) (told : List ℕ) → w.last ≤ now → IsFirst w now client bytes m → verdict_in w m ≡ may_ask key → IsUnanswered w now key m → fits_in w key m ≡ true → has_room_to_open w now client ≡ true → IsTakenUp client m send told
-    → Bears (doing (admits (admitted_in history + 1) (opened_in history + 1)) (entry_of now draw (arrival client bytes) (sending Opened send told (opened_world w now client m key (held_for w key m)))) ∷ history) (remembers now client m (sending Opened send told (opened_world w now client m key (held_for w key m)))).world
+pub keeps_opening : (w : State) (history : List Deed) (c : Bears history w) → (now draw : ℕ) (client : Endpoint) (bytes : List ℕ) (m : Message) (key : CacheKey) (send : Option Endpoint) (told : List ℕ) → w.last ≤ now → IsFirst w now client bytes m → verdict_in w m ≡ may_ask key → IsUnanswered w now key m → fits_in w key m ≡ true → has_room_to_open w now client ≡ true → IsTakenUp client m send told
+    → Bears (doing (admits (admitted_in history + 1) (opened_in history + 1)) (entry_of now draw (arrival client bytes) (sending Opened send told (opened_world w now client m key (held_for w key m)))) ∷ history) (remembers now client m (sending Opened send told (opened_world w now client m key (held_for w key m)))).state
 keeps_opening w history c now draw client bytes m key send told onward first verdict none short room up =
     let stored = held_for w key m in
     let s = sending Opened send told (opened_world w now client m key stored) in

@@ -10,7 +10,7 @@ use Rattle.coap_message.specs.Spelling.{IsMessage, spelling, more_length}
 use Rattle.coap_message.specs.Uint.{uint_spelling}
 use Rattle.coap_message.proofs.Spellings.{spelling-length}
 use Rattle.coap_forward.specs.Messages.{is_con, is_non, brings_requests, own_reply, busy_reply, at_once, reply_id}
-use Rattle.coap_model.specs.World.{World, has_ids, can_reply}
+use Rattle.coap_model.specs.State.{State, has_ids, can_reply}
 use Rattle.coap_model.proofs.Spelled.{length-uint_spelling}
 
 -- the immediate form of a message is a message
@@ -51,11 +51,11 @@ pub reply-due : (m : Message) (next : ℕ) → is_con m.kind ≡ false → reply
 reply-due m next non = rw non refl
 
 -- a Non-confirmable request takes one
-pub free-one : (w : World) (now : ℕ) (kind : Kind) → can_reply w now kind ≡ true → kind ≡ Non → has_ids 1 w now ≡ true
+pub free-one : (w : State) (now : ℕ) (kind : Kind) → can_reply w now kind ≡ true → kind ≡ Non → has_ids 1 w now ≡ true
 free-one w now kind free is = subst (λ (k : Kind). (is_con k || has_ids 1 w now) ≡ true) is free
 
 -- if no reply can be sent, no id is free, and the request is Non-confirmable
-pub free-none : (w : World) (now : ℕ) (kind : Kind) → brings_requests kind ≡ true → can_reply w now kind ≡ false → (kind ≡ Non) × (has_ids 1 w now ≡ false)
+pub free-none : (w : State) (now : ℕ) (kind : Kind) → brings_requests kind ≡ true → can_reply w now kind ≡ false → (kind ≡ Non) × (has_ids 1 w now ≡ false)
 free-none w now Con e free = absurd cc
 free-none w now Non e free = (refl, free)
 free-none w now Ack e free = absurd cc

@@ -7,7 +7,7 @@ use Rattle.coap_dedup.specs.Lists.{is_from, is_living}
 use Rattle.coap_dedup.specs.Records.{Records, living_at, living_of}
 use Rattle.coap_dedup.proofs.Aging.{length-living}
 use Rattle.coap_model.specs.Setting.{Setting}
-use Rattle.coap_model.specs.World.{World}
+use Rattle.coap_model.specs.State.{State}
 use Rattle.coap_model.specs.History.{Entry, Deed}
 use Rattle.coap_model.specs.Remembered.{most_of_client, most_remembered}
 use Rattle.coap_model.specs.Carries.{AreRemembered, Carries}
@@ -38,7 +38,7 @@ living-own {t = t} now s from =
 -- ---- all of it
 
 -- a proxy promises for any history that it carries
-pub promises : (history : List Entry) (w : World) → Carries history w → Promised history w
+pub promises : (history : List Entry) (w : State) → Carries history w → Promised history w
 promises history w c =
     record {
       deeds = c.deeds;

@@ -7,7 +7,7 @@ use Rattle.coap_dedup.specs.Records.{Records}
 use Rattle.coap_exchange.specs.declared.ids.Ids.{Ids as Given}
 use Rattle.coap_exchange.specs.Ids.{given_in}
 use Rattle.coap_model.specs.Cached.{leaves, IsStoreOf}
-use Rattle.coap_model.specs.World.{World, reserved, later}
+use Rattle.coap_model.specs.State.{State, reserved, later}
 use Rattle.coap_model.specs.History.{no_item, moves, serves, Deed, opens_one, admits_one, takes, gives_id, last_of}
 use Rattle.coap_model.specs.Standing.{Standing, Open, standing_by, open_by, standing_in, open_in}
 use Rattle.coap_model.specs.Schedules.{is_sending}
@@ -37,13 +37,13 @@ pub serves-none : (e : Deed) → e.act ≡ no_item → (v : ℕ) → e.act ≢ s
 serves-none e act v same = let f = sym act ∙ same in cc
 
 -- the clock advances, these ids are given out, and this is stored and remembered
-abbrev pub quiet_world : World → ℕ → Given → List cache.Entry → Records → Records → World
+abbrev pub quiet_world : State → ℕ → Given → List cache.Entry → Records → Records → State
 quiet_world w now ids store con non =
     record (later w now) { ids = ids; store = store; con_records = con; non_records = non }
 
 -- such a step preserves what is carried, whatever ids it gives out, and whatever moves in the store
 -- and is remembered
-pub keeps_still : (w : World) (history : List Deed) (c : Bears history w) (e : Deed) (ids : Given) (store : List cache.Entry) (con non : Records) → IsQuiet e → w.last ≤ e.entry.now
+pub keeps_still : (w : State) (history : List Deed) (c : Bears history w) (e : Deed) (ids : Given) (store : List cache.Entry) (con non : Records) → IsQuiet e → w.last ≤ e.entry.now
     → Ids (e ∷ history) (quiet_world w e.entry.now ids store con non)
     → ((now : ℕ) → e.entry.now ≤ now → given_in now ids + reserved w ≤ 32768)
     → IsStoreOf w.setting (e ∷ history) store
@@ -81,17 +81,17 @@ keeps_still w history c e ids store con non q onward given room stored remembere
     }
 
 -- the records stay right at an entry that adds none
-pub remembered-still : (w : World) (history : List Deed) (c : Bears history w) (e : Deed) → w.last ≤ e.entry.now → ((k : Kind) → is_remembered e.entry.report.outcome k ≡ false) → AreRemembered w.setting (e ∷ history) Con w.con_records × AreRemembered w.setting (e ∷ history) Non w.non_records
+pub remembered-still : (w : State) (history : List Deed) (c : Bears history w) (e : Deed) → w.last ≤ e.entry.now → ((k : Kind) → is_remembered e.entry.report.outcome k ≡ false) → AreRemembered w.setting (e ∷ history) Con w.con_records × AreRemembered w.setting (e ∷ history) Non w.non_records
 remembered-still w history c e onward none =
     let since : last_of history ≤ e.entry.now = let h = c.clock.last in omega (arith, h, onward) in
     (remembered-on e since (leaves-nothing Con e none) c.con_records, remembered-on e since (leaves-nothing Non e none) c.non_records)
 
 -- reserved ids can still be given out later
-pub room-still : (w : World) (history : List Deed) (c : Bears history w) (later : ℕ) → w.last ≤ later → (now : ℕ) → later ≤ now → given_in now w.ids + reserved w ≤ 32768
+pub room-still : (w : State) (history : List Deed) (c : Bears history w) (later : ℕ) → w.last ≤ later → (now : ℕ) → later ≤ now → given_in now w.ids + reserved w ≤ 32768
 room-still w history c later onward now after = c.within.ids now (omega arith)
 
 -- so does a step that gives out no id, and moves and adds nothing
-pub keeps_quiet : (w : World) (history : List Deed) (c : Bears history w) (e : Deed) → IsQuiet e → leaves e.entry.report.outcome ≡ true → ((k : Kind) → is_remembered e.entry.report.outcome k ≡ false) → w.last ≤ e.entry.now → gives_id e.entry ≡ 0
+pub keeps_quiet : (w : State) (history : List Deed) (c : Bears history w) (e : Deed) → IsQuiet e → leaves e.entry.report.outcome ≡ true → ((k : Kind) → is_remembered e.entry.report.outcome k ≡ false) → w.last ≤ e.entry.now → gives_id e.entry ≡ 0
     → AllJustified w.setting (e ∷ history) → Bears (e ∷ history) (later w e.entry.now)
 keeps_quiet w history c e q leaving none onward gives past =
     keeps_still w history c e w.ids w.store w.con_records w.non_records q onward (ids-kept history w (later w e.entry.now) e c.clock c.ids onward refl gives refl) (room-still w history c e.entry.now onward) (store-otherwise w.setting history w.store e leaving q.takes c.store) (remembered-still w history c e onward none) past

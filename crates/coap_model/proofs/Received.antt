@@ -17,7 +17,7 @@ use Rattle.coap_model.specs.declared.report.Outcome.TheVariants.{Answered}
 use Rattle.coap_model.specs.declared.report.Storing.{Storing}
 use Rattle.coap_model.specs.declared.report.Storing.TheVariants.{Kept, TooLarge, NoMemory, NotStored}
 use Rattle.coap_model.specs.Keys.{key_sent}
-use Rattle.coap_model.specs.World.{World}
+use Rattle.coap_model.specs.State.{State}
 use Rattle.coap_model.specs.Answers.{marked_all, asked_of, entry_made, may_store, answer_for}
 use Rattle.coap_model.specs.History.{Deed, Place, moves, takes, Brings, Matches, Gets}
 use Rattle.coap_model.specs.Changed.{key_asked, Unchanged, IsTold}
@@ -37,7 +37,7 @@ unfolding answer_of
 answer-same most now m true a b same = ap (λ (o : Option Message). answer_of most true o now m) (same refl)
 answer-same most now m false a b same = refl
 
-module _ (w : World) (history : List Deed) (c : Bears history w) (now : ℕ) (m : Message) (x : Numbered Exchange) (e : Deed) (moment : e.entry.now ≡ now) (flight : IsInFlight w.setting history x) (act : e.act ≡ moves x.0) (outcome : takes e.entry.report.outcome ≡ true) (brings : Brings w.setting.limits.datagram flight.asked.asks.sends.to m e.entry.event) (matches : Matches (token_of w.setting.salt x.0) flight.asked.asks.sends.message.id m) (fits : IsBytes brings.bytes) where
+module _ (w : State) (history : List Deed) (c : Bears history w) (now : ℕ) (m : Message) (x : Numbered Exchange) (e : Deed) (moment : e.entry.now ≡ now) (flight : IsInFlight w.setting history x) (act : e.act ≡ moves x.0) (outcome : takes e.entry.report.outcome ≡ true) (brings : Brings w.setting.limits.datagram flight.asked.asks.sends.to m e.entry.event) (matches : Matches (token_of w.setting.salt x.0) flight.asked.asks.sends.message.id m) (fits : IsBytes brings.bytes) where
   -- the answer arrived there
   abbrev pub gets : Gets w.setting x.0 (here history e)
   gets = record {

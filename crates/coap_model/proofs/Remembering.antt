@@ -21,7 +21,7 @@ use Rattle.coap_model.specs.Setting.{Setting}
 use Rattle.coap_model.specs.Events.{Event, arrival, tick}
 use Rattle.coap_forward.specs.Messages.{is_con, brings_requests, told_again}
 use Rattle.coap_model.specs.Remembered.{is_remembered, goes_with, kept_at, kept_by, kept_in, kept_of, most_of_client, most_remembered, remembered_at, remembered_for, remembered_of}
-use Rattle.coap_model.specs.World.{World, Step, records_of, record_made, known_of, has_record_room}
+use Rattle.coap_model.specs.State.{State, Step, records_of, record_made, known_of, has_record_room}
 use Rattle.coap_model.specs.Step.{message_in}
 use Rattle.coap_model.specs.declared.report.Outcome.{Outcome}
 use Rattle.coap_model.specs.declared.report.Outcome.TheVariants.{Answered}
@@ -96,10 +96,10 @@ leaves-nothing kind e none = go e.entry.event
 -- ---- a new request
 
 -- a request is Confirmable or Non-confirmable
-pub request-kind : {w : World} {bytes : List ℕ} {m : Message} → Asked w bytes m → brings_requests m.kind ≡ true
+pub request-kind : {w : State} {bytes : List ℕ} {m : Message} → Asked w bytes m → brings_requests m.kind ≡ true
 request-kind {m = m} asked = (and_parts (brings_requests m.kind) (is_request m.code) asked.request).0
 
-module _ (w : World) (history : List Deed) (c : Bears history w) (now : ℕ) (client : Endpoint) (bytes : List ℕ) (m : Message) (onward : w.last ≤ now) where
+module _ (w : State) (history : List Deed) (c : Bears history w) (now : ℕ) (client : Endpoint) (bytes : List ℕ) (m : Message) (onward : w.last ≤ now) where
   since : last_of history ≤ now
   since = let h = c.clock.last in omega (arith, h, onward)
 
@@ -198,7 +198,7 @@ module _ (w : World) (history : List Deed) (c : Bears history w) (now : ℕ) (cl
 -- ---- an answer that isn't Confirmable
 
 -- it adds no record
-pub answer-leaves : (w : World) (bytes : List ℕ) (m : Message) (kind : Kind) (e : Deed) (source : Endpoint) (storing : Storing) → IsBytes bytes → message_in w.setting.limits.datagram bytes ≡ Some m → is_con m.kind ≡ false → e.entry.event ≡ arrival source bytes → e.entry.report.outcome ≡ Answered storing → kept_by kind e.entry ≡ []
+pub answer-leaves : (w : State) (bytes : List ℕ) (m : Message) (kind : Kind) (e : Deed) (source : Endpoint) (storing : Storing) → IsBytes bytes → message_in w.setting.limits.datagram bytes ≡ Some m → is_con m.kind ≡ false → e.entry.event ≡ arrival source bytes → e.entry.report.outcome ≡ Answered storing → kept_by kind e.entry ≡ []
 answer-leaves w bytes m kind e source storing fits read other came outcome =
     ap (λ (v : Event). kept_at kind e.entry.report.outcome e.entry.now e.entry.bytes v) came
     ∙ ap (λ (o : Outcome). kept_of kind o e.entry.now e.entry.bytes source (head_at bytes)) outcome

@@ -26,7 +26,7 @@ use Rattle.coap_forward.specs.Answers.{own_answer, gateway_timeout}
 use Rattle.coap_model.specs.declared.due.DueItem.TheVariants.{OfExchange}
 use Rattle.coap_model.specs.Events.{tick}
 use Rattle.coap_model.specs.Setting.{Setting}
-use Rattle.coap_model.specs.World.{World}
+use Rattle.coap_model.specs.State.{State}
 use Rattle.coap_model.specs.Ticks.{resends, gives_up}
 use Rattle.coap_model.specs.Runs.{entry_of}
 use Rattle.coap_model.specs.History.{Entry, moves, Deed, Never, Ends}
@@ -125,8 +125,8 @@ goes now t (before ∷ es) to bytes e moment timer are come on send is schedule 
 -- ---- a request is retransmitted
 
 -- retransmitting a request preserves what is carried
-pub keeps_resending : (w : World) (history : List Deed) (c : Bears history w) → (now draw at number : ℕ) (x : Exchange) → w.last ≤ now → IsTurnOf w now at number x → x.state ≡ Sent → now < deadline w.setting.limits.exchange_ms x → fire_of_sending now x.sending ≡ Again
-    → Bears (doing (moves number) (entry_of now draw tick (resends w now number x)) ∷ history) (resends w now number x).world
+pub keeps_resending : (w : State) (history : List Deed) (c : Bears history w) → (now draw at number : ℕ) (x : Exchange) → w.last ≤ now → IsTurnOf w now at number x → x.state ≡ Sent → now < deadline w.setting.limits.exchange_ms x → fire_of_sending now x.sending ≡ Again
+    → Bears (doing (moves number) (entry_of now draw tick (resends w now number x)) ∷ history) (resends w now number x).state
 keeps_resending w history c now draw at number x onward turn sent early fire =
     let e = doing (moves number) (entry_of now draw tick (resends w now number x)) in
     let f = turn-exchange w history c now at number x turn in
@@ -206,7 +206,7 @@ pub ended-seen : (n : ℕ) (a : Answer) (xs : List (Numbered Exchange)) → map 
 ended-seen n a xs = staged-seen n (answered a) done xs (λ y. refl) (All-weaken (λ y. Has y xs) (λ y. y.0 ≡ n → done ≡ done) xs (λ y there same. refl) (Has-all xs))
 
 -- an exchange that has its answer is neither queued nor sent
-pub ended-room : (w : World) (history : List Deed) (c : Bears history w) (now n : ℕ) (a : Answer) (xs : List (Numbered Exchange)) → IsRising 0 xs → count is_queued xs ≡ count is_queued w.exchanges → w.last ≤ now → (later : ℕ) → now ≤ later → given_in later w.ids + (count is_waiting w.waiters + count is_queued (changed_at n (answered a) xs)) ≤ 32768
+pub ended-room : (w : State) (history : List Deed) (c : Bears history w) (now n : ℕ) (a : Answer) (xs : List (Numbered Exchange)) → IsRising 0 xs → count is_queued xs ≡ count is_queued w.exchanges → w.last ≤ now → (later : ℕ) → now ≤ later → given_in later w.ids + (count is_waiting w.waiters + count is_queued (changed_at n (answered a) xs)) ≤ 32768
 ended-room w history c now n a xs rising many onward later after =
     let room = room-still w history c now onward later after in
     let moved = count-moved is_queued n 0 (answered a) xs rising in
@@ -217,7 +217,7 @@ ended-room w history c now n a xs rising many onward later after =
     no-more t None = refl
     no-more t (Some b) = refl
 
-pub ended-pace : (w : World) (history : List Deed) (c : Bears history w) (n : ℕ) (a : Answer) (xs : List (Numbered Exchange)) → IsRising 0 xs → (to : Endpoint) → count (is_sent_to to) xs ≡ count (is_sent_to to) w.exchanges → count (is_sent_to to) (changed_at n (answered a) xs) ≤ w.setting.limits.nstart
+pub ended-pace : (w : State) (history : List Deed) (c : Bears history w) (n : ℕ) (a : Answer) (xs : List (Numbered Exchange)) → IsRising 0 xs → (to : Endpoint) → count (is_sent_to to) xs ≡ count (is_sent_to to) w.exchanges → count (is_sent_to to) (changed_at n (answered a) xs) ≤ w.setting.limits.nstart
 ended-pace w history c n a xs rising to many =
     let pace = c.within.pace to in
     let moved = count-moved (is_sent_to to) n 0 (answered a) xs rising in
@@ -236,8 +236,8 @@ unended-yet setting history number x Acked state other = state.unended
 unended-yet setting history number x (Done a) state other = absurd (other a refl)
 
 -- giving up an exchange preserves what is carried
-pub keeps_giving_up : (w : World) (history : List Deed) (c : Bears history w) → (now draw at number : ℕ) (x : Exchange) → w.last ≤ now → IsTurnOf w now at number x → IsOver w now x
-    → Bears (doing (moves number) (entry_of now draw tick (gives_up w now number)) ∷ history) (gives_up w now number).world
+pub keeps_giving_up : (w : State) (history : List Deed) (c : Bears history w) → (now draw at number : ℕ) (x : Exchange) → w.last ≤ now → IsTurnOf w now at number x → IsOver w now x
+    → Bears (doing (moves number) (entry_of now draw tick (gives_up w now number)) ∷ history) (gives_up w now number).state
 keeps_giving_up w history c now draw at number x onward turn over =
     let e = doing (moves number) (entry_of now draw tick (gives_up w now number)) in
     let a = own_answer now gateway_timeout in

@@ -25,7 +25,7 @@ use Rattle.coap_model.specs.Responses.{awaiting}
 use Rattle.coap_forward.specs.Messages.{is_con, brings_requests, reset, own_reply, busy_reply, at_once, reply_id}
 use Rattle.coap_model.specs.Remembered.{remembered_at}
 use Rattle.coap_model.specs.Verdicts.{may_ask}
-use Rattle.coap_model.specs.World.{World, next_id, known_of, has_record_room, remembers, repeats, drops, reserved, has_ids, can_reply, ignores, rejects}
+use Rattle.coap_model.specs.State.{State, next_id, known_of, has_record_room, remembers, repeats, drops, reserved, has_ids, can_reply, ignores, rejects}
 use Rattle.coap_model.specs.Requests.{lacks_id, refuses, overloads}
 use Rattle.coap_model.specs.Step.{message_in}
 use Rattle.coap_model.specs.History.{Entry, no_item, Deed, comes_con, gives_id, ids_in, IsRequestOf}
@@ -57,19 +57,19 @@ con_is Ack e = absurd cc
 con_is Rst e = absurd cc
 
 -- a request that is processed, according to the history
-pub request-came : (w : World) (client : Endpoint) (bytes : List ℕ) (m : Message) → IsBytes bytes → Asked w bytes m → IsRequestOf w.setting client m (arrival client bytes)
+pub request-came : (w : State) (client : Endpoint) (bytes : List ℕ) (m : Message) → IsBytes bytes → Asked w bytes m → IsRequestOf w.setting client m (arrival client bytes)
 request-came w client bytes m fits asked =
     let read = message_in-is w.setting.limits.datagram bytes m fits asked.read in
     let tests = and_parts (brings_requests m.kind) (is_request m.code) asked.request in
     record { brings = record { bytes = bytes; came = refl; spells = read.0; short = read.1 }; kind = tests.0; method = tests.1 }
 
 -- the next id is the next one according to the history
-pub id-same : (w : World) (history : List Deed) (c : Bears history w) → next_id w ≡ (w.setting.first_id + ids_in history) % 65536
+pub id-same : (w : State) (history : List Deed) (c : Bears history w) → next_id w ≡ (w.setting.first_id + ids_in history) % 65536
 id-same w history c = c.ids.following
 
 -- ---- immediate replies
 
-module _ (w : World) (history : List Deed) (c : Bears history w) (now draw : ℕ) (client : Endpoint) (bytes : List ℕ) (m : Message) (onward : w.last ≤ now) (first : IsFirst w now client bytes m) where
+module _ (w : State) (history : List Deed) (c : Bears history w) (now draw : ℕ) (client : Endpoint) (bytes : List ℕ) (m : Message) (onward : w.last ≤ now) (first : IsFirst w now client bytes m) where
   -- a new request, according to the history
   pub came : IsRequestOf w.setting client m (arrival client bytes)
   came = request-came w client bytes m first.fits first.asked
@@ -94,7 +94,7 @@ module _ (w : World) (history : List Deed) (c : Bears history w) (now draw : ℕ
   ids_after = if is_con m.kind then w.ids else called now w.ids
 
   -- a reply that takes an id has the next one
-  pub reply-ids : (e : Deed) (v : World) (reply : Message) → e.entry.now ≡ now → gives_id e.entry ≡ (if is_con m.kind then 0 else 1) → Spells e.entry.bytes (at_once m reply) → reply.id ≡ next_id w → can_reply w now m.kind ≡ true → v.setting.first_id ≡ w.setting.first_id → v.ids ≡ ids_after → Ids (e ∷ history) v
+  pub reply-ids : (e : Deed) (v : State) (reply : Message) → e.entry.now ≡ now → gives_id e.entry ≡ (if is_con m.kind then 0 else 1) → Spells e.entry.bytes (at_once m reply) → reply.id ≡ next_id w → can_reply w now m.kind ≡ true → v.setting.first_id ≡ w.setting.first_id → v.ids ≡ ids_after → Ids (e ∷ history) v
   reply-ids e v reply moment gives spells next free first_id is = go (is_con m.kind) refl gives is
     where
       go : (b : Bool) → is_con m.kind ≡ b → gives_id e.entry ≡ (if b then 0 else 1) → v.ids ≡ (if b then w.ids else called now w.ids) → Ids (e ∷ history) v
@@ -118,7 +118,7 @@ module _ (w : World) (history : List Deed) (c : Bears history w) (now draw : ℕ
 
   -- a refusal preserves what is carried
   pub keeps_refusing : (code : Code) → IsDenied w now m code → can_reply w now m.kind ≡ true
-      → Bears (doing no_item (entry_of now draw (arrival client bytes) (refuses w now client m code)) ∷ history) (remembers now client m (refuses w now client m code)).world
+      → Bears (doing no_item (entry_of now draw (arrival client bytes) (refuses w now client m code)) ∷ history) (remembers now client m (refuses w now client m code)).state
   keeps_refusing code denied free =
       let s = refuses w now client m code in
       let e = doing no_item (entry_of now draw (arrival client bytes) s) in
@@ -134,7 +134,7 @@ module _ (w : World) (history : List Deed) (c : Bears history w) (now draw : ℕ
 
   -- so does a 5.03
   pub keeps_overloading : (key : CacheKey) → verdict_in w m ≡ may_ask key → IsFull w now client key m → can_reply w now m.kind ≡ true
-      → Bears (doing no_item (entry_of now draw (arrival client bytes) (overloads w now client m)) ∷ history) (remembers now client m (overloads w now client m)).world
+      → Bears (doing no_item (entry_of now draw (arrival client bytes) (overloads w now client m)) ∷ history) (remembers now client m (overloads w now client m)).state
   keeps_overloading key verdict full free =
       let s = overloads w now client m in
       let e = doing no_item (entry_of now draw (arrival client bytes) s) in
@@ -148,7 +148,7 @@ module _ (w : World) (history : List Deed) (c : Bears history w) (now draw : ℕ
 
   -- and so does silence because no id is free
   pub keeps_lacking : can_reply w now m.kind ≡ false
-      → Bears (doing no_item (entry_of now draw (arrival client bytes) (lacks_id w now)) ∷ history) (remembers now client m (lacks_id w now)).world
+      → Bears (doing no_item (entry_of now draw (arrival client bytes) (lacks_id w now)) ∷ history) (remembers now client m (lacks_id w now)).state
   keeps_lacking free =
       let s = lacks_id w now in
       let e = doing no_item (entry_of now draw (arrival client bytes) s) in
@@ -161,20 +161,20 @@ module _ (w : World) (history : List Deed) (c : Bears history w) (now draw : ℕ
 -- ---- duplicates
 
 -- a message that is remembered arrives, according to the history
-pub recorded-came : (w : World) (source : Endpoint) (bytes : List ℕ) (m : Message) → IsBytes bytes → Recorded w bytes m → Comes w.setting source m (arrival source bytes)
+pub recorded-came : (w : State) (source : Endpoint) (bytes : List ℕ) (m : Message) → IsBytes bytes → Recorded w bytes m → Comes w.setting source m (arrival source bytes)
 recorded-came w source bytes m fits r =
     let read = message_in-is w.setting.limits.datagram bytes m fits r.read in
     record { brings = record { bytes = bytes; came = refl; spells = read.0; short = read.1 }; recorded = r.recorded }
 
 -- repeating a reply for a duplicate preserves what is carried
-pub keeps_repeating : (w : World) (history : List Deed) (c : Bears history w) (now draw : ℕ) (source : Endpoint) (bytes : List ℕ) (m : Message) (known : Record) → w.last ≤ now → IsBytes bytes → Recorded w bytes m → known_of w now source m ≡ Some known
-    → Bears (doing no_item (entry_of now draw (arrival source bytes) (repeats w now source known.reply)) ∷ history) (repeats w now source known.reply).world
+pub keeps_repeating : (w : State) (history : List Deed) (c : Bears history w) (now draw : ℕ) (source : Endpoint) (bytes : List ℕ) (m : Message) (known : Record) → w.last ≤ now → IsBytes bytes → Recorded w bytes m → known_of w now source m ≡ Some known
+    → Bears (doing no_item (entry_of now draw (arrival source bytes) (repeats w now source known.reply)) ∷ history) (repeats w now source known.reply).state
 keeps_repeating w history c now draw source bytes m known onward fits recorded found = go known.reply refl
   where
     same : record_of source m.id (remembered_at m.kind now history) ≡ Some known
     same = ap (record_of source m.id) (sym (known-is w history c now source bytes m onward m.kind (recorded-kind m recorded.recorded))) ∙ found
 
-    go : (reply : Option (List ℕ)) → known.reply ≡ reply → Bears (doing no_item (entry_of now draw (arrival source bytes) (repeats w now source reply)) ∷ history) (repeats w now source reply).world
+    go : (reply : Option (List ℕ)) → known.reply ≡ reply → Bears (doing no_item (entry_of now draw (arrival source bytes) (repeats w now source reply)) ∷ history) (repeats w now source reply).state
     go None is =
         let e = doing no_item (entry_of now draw (arrival source bytes) (repeats w now source None)) in
         keeps_quiet w history c e (record { act = refl; opens = refl; admits = refl; sends = refl; takes = refl; leaves_open = λ standing xs. refl; stands = λ standing. refl }) refl (λ k. refl) onward refl
@@ -185,8 +185,8 @@ keeps_repeating w history c now draw source bytes m known onward fits recorded f
         (record { act = refl; source = source; message = m; known = known; comes = recorded-came w source bytes m fits recorded; found = same; says_again = subst (λ (o : Option (List ℕ)). SaysAgain source o e.entry) (sym is) (refl, refl) }, c.past)
 
 -- and so does silence if there is no room to remember what arrived
-pub keeps_dropping : (w : World) (history : List Deed) (c : Bears history w) (now draw : ℕ) (source : Endpoint) (bytes : List ℕ) (m : Message) → w.last ≤ now → IsBytes bytes → Recorded w bytes m → (is_response m.code ≡ true → (x : Numbered Exchange) × (awaiting w source m ≡ Some x)) → known_of w now source m ≡ None → has_record_room w now source m.kind ≡ false
-    → Bears (doing no_item (entry_of now draw (arrival source bytes) (drops w now)) ∷ history) (drops w now).world
+pub keeps_dropping : (w : State) (history : List Deed) (c : Bears history w) (now draw : ℕ) (source : Endpoint) (bytes : List ℕ) (m : Message) → w.last ≤ now → IsBytes bytes → Recorded w bytes m → (is_response m.code ≡ true → (x : Numbered Exchange) × (awaiting w source m ≡ Some x)) → known_of w now source m ≡ None → has_record_room w now source m.kind ≡ false
+    → Bears (doing no_item (entry_of now draw (arrival source bytes) (drops w now)) ∷ history) (drops w now).state
 keeps_dropping w history c now draw source bytes m onward fits recorded wanted unknown full =
     let e = doing no_item (entry_of now draw (arrival source bytes) (drops w now)) in
     let kind = recorded-kind m recorded.recorded in
@@ -208,7 +208,7 @@ keeps_dropping w history c now draw source bytes m onward fits recorded wanted u
 -- ---- what isn't processed
 
 -- a request that would be processed was read
-request-read : (w : World) (source client : Endpoint) (bytes : List ℕ) (m : Message) → IsRequestOf w.setting client m (arrival source bytes) → (message_in w.setting.limits.datagram bytes ≡ Some m) × ((brings_requests m.kind && is_request m.code) ≡ true)
+request-read : (w : State) (source client : Endpoint) (bytes : List ℕ) (m : Message) → IsRequestOf w.setting client m (arrival source bytes) → (message_in w.setting.limits.datagram bytes ≡ Some m) × ((brings_requests m.kind && is_request m.code) ≡ true)
 request-read w source client bytes m r =
     let b = r.brings in
     let same = arrival-same source client bytes b.bytes b.came in
@@ -217,7 +217,7 @@ request-read w source client bytes m r =
     (message_in-again w.setting.limits.datagram bytes m read short, and_from (brings_requests m.kind) (is_request m.code) r.kind r.method)
 
 -- what holds no other message can't be processed
-unprocessable : (w : World) (history : List Deed) (c : Bears history w) (e : Entry) (source : Endpoint) (bytes : List ℕ) → w.last ≤ e.now → e.event ≡ arrival source bytes → IsNothing w e.now source bytes → IsUnprocessable w.setting history e
+unprocessable : (w : State) (history : List Deed) (c : Bears history w) (e : Entry) (source : Endpoint) (bytes : List ℕ) → w.last ≤ e.now → e.event ≡ arrival source bytes → IsNothing w e.now source bytes → IsUnprocessable w.setting history e
 unprocessable w history c e source bytes onward came none = record {
   no_request = λ client m r. let read = request-read w source client bytes m (subst (IsRequestOf w.setting client m) came r) in let test = (none m read.0).request in absurd (let both = sym test ∙ read.1 in cc);
   no_duplicate = λ other m comes. not-known w history c e.now source bytes onward none other m (subst (Comes w.setting other m) came comes);
@@ -227,16 +227,16 @@ unprocessable w history c e source bytes onward came none = record {
 }
 
 -- a Reset preserves what is carried
-pub keeps_rejecting : (w : World) (history : List Deed) (c : Bears history w) (now draw : ℕ) (source : Endpoint) (bytes : List ℕ) (head : Head) → w.last ≤ now → head_at bytes ≡ Some head → is_con head.kind ≡ true → IsNothing w now source bytes
-    → Bears (doing no_item (entry_of now draw (arrival source bytes) (rejects w now source head.id)) ∷ history) (rejects w now source head.id).world
+pub keeps_rejecting : (w : State) (history : List Deed) (c : Bears history w) (now draw : ℕ) (source : Endpoint) (bytes : List ℕ) (head : Head) → w.last ≤ now → head_at bytes ≡ Some head → is_con head.kind ≡ true → IsNothing w now source bytes
+    → Bears (doing no_item (entry_of now draw (arrival source bytes) (rejects w now source head.id)) ∷ history) (rejects w now source head.id).state
 keeps_rejecting w history c now draw source bytes head onward is con none =
     let e = doing no_item (entry_of now draw (arrival source bytes) (rejects w now source head.id)) in
     keeps_quiet w history c e (record { act = refl; opens = refl; admits = refl; sends = refl; takes = refl; leaves_open = λ standing xs. refl; stands = λ standing. refl }) refl (λ k. refl) onward refl
     (record { act = refl; source = source; bytes = bytes; head = head; came = refl; head_is = is; con = con_is head.kind con; unprocessable = unprocessable w history c e.entry source bytes onward refl none; tells = record { sent = refl; spells = spelled (reset head.id) (reset-is head.id) } }, c.past)
 
 -- and so does doing nothing
-pub keeps_ignoring : (w : World) (history : List Deed) (c : Bears history w) (now draw : ℕ) (source : Endpoint) (bytes : List ℕ) → w.last ≤ now → IsNotCon bytes → IsNothing w now source bytes
-    → Bears (doing no_item (entry_of now draw (arrival source bytes) (ignores w now)) ∷ history) (ignores w now).world
+pub keeps_ignoring : (w : State) (history : List Deed) (c : Bears history w) (now draw : ℕ) (source : Endpoint) (bytes : List ℕ) → w.last ≤ now → IsNotCon bytes → IsNothing w now source bytes
+    → Bears (doing no_item (entry_of now draw (arrival source bytes) (ignores w now)) ∷ history) (ignores w now).state
 keeps_ignoring w history c now draw source bytes onward quiet none =
     let e = doing no_item (entry_of now draw (arrival source bytes) (ignores w now)) in
     keeps_quiet w history c e (record { act = refl; opens = refl; admits = refl; sends = refl; takes = refl; leaves_open = λ standing xs. refl; stands = λ standing. refl }) refl (λ k. refl) onward refl

@@ -36,8 +36,8 @@ use Rattle.coap_message.specs.Codes.{is_request, is_response}
 use Rattle.coap_forward.specs.Messages.{is_con, is_get, brings_requests, brings_responses, is_ack, is_rst, is_bare, is_empty, is_recorded, acknowledgement}
 use Rattle.coap_model.specs.Verdicts.{Verdict, refused_with, may_ask, verdict_of}
 use Rattle.coap_dedup.specs.declared.record.Record.{Record}
-use Rattle.coap_model.specs.World.{World, Step, has_record_room, has_room_to_join, has_room_to_open, can_reply, known_of, remembers, repeats, drops, ignores, rejects, unprocessed, silent, says, later}
-use Rattle.coap_model.specs.Requests.{lacks_id, refuses, overloads, new_exchange, new_waiter, joins, opens, turns_down, turns_away, hits, on_wanted, on_joinable, on_miss, on_entry, on_key, on_verdict, on_new, on_known, on_request}
+use Rattle.coap_model.specs.State.{State, Step, has_record_room, has_room_to_join, has_room_to_open, can_reply, known_of, remembers, repeats, drops, ignores, rejects, unprocessed, silent, says, later}
+use Rattle.coap_model.specs.Requests.{lacks_id, refuses, overloads, new_exchange, new_waiter, joins, opens, turns_down, turns_away, hits, on_exchange_needed, on_joinable, on_miss, on_entry, on_key, on_verdict, on_new, on_known, on_request}
 use Rattle.coap_model.specs.Answers.{Arrived, with_changed, may_store, answer_for, entry_made, answers_so, keeps_if, stores, answers_with, answers}
 use Rattle.coap_model.specs.Responses.{awaiting, on_awaited, on_separate, on_unknown, on_response_in, on_response}
 use Rattle.coap_model.specs.Empties.{acknowledges, closes, on_told, on_client, settles, on_sent, on_empty}
@@ -53,41 +53,41 @@ use Rattle.coap_exchange.specs.Exchanges as exchanges
 use Rattle.coap_exchange.specs.Exchanges.{deadline, answer_at, answer_in, fire_of_sending, is_sent, is_joinable, was_sent_as}
 use Rattle.coap_model.specs.declared.due.DueItem.{DueItem}
 use Rattle.coap_model.specs.declared.due.DueItem.TheVariants.{OfExchange, OfWaiter}
-use Rattle.coap_model.specs.Ticks.{item_due, if_due, sends, resends, gives_up, on_fire, in_time, on_exchange, given_to, tells, redelivers, abandons, on_unheard, on_answer, on_awaited as on_exchange_of, on_waiting, on_waiter, idles, on_item}
+use Rattle.coap_model.specs.Ticks.{item_due, if_due, sends, resends, gives_up, on_request_timeout, in_time, on_exchange, given_to, tells, redelivers, abandons, on_delivery_timeout, on_answer, on_awaited as on_exchange_of, on_waiting, on_waiter, idles, on_item}
 use Rattle.coap_model.specs.Step.{on_no_response, on_no_request, on_message, message_in, on_read, step_of}
 use Rattle.coap_model.proofs.Spelled.{message_in-is}
 
 -- a request that is processed arrived in these bytes
-pub record Asked (w : World) (bytes : List ℕ) (m : Message) : Type 0 where
+pub record Asked (w : State) (bytes : List ℕ) (m : Message) : Type 0 where
   pub read : message_in w.setting.limits.datagram bytes ≡ Some m
   pub request : (brings_requests m.kind && is_request m.code) ≡ true
 
 -- and it is new, with room to remember it
-pub record IsFirst (w : World) (now : ℕ) (client : Endpoint) (bytes : List ℕ) (m : Message) : Type 0 where
+pub record IsFirst (w : State) (now : ℕ) (client : Endpoint) (bytes : List ℕ) (m : Message) : Type 0 where
   pub fits : IsBytes bytes
   pub asked : Asked w bytes m
   pub unknown : known_of w now client m ≡ None
   pub room : has_record_room w now client m.kind ≡ true
 
 -- a message that is remembered arrived in these bytes
-pub record Recorded (w : World) (bytes : List ℕ) (m : Message) : Type 0 where
+pub record Recorded (w : State) (bytes : List ℕ) (m : Message) : Type 0 where
   pub read : message_in w.setting.limits.datagram bytes ≡ Some m
   pub recorded : is_recorded m ≡ true
 
 -- what an Empty message refers to: an exchange whose request was sent, and isn't answered
-pub record IsAbout (w : World) (now : ℕ) (source : Endpoint) (m : Message) (x : Numbered Exchange) : Type 0 where
+pub record IsAbout (w : State) (now : ℕ) (source : Endpoint) (m : Message) (x : Numbered Exchange) : Type 0 where
   pub bare : is_bare m ≡ true
   pub first : first_that (was_sent_as source m.id now) w.exchanges ≡ Some x.0
   pub found : item_at x.0 w.exchanges ≡ Some x.1
   pub sent : is_sent x.1 ≡ true
 
 -- what an Empty message refers to otherwise: an answer that a client was sent
-pub record IsOfAnswer (w : World) (now : ℕ) (source : Endpoint) (m : Message) (number : ℕ) : Type 0 where
+pub record IsOfAnswer (w : State) (now : ℕ) (source : Endpoint) (m : Message) (number : ℕ) : Type 0 where
   pub bare : is_bare m ≡ true
   pub first : first_that (waiters.was_sent_as source m.id now) w.waiters ≡ Some number
 
 -- a message gives an exchange its answer: a response that it awaits, or a Reset
-pub data IsAnswerFor (w : World) (now : ℕ) (source : Endpoint) (m : Message) (x : Numbered Exchange) : Type 0 where
+pub data IsAnswerFor (w : State) (now : ℕ) (source : Endpoint) (m : Message) (x : Numbered Exchange) : Type 0 where
   by_response : (brings_responses m.kind && is_response m.code) ≡ true → awaiting w source m ≡ Some x → IsAnswerFor w now source m x
   by_reset : IsAbout w now source m x → is_ack m.kind ≡ false → IsAnswerFor w now source m x
 
@@ -96,7 +96,7 @@ abbrev pub IsNotCon : List ℕ → Type 0
 IsNotCon bytes = (head : Head) → head_at bytes ≡ Some head → is_con head.kind ≡ false
 
 -- a message that is neither a request that is processed, nor a duplicate, nor awaited
-pub record IsNoOnes (w : World) (now : ℕ) (source : Endpoint) (m : Message) : Type 0 where
+pub record IsNoOnes (w : State) (now : ℕ) (source : Endpoint) (m : Message) : Type 0 where
   pub request : (brings_requests m.kind && is_request m.code) ≡ false
   pub unknown : is_recorded m ≡ true → known_of w now source m ≡ None
   pub response : (brings_responses m.kind && is_response m.code) ≡ true → awaiting w source m ≡ None
@@ -104,64 +104,64 @@ pub record IsNoOnes (w : World) (now : ℕ) (source : Endpoint) (m : Message) : 
   pub answer : (number : ℕ) → ¬ IsOfAnswer w now source m number
 
 -- a datagram that holds no other message
-abbrev pub IsNothing : World → ℕ → Endpoint → List ℕ → Type 0
+abbrev pub IsNothing : State → ℕ → Endpoint → List ℕ → Type 0
 IsNothing w now source bytes = (m : Message) → message_in w.setting.limits.datagram bytes ≡ Some m → IsNoOnes w now source m
 
 -- the verdict on a request for this proxy
-abbrev pub verdict_in : World → Message → Verdict
+abbrev pub verdict_in : State → Message → Verdict
 verdict_in w m = verdict_of w.setting.routes m
 
 -- the request that would be forwarded for a key fits a datagram of this proxy
-abbrev pub fits_in : World → CacheKey → Message → Bool
+abbrev pub fits_in : State → CacheKey → Message → Bool
 fits_in w key m = form_fits w.setting.limits.datagram key.target None m
 
 -- the store has no entry with the key that is usable at this moment
-abbrev pub IsMissed : World → ℕ → CacheKey → Type 0
+abbrev pub IsMissed : State → ℕ → CacheKey → Type 0
 IsMissed w now key = (entry : Entry) → of_key entry_key key w.store ≡ Some entry → is_usable now entry.1 ≡ false
 
 -- the request has to be forwarded: it isn't a GET, or its key is missed and no exchange may be
 -- joined
-pub record IsUnanswered (w : World) (now : ℕ) (key : CacheKey) (m : Message) : Type 0 where
+pub record IsUnanswered (w : State) (now : ℕ) (key : CacheKey) (m : Message) : Type 0 where
   pub missed : is_get m.code ≡ true → IsMissed w now key
   pub alone : is_get m.code ≡ true → first_that (is_joinable key) w.exchanges ≡ None
 
 -- what is stored for the key of a request; nothing if it isn't a GET
-abbrev pub held_for : World → CacheKey → Message → Option Stored
+abbrev pub held_for : State → CacheKey → Message → Option Stored
 held_for w key m = if is_get m.code then option_map (λ (e : Entry). e.1) (of_key entry_key key w.store) else None
 
 -- a request deserves an error code for this proxy
-pub data IsDenied (w : World) (now : ℕ) (m : Message) (code : Code) : Type 0 where
+pub data IsDenied (w : State) (now : ℕ) (m : Message) (code : Code) : Type 0 where
   by_verdict : verdict_in w m ≡ refused_with code → IsDenied w now m code
   by_length : (key : CacheKey) → verdict_in w m ≡ may_ask key → IsUnanswered w now key m → fits_in w key m ≡ false → code ≡ REQUEST_ENTITY_TOO_LARGE → IsDenied w now m code
 
 -- there is no room for what the request needs: to join the exchange that is found, or to open one
-pub data IsFull (w : World) (now : ℕ) (client : Endpoint) (key : CacheKey) (m : Message) : Type 0 where
+pub data IsFull (w : State) (now : ℕ) (client : Endpoint) (key : CacheKey) (m : Message) : Type 0 where
   to_join : (exchange : ℕ) → is_get m.code ≡ true → IsMissed w now key → first_that (is_joinable key) w.exchanges ≡ Some exchange → has_room_to_join w now client ≡ false → IsFull w now client key m
   to_open : IsUnanswered w now key m → fits_in w key m ≡ true → has_room_to_open w now client ≡ false → IsFull w now client key m
 
 -- what the store does with an answer, and the store after that
-pub data IsStoring (w : World) (now : ℕ) (grown : Bool) (x : Numbered Exchange) (a : Answer) : Storing → List Entry → Type 0 where
+pub data IsStoring (w : State) (now : ℕ) (grown : Bool) (x : Numbered Exchange) (a : Answer) : Storing → List Entry → Type 0 where
   kept : may_store x.1 a ≡ true → entry_size (entry_made w now x.1 a) ≤ w.setting.limits.cache_bytes → IsStoring w now grown x a Kept (put entry_key entry_size w.setting.limits.cache_bytes w.setting.limits.cache_entries (entry_made w now x.1 a) w.store)
   too_large : may_store x.1 a ≡ true → w.setting.limits.cache_bytes < entry_size (entry_made w now x.1 a) → IsStoring w now grown x a TooLarge (others entry_key x.1.key w.store)
   no_memory : may_store x.1 a ≡ true → entry_size (entry_made w now x.1 a) ≤ w.setting.limits.cache_bytes → of_key entry_key x.1.key w.store ≡ None → grown ≡ false → IsStoring w now grown x a NoMemory w.store
   not_stored : may_store x.1 a ≡ false → IsStoring w now grown x a NotStored w.store
 
 -- the tables after the changes of a message that answers an exchange
-abbrev pub changed_world : World → Message → Numbered Exchange → World
+abbrev pub changed_world : State → Message → Numbered Exchange → State
 changed_world w m x = with_changed (changed_by x.1.key.target m) w
 
 -- an exchange is due first, and exists
-pub record IsTurnOf (w : World) (now at number : ℕ) (x : Exchange) : Type 0 where
+pub record IsTurnOf (w : State) (now at number : ℕ) (x : Exchange) : Type 0 where
   pub due : if_due now (item_due w) ≡ Some (OfExchange at number)
   pub found : item_at number w.exchanges ≡ Some x
 
 -- it reached its deadline, or its request was transmitted as often or for as long as allowed
-pub data IsOver (w : World) (now : ℕ) (x : Exchange) : Type 0 where
+pub data IsOver (w : State) (now : ℕ) (x : Exchange) : Type 0 where
   overdue : deadline w.setting.limits.exchange_ms x ≤ now → IsOver w now x
   unheard : x.state ≡ Sent → now < deadline w.setting.limits.exchange_ms x → fire_of_sending now x.sending ≡ GiveUp → IsOver w now x
 
 -- something is due that doesn't exist, or isn't due
-pub data IsStuck (w : World) (now : ℕ) : Type 0 where
+pub data IsStuck (w : State) (now : ℕ) : Type 0 where
   no_exchange : (at number : ℕ) → if_due now (item_due w) ≡ Some (OfExchange at number) → item_at number w.exchanges ≡ None → IsStuck w now
   acknowledged : (at number : ℕ) (x : Exchange) → IsTurnOf w now at number x → x.state ≡ Acked → now < deadline w.setting.limits.exchange_ms x → IsStuck w now
   answered : (at number : ℕ) (x : Exchange) (a : Answer) → IsTurnOf w now at number x → x.state ≡ Done a → IsStuck w now
@@ -174,37 +174,37 @@ pub data IsTakenUp (source : Endpoint) (m : Message) : Option Endpoint → List 
   with_acknowledgement : is_con m.kind ≡ true → IsTakenUp source m (Some source) (spelling (acknowledgement m.id))
 
 -- a step with this outcome, which sends this, and leaves these tables
-abbrev pub sending : Outcome → Option Endpoint → List ℕ → World → Step
-sending outcome send told w = record { report = record { send = send; outcome = outcome }; bytes = told; world = w }
+abbrev pub sending : Outcome → Option Endpoint → List ℕ → State → Step
+sending outcome send told w = record { report = record { send = send; outcome = outcome }; bytes = told; state = w }
 
 -- a client waits for an exchange that existed
-abbrev pub joined_world : World → ℕ → Endpoint → Message → ℕ → World
+abbrev pub joined_world : State → ℕ → Endpoint → Message → ℕ → State
 joined_world w now client m exchange =
     record (later w now) { waiters = w.waiters ++ new_waiter w client m exchange ∷ []; admitted = w.admitted + 1 }
 
 -- and for one that is opened
-abbrev pub opened_world : World → ℕ → Endpoint → Message → CacheKey → Option Stored → World
+abbrev pub opened_world : State → ℕ → Endpoint → Message → CacheKey → Option Stored → State
 opened_world w now client m key stored =
     record (later w now) { exchanges = w.exchanges ++ new_exchange w now client m key stored ∷ []; waiters = w.waiters ++ new_waiter w client m (w.opened + 1) ∷ []; opened = w.opened + 1; admitted = w.admitted + 1 }
 
 -- the clients that are left after one was sent this message: without it, or with it, until it
 -- acknowledges the message
-pub data IsTold (w : World) (now draw number : ℕ) (m : Message) : List (Numbered Waiter) → Type 0 where
+pub data IsTold (w : State) (now draw number : ℕ) (m : Message) : List (Numbered Waiter) → Type 0 where
   done_with : is_con m.kind ≡ false → IsTold w now draw number m (without number w.waiters)
   to_acknowledge : is_con m.kind ≡ true → IsTold w now draw number m (changed_at number (waiters.delivered (spelling m) m.id (started now draw)) w.waiters)
 
 -- the client that is due first was sent its answer, and exists
-pub record IsTurnOfTold (w : World) (now at number : ℕ) (v : Waiter) (bytes : List ℕ) (id : ℕ) (timer : Timer) : Type 0 where
+pub record IsTurnOfTold (w : State) (now at number : ℕ) (v : Waiter) (bytes : List ℕ) (id : ℕ) (timer : Timer) : Type 0 where
   pub due : if_due now (item_due w) ≡ Some (OfWaiter at number)
   pub found : item_at number w.waiters ≡ Some v
   pub state : v.state ≡ Delivering bytes id timer
 
 -- the exchange with a number has this answer, and this is stored
-abbrev pub answered_world : World → ℕ → ℕ → Answer → List Entry → World
+abbrev pub answered_world : State → ℕ → ℕ → Answer → List Entry → State
 answered_world w now n a store = record (later w now) { exchanges = changed_at n (exchanges.answered a) w.exchanges; store = store }
 
 -- the cases of a step, each with what is known in it
-pub data Rule (w : World) (now draw : ℕ) (grown : Bool) : Event → Step → Type 0 where
+pub data Rule (w : State) (now draw : ℕ) (grown : Bool) : Event → Step → Type 0 where
   refusing : (client : Endpoint) (bytes : List ℕ) (m : Message) (code : Code) → IsFirst w now client bytes m → IsDenied w now m code → can_reply w now m.kind ≡ true → Rule w now draw grown (arrival client bytes) (remembers now client m (refuses w now client m code))
   lacking : (client : Endpoint) (bytes : List ℕ) (m : Message) → IsFirst w now client bytes m → can_reply w now m.kind ≡ false → Rule w now draw grown (arrival client bytes) (remembers now client m (lacks_id w now))
   overloading : (client : Endpoint) (bytes : List ℕ) (m : Message) (key : CacheKey) → IsFirst w now client bytes m → verdict_in w m ≡ may_ask key → IsFull w now client key m → can_reply w now m.kind ≡ true → Rule w now draw grown (arrival client bytes) (remembers now client m (overloads w now client m))
@@ -323,7 +323,7 @@ recorded-response m recorded response = and_from (brings_responses m.kind) (is_r
 -- ---- requests
 
 -- a request that deserves a code is refused with it, if an id is free
-rule_refusal : (w : World) (now draw : ℕ) (grown : Bool) (client : Endpoint) (bytes : List ℕ) (m : Message) (code : Code) → IsFirst w now client bytes m → IsDenied w now m code → Rule w now draw grown (arrival client bytes) (remembers now client m (turns_down w now client m code))
+rule_refusal : (w : State) (now draw : ℕ) (grown : Bool) (client : Endpoint) (bytes : List ℕ) (m : Message) (code : Code) → IsFirst w now client bytes m → IsDenied w now m code → Rule w now draw grown (arrival client bytes) (remembers now client m (turns_down w now client m code))
 rule_refusal w now draw grown client bytes m code first denied = go (can_reply w now m.kind) refl
   where
     go : (b : Bool) → can_reply w now m.kind ≡ b → Rule w now draw grown (arrival client bytes) (remembers now client m (cond b (refuses w now client m code) (lacks_id w now)))
@@ -331,7 +331,7 @@ rule_refusal w now draw grown client bytes m code first denied = go (can_reply w
     go false free = lacking client bytes m first free
 
 -- if there is no room for what a request needs, it is turned away
-rule_full : (w : World) (now draw : ℕ) (grown : Bool) (client : Endpoint) (bytes : List ℕ) (m : Message) (key : CacheKey) → IsFirst w now client bytes m → verdict_in w m ≡ may_ask key → IsFull w now client key m → Rule w now draw grown (arrival client bytes) (remembers now client m (turns_away w now client m))
+rule_full : (w : State) (now draw : ℕ) (grown : Bool) (client : Endpoint) (bytes : List ℕ) (m : Message) (key : CacheKey) → IsFirst w now client bytes m → verdict_in w m ≡ may_ask key → IsFull w now client key m → Rule w now draw grown (arrival client bytes) (remembers now client m (turns_away w now client m))
 rule_full w now draw grown client bytes m key first e full = go (can_reply w now m.kind) refl
   where
     go : (b : Bool) → can_reply w now m.kind ≡ b → Rule w now draw grown (arrival client bytes) (remembers now client m (cond b (overloads w now client m) (lacks_id w now)))
@@ -339,7 +339,7 @@ rule_full w now draw grown client bytes m key first e full = go (can_reply w now
     go false free = lacking client bytes m first free
 
 -- a request that has to be forwarded is a case by its length and by the room
-rule_wanted : (w : World) (now draw : ℕ) (grown : Bool) (client : Endpoint) (bytes : List ℕ) (m : Message) (key : CacheKey) (stored : Option Stored) → IsFirst w now client bytes m → verdict_in w m ≡ may_ask key → IsUnanswered w now key m → held_for w key m ≡ stored → Rule w now draw grown (arrival client bytes) (remembers now client m (on_wanted w now client m key stored))
+rule_wanted : (w : State) (now draw : ℕ) (grown : Bool) (client : Endpoint) (bytes : List ℕ) (m : Message) (key : CacheKey) (stored : Option Stored) → IsFirst w now client bytes m → verdict_in w m ≡ may_ask key → IsUnanswered w now key m → held_for w key m ≡ stored → Rule w now draw grown (arrival client bytes) (remembers now client m (on_exchange_needed w now client m key stored))
 rule_wanted w now draw grown client bytes m key stored first e none held = by_fit (fits_in w key m) refl
   where
     up : fits_in w key m ≡ true → has_room_to_open w now client ≡ true → (b : Bool) → is_con m.kind ≡ b → Rule w now draw grown (arrival client bytes) (remembers now client m (cond b (says Opened client (acknowledgement m.id) (opened_world w now client m key stored)) (silent Opened (opened_world w now client m key stored))))
@@ -355,7 +355,7 @@ rule_wanted w now draw grown client bytes m key stored first e none held = by_fi
     by_fit false long = rule_refusal w now draw grown client bytes m REQUEST_ENTITY_TOO_LARGE first (by_length key e none long refl)
 
 -- a GET whose key is missed is a case by the exchange that may be joined, and by the room
-rule_miss : (w : World) (now draw : ℕ) (grown : Bool) (client : Endpoint) (bytes : List ℕ) (m : Message) (key : CacheKey) (stored : Option Stored) → IsFirst w now client bytes m → is_get m.code ≡ true → verdict_in w m ≡ may_ask key → IsMissed w now key → held_for w key m ≡ stored → Rule w now draw grown (arrival client bytes) (remembers now client m (on_miss w now client m key stored))
+rule_miss : (w : State) (now draw : ℕ) (grown : Bool) (client : Endpoint) (bytes : List ℕ) (m : Message) (key : CacheKey) (stored : Option Stored) → IsFirst w now client bytes m → is_get m.code ≡ true → verdict_in w m ≡ may_ask key → IsMissed w now key → held_for w key m ≡ stored → Rule w now draw grown (arrival client bytes) (remembers now client m (on_miss w now client m key stored))
 rule_miss w now draw grown client bytes m key stored first get e missed held = by_search (first_that (is_joinable key) w.exchanges) refl
   where
     up : (exchange : ℕ) → first_that (is_joinable key) w.exchanges ≡ Some exchange → has_room_to_join w now client ≡ true → (b : Bool) → is_con m.kind ≡ b → Rule w now draw grown (arrival client bytes) (remembers now client m (cond b (says Joined client (acknowledgement m.id) (joined_world w now client m exchange)) (silent Joined (joined_world w now client m exchange))))
@@ -371,7 +371,7 @@ rule_miss w now draw grown client bytes m key stored first get e missed held = b
     by_search (Some exchange) found = room exchange found (has_room_to_join w now client) refl
 
 -- a GET is a case by the entry with its key
-rule_entry : (w : World) (now draw : ℕ) (grown : Bool) (client : Endpoint) (bytes : List ℕ) (m : Message) (key : CacheKey) → IsFirst w now client bytes m → is_get m.code ≡ true → verdict_in w m ≡ may_ask key → (o : Option Entry) → of_key entry_key key w.store ≡ o → Rule w now draw grown (arrival client bytes) (remembers now client m (on_entry w now client m key o))
+rule_entry : (w : State) (now draw : ℕ) (grown : Bool) (client : Endpoint) (bytes : List ℕ) (m : Message) (key : CacheKey) → IsFirst w now client bytes m → is_get m.code ≡ true → verdict_in w m ≡ may_ask key → (o : Option Entry) → of_key entry_key key w.store ≡ o → Rule w now draw grown (arrival client bytes) (remembers now client m (on_entry w now client m key o))
 rule_entry w now draw grown client bytes m key first get e o found = go o found
   where
     held : (p : Option Entry) → of_key entry_key key w.store ≡ p → held_for w key m ≡ option_map (λ (s : Entry). s.1) p
@@ -390,10 +390,10 @@ rule_entry w now draw grown client bytes m key first get e o found = go o found
     go (Some entry) is = by_use entry is (is_usable now entry.1) refl
 
 -- a request for a key is a case by its method
-rule_key : (w : World) (now draw : ℕ) (grown : Bool) (client : Endpoint) (bytes : List ℕ) (m : Message) (key : CacheKey) → IsFirst w now client bytes m → verdict_in w m ≡ may_ask key → Rule w now draw grown (arrival client bytes) (remembers now client m (on_key w now client m key))
+rule_key : (w : State) (now draw : ℕ) (grown : Bool) (client : Endpoint) (bytes : List ℕ) (m : Message) (key : CacheKey) → IsFirst w now client bytes m → verdict_in w m ≡ may_ask key → Rule w now draw grown (arrival client bytes) (remembers now client m (on_key w now client m key))
 rule_key w now draw grown client bytes m key first e = go (is_get m.code) refl
   where
-    go : (b : Bool) → is_get m.code ≡ b → Rule w now draw grown (arrival client bytes) (remembers now client m (cond b (on_entry w now client m key (of_key entry_key key w.store)) (on_wanted w now client m key None)))
+    go : (b : Bool) → is_get m.code ≡ b → Rule w now draw grown (arrival client bytes) (remembers now client m (cond b (on_entry w now client m key (of_key entry_key key w.store)) (on_exchange_needed w now client m key None)))
     go true get = rule_entry w now draw grown client bytes m key first get e (of_key entry_key key w.store) refl
     go false other =
         rule_wanted w now draw grown client bytes m key None first e
@@ -401,16 +401,16 @@ rule_key w now draw grown client bytes m key first e = go (is_get m.code) refl
         (ap (λ (b : Bool). if b then option_map (λ (s : Entry). s.1) (of_key entry_key key w.store) else None) other)
 
 -- a request is a case by its verdict
-rule_verdict : (w : World) (now draw : ℕ) (grown : Bool) (client : Endpoint) (bytes : List ℕ) (m : Message) → IsFirst w now client bytes m → (v : Verdict) → verdict_in w m ≡ v → Rule w now draw grown (arrival client bytes) (remembers now client m (on_verdict w now client m v))
+rule_verdict : (w : State) (now draw : ℕ) (grown : Bool) (client : Endpoint) (bytes : List ℕ) (m : Message) → IsFirst w now client bytes m → (v : Verdict) → verdict_in w m ≡ v → Rule w now draw grown (arrival client bytes) (remembers now client m (on_verdict w now client m v))
 rule_verdict w now draw grown client bytes m first (refused_with code) e = rule_refusal w now draw grown client bytes m code first (by_verdict e)
 rule_verdict w now draw grown client bytes m first (may_ask key) e = rule_key w now draw grown client bytes m key first e
 
 -- a request that is processed is remembered
-request_recorded : (w : World) (bytes : List ℕ) (m : Message) → Asked w bytes m → Recorded w bytes m
+request_recorded : (w : State) (bytes : List ℕ) (m : Message) → Asked w bytes m → Recorded w bytes m
 request_recorded w bytes m asked = record { read = asked.read; recorded = or_first (brings_requests m.kind && is_request m.code) (is_con m.kind && is_response m.code) asked.request }
 
 -- a request is a case by its record
-rule_known : (w : World) (now draw : ℕ) (grown : Bool) (client : Endpoint) (bytes : List ℕ) (m : Message) → IsBytes bytes → Asked w bytes m → (o : Option Record) → known_of w now client m ≡ o → Rule w now draw grown (arrival client bytes) (on_known w now client m o)
+rule_known : (w : State) (now draw : ℕ) (grown : Bool) (client : Endpoint) (bytes : List ℕ) (m : Message) → IsBytes bytes → Asked w bytes m → (o : Option Record) → known_of w now client m ≡ o → Rule w now draw grown (arrival client bytes) (on_known w now client m o)
 rule_known w now draw grown client bytes m fits asked (Some known) e = repeating client bytes m known fits (request_recorded w bytes m asked) e
 rule_known w now draw grown client bytes m fits asked None e = go (has_record_room w now client m.kind) refl
   where
@@ -427,7 +427,7 @@ one_head : (bytes : List ℕ) (head : Head) → head_at bytes ≡ Some head → 
 one_head bytes head is other again also = let same : head ≡ again = same_Some head again (sym is ∙ also) in subst (λ (h : Head). is_con h.kind ≡ false) same other
 
 -- what isn't processed is rejected if it is Confirmable
-rule_unprocessed : (w : World) (now draw : ℕ) (grown : Bool) (source : Endpoint) (bytes : List ℕ) (head : Head) → head_at bytes ≡ Some head → IsNothing w now source bytes → Rule w now draw grown (arrival source bytes) (unprocessed w now source head.kind head.id)
+rule_unprocessed : (w : State) (now draw : ℕ) (grown : Bool) (source : Endpoint) (bytes : List ℕ) (head : Head) → head_at bytes ≡ Some head → IsNothing w now source bytes → Rule w now draw grown (arrival source bytes) (unprocessed w now source head.kind head.id)
 rule_unprocessed w now draw grown source bytes head is none = go (is_con head.kind) refl
   where
     go : (b : Bool) → is_con head.kind ≡ b → Rule w now draw grown (arrival source bytes) (cond b (rejects w now source head.id) (ignores w now))
@@ -435,21 +435,21 @@ rule_unprocessed w now draw grown source bytes head is none = go (is_con head.ki
     go false other = ignoring source bytes (one_head bytes head is other) none
 
 -- the message that was read is the only one
-nothing_else : (w : World) (now : ℕ) (source : Endpoint) (bytes : List ℕ) (m : Message) → message_in w.setting.limits.datagram bytes ≡ Some m → IsNoOnes w now source m → IsNothing w now source bytes
+nothing_else : (w : State) (now : ℕ) (source : Endpoint) (bytes : List ℕ) (m : Message) → message_in w.setting.limits.datagram bytes ≡ Some m → IsNoOnes w now source m → IsNothing w now source bytes
 nothing_else w now source bytes m read none n again = subst (IsNoOnes w now source) (same_Some m n (sym read ∙ again)) none
 
 -- if no message is read, there is none
-nothing_read : (w : World) (now : ℕ) (source : Endpoint) (bytes : List ℕ) → message_in w.setting.limits.datagram bytes ≡ None → IsNothing w now source bytes
+nothing_read : (w : State) (now : ℕ) (source : Endpoint) (bytes : List ℕ) → message_in w.setting.limits.datagram bytes ≡ None → IsNothing w now source bytes
 nothing_read w now source bytes unread n again = absurd (let g = sym unread ∙ again in cc)
 
 -- a message that is read has the head of its datagram
-pub head_of_read : (w : World) (bytes : List ℕ) (m : Message) → IsBytes bytes → message_in w.setting.limits.datagram bytes ≡ Some m → head_at bytes ≡ Some (record { kind = m.kind; code = m.code; id = m.id })
+pub head_of_read : (w : State) (bytes : List ℕ) (m : Message) → IsBytes bytes → message_in w.setting.limits.datagram bytes ≡ Some m → head_at bytes ≡ Some (record { kind = m.kind; code = m.code; id = m.id })
 head_of_read w bytes m fits read = head_read bytes m (message_in-is w.setting.limits.datagram bytes m fits read).2
 
 -- ---- answers
 
 -- an answer is a case by what the store does with it
-rule_storing : (w v : World) (now draw : ℕ) (grown : Bool) (event : Event) (f : Step → Step) (a : Arrived) → ((storing : Storing) (store : List Entry) → IsStoring v now grown a.exchange a.answer storing store → Rule w now draw grown event (f (answers_so v now a storing store))) → Rule w now draw grown event (f (answers_with v now grown a))
+rule_storing : (w v : State) (now draw : ℕ) (grown : Bool) (event : Event) (f : Step → Step) (a : Arrived) → ((storing : Storing) (store : List Entry) → IsStoring v now grown a.exchange a.answer storing store → Rule w now draw grown event (f (answers_so v now a storing store))) → Rule w now draw grown event (f (answers_with v now grown a))
 rule_storing w v now draw grown event f a case = storable (may_store a.exchange.1 a.answer) refl
   where
     size : ℕ
@@ -468,7 +468,7 @@ rule_storing w v now draw grown event f a case = storable (may_store a.exchange.
     storable true can = sized can (nat_le size v.setting.limits.cache_bytes) refl
     storable false not = case NotStored _ (not_stored not)
 
-module _ (w : World) (now draw : ℕ) (grown : Bool) (source : Endpoint) (bytes : List ℕ) (m : Message) (fits : IsBytes bytes) (read : message_in w.setting.limits.datagram bytes ≡ Some m) where
+module _ (w : State) (now draw : ℕ) (grown : Bool) (source : Endpoint) (bytes : List ℕ) (m : Message) (fits : IsBytes bytes) (read : message_in w.setting.limits.datagram bytes ≡ Some m) where
   abbrev arrived : Numbered Exchange → Arrived
   arrived x = record { source = source; message = m; exchange = x; answer = answer_for w now m x.1 }
 
@@ -622,7 +622,7 @@ module _ (w : World) (now draw : ℕ) (grown : Bool) (source : Endpoint) (bytes 
       go false e = rule_no_request e (brings_responses m.kind && is_response m.code) refl
 
 -- a datagram is a case by what is read from it
-rule_read : (w : World) (now draw : ℕ) (grown : Bool) (source : Endpoint) (bytes : List ℕ) → IsBytes bytes → (h : Option Head) → head_at bytes ≡ h → (o : Option Message) → message_in w.setting.limits.datagram bytes ≡ o → Rule w now draw grown (arrival source bytes) (on_read w now grown source h o)
+rule_read : (w : State) (now draw : ℕ) (grown : Bool) (source : Endpoint) (bytes : List ℕ) → IsBytes bytes → (h : Option Head) → head_at bytes ≡ h → (o : Option Message) → message_in w.setting.limits.datagram bytes ≡ o → Rule w now draw grown (arrival source bytes) (on_read w now grown source h o)
 rule_read w now draw grown source bytes fits None is None read = ignoring source bytes (λ head also. absurd (let g = sym is ∙ also in cc)) (nothing_read w now source bytes read)
 rule_read w now draw grown source bytes fits None is (Some m) read =
     absurd (let head = head_read bytes m (message_in-is w.setting.limits.datagram bytes m fits read).2 in let g = sym is ∙ head in cc)
@@ -632,14 +632,14 @@ rule_read w now draw grown source bytes fits (Some h) is (Some m) read = rule_me
 -- ---- ticks
 
 -- an exchange that is due is a case by its deadline, its state and its timer
-rule_exchange : (w : World) (now draw : ℕ) (grown : Bool) (at number : ℕ) → if_due now (item_due w) ≡ Some (OfExchange at number) → (o : Option Exchange) → item_at number w.exchanges ≡ o → Rule w now draw grown tick (on_exchange w now draw number o)
+rule_exchange : (w : State) (now draw : ℕ) (grown : Bool) (at number : ℕ) → if_due now (item_due w) ≡ Some (OfExchange at number) → (o : Option Exchange) → item_at number w.exchanges ≡ o → Rule w now draw grown tick (on_exchange w now draw number o)
 rule_exchange w now draw grown at number due None e = stuck (no_exchange at number due e)
 rule_exchange w now draw grown at number due (Some x) e = by_deadline (nat_le (deadline w.setting.limits.exchange_ms x) now) refl
   where
     turn : IsTurnOf w now at number x
     turn = record { due = due; found = e }
 
-    by_fire : x.state ≡ Sent → now < deadline w.setting.limits.exchange_ms x → (f : Fire) → fire_of_sending now x.sending ≡ f → Rule w now draw grown tick (on_fire w now number x f)
+    by_fire : x.state ≡ Sent → now < deadline w.setting.limits.exchange_ms x → (f : Fire) → fire_of_sending now x.sending ≡ f → Rule w now draw grown tick (on_request_timeout w now number x f)
     by_fire is early Again f = resending at number x turn is early f
     by_fire is early GiveUp f = giving_up at number x turn (unheard is early f)
 
@@ -654,7 +654,7 @@ rule_exchange w now draw grown at number due (Some x) e = by_deadline (nat_le (d
     by_deadline false early = by_state (leb-false _ _ early) x.state refl
 
 -- a client that is due is a case by its state: by the answer of its exchange, or by its timer
-rule_waiter : (w : World) (now draw : ℕ) (grown : Bool) (at number : ℕ) → if_due now (item_due w) ≡ Some (OfWaiter at number) → (o : Option Waiter) → item_at number w.waiters ≡ o → Rule w now draw grown tick (on_waiter w now draw number o)
+rule_waiter : (w : State) (now draw : ℕ) (grown : Bool) (at number : ℕ) → if_due now (item_due w) ≡ Some (OfWaiter at number) → (o : Option Waiter) → item_at number w.waiters ≡ o → Rule w now draw grown tick (on_waiter w now draw number o)
 rule_waiter w now draw grown at number due None e = stuck (no_waiter at number due e)
 rule_waiter w now draw grown at number due (Some v) e = by_state v.state refl
   where
@@ -671,7 +671,7 @@ rule_waiter w now draw grown at number due (Some v) e = by_state v.state refl
     by_exchange exchange is None f = stuck (unanswered at number exchange v due e is (ap exchanges.answer_of f))
     by_exchange exchange is (Some x) there = by_answer exchange x is there (answer_at x) refl
 
-    by_fire : (bytes : List ℕ) (id : ℕ) (timer : Timer) → v.state ≡ Delivering bytes id timer → (f : Fire) → fire_of now timer ≡ f → Rule w now draw grown tick (on_unheard w now number v bytes f)
+    by_fire : (bytes : List ℕ) (id : ℕ) (timer : Timer) → v.state ≡ Delivering bytes id timer → (f : Fire) → fire_of now timer ≡ f → Rule w now draw grown tick (on_delivery_timeout w now number v bytes f)
     by_fire bytes id timer is Again f = redelivering at number v bytes id timer (record { due = due; found = e; state = is }) f
     by_fire bytes id timer is GiveUp f = abandoning at number v bytes id timer (record { due = due; found = e; state = is }) f
 
@@ -680,12 +680,12 @@ rule_waiter w now draw grown at number due (Some v) e = by_state v.state refl
     by_state (Delivering bytes id timer) is = by_fire bytes id timer is (fire_of now timer) refl
 
 -- a tick is a case by what is due
-rule_item : (w : World) (now draw : ℕ) (grown : Bool) (o : Option DueItem) → if_due now (item_due w) ≡ o → Rule w now draw grown tick (on_item w now draw o)
+rule_item : (w : State) (now draw : ℕ) (grown : Bool) (o : Option DueItem) → if_due now (item_due w) ≡ o → Rule w now draw grown tick (on_item w now draw o)
 rule_item w now draw grown None e = idling e
 rule_item w now draw grown (Some (OfExchange at number)) e = rule_exchange w now draw grown at number e (item_at number w.exchanges) refl
 rule_item w now draw grown (Some (OfWaiter at number)) e = rule_waiter w now draw grown at number e (item_at number w.waiters) refl
 
 -- a step is one of the cases
-pub rule_of : (w : World) (now draw : ℕ) (grown : Bool) (event : Event) → IsEvent event → Rule w now draw grown event (step_of w now draw grown event)
+pub rule_of : (w : State) (now draw : ℕ) (grown : Bool) (event : Event) → IsEvent event → Rule w now draw grown event (step_of w now draw grown event)
 rule_of w now draw grown (arrival source bytes) fits = rule_read w now draw grown source bytes fits (head_at bytes) refl (message_in w.setting.limits.datagram bytes) refl
 rule_of w now draw grown tick fits = rule_item w now draw grown (if_due now (item_due w)) refl

@@ -3,7 +3,7 @@ use Rattle.std.proofs.Common.{◌≡◌, ℕ, Bool, ◌+◌, List, [], ◌∷◌
 use Rattle.coap_target.specs.Routes.{AreRoutes}
 use Rattle.coap_model.specs.Setting.{Setting}
 use Rattle.coap_model.specs.Events.{Event, IsEvent}
-use Rattle.coap_model.specs.World.{World, Step, repeats}
+use Rattle.coap_model.specs.State.{State, Step, repeats}
 use Rattle.coap_model.specs.Step.{step_of}
 use Rattle.coap_model.specs.Carries.{Carries}
 use Rattle.coap_model.specs.Promised.{Promised}
@@ -13,7 +13,7 @@ use Rattle.coap_model.proofs.Carrying.{keeps_step, starts}
 use Rattle.coap_model.proofs.Promising.{promises}
 
 -- no case of a step changes the setting
-rule_setting : {w : World} {now draw : ℕ} {grown : Bool} {event : Event} {s : Step} → Rule w now draw grown event s → s.world.setting ≡ w.setting
+rule_setting : {w : State} {now draw : ℕ} {grown : Bool} {event : Event} {s : Step} → Rule w now draw grown event s → s.state.setting ≡ w.setting
 rule_setting (refusing client bytes m code first denied free) = refl
 rule_setting (lacking client bytes m first free) = refl
 rule_setting (overloading client bytes m key first verdict lacks free) = refl
@@ -22,7 +22,7 @@ rule_setting (joining client bytes m key exchange send told first get verdict no
 rule_setting (opening client bytes m key send told first verdict none short room up) = refl
 rule_setting {w = w} {now = now} (repeating client bytes m known fits asked found) = repeated known.reply
   where
-    repeated : (o : Option (List ℕ)) → (repeats w now client o).world.setting ≡ w.setting
+    repeated : (o : Option (List ℕ)) → (repeats w now client o).state.setting ≡ w.setting
     repeated None = refl
     repeated (Some reply) = refl
 rule_setting (dropping source bytes m fits recorded wanted unknown full) = refl
@@ -42,15 +42,15 @@ rule_setting (idling nothing) = refl
 rule_setting (stuck s) = refl
 
 -- so no step does
-pub setting_stays : (w : World) (now draw : ℕ) (grown : Bool) (event : Event) → IsEvent event → (step_of w now draw grown event).world.setting ≡ w.setting
+pub setting_stays : (w : State) (now draw : ℕ) (grown : Bool) (event : Event) → IsEvent event → (step_of w now draw grown event).state.setting ≡ w.setting
 setting_stays w now draw grown event fits = rule_setting (rule_of w now draw grown event fits)
 
 -- the clock advances to the moment of the step, and by one event
-abbrev IsOneOn : World → ℕ → World → Type 0
+abbrev IsOneOn : State → ℕ → State → Type 0
 IsOneOn w now v = (v.last ≡ now) × (v.events ≡ w.events + 1)
 
 -- in each case the clock advances by one event
-rule_clock : {w : World} {now draw : ℕ} {grown : Bool} {event : Event} {s : Step} → Rule w now draw grown event s → IsOneOn w now s.world
+rule_clock : {w : State} {now draw : ℕ} {grown : Bool} {event : Event} {s : Step} → Rule w now draw grown event s → IsOneOn w now s.state
 rule_clock (refusing client bytes m code first denied free) = (refl, refl)
 rule_clock (lacking client bytes m first free) = (refl, refl)
 rule_clock (overloading client bytes m key first verdict lacks free) = (refl, refl)
@@ -59,7 +59,7 @@ rule_clock (joining client bytes m key exchange send told first get verdict none
 rule_clock (opening client bytes m key send told first verdict none short room up) = (refl, refl)
 rule_clock {w = w} {now = now} (repeating client bytes m known fits asked found) = repeated known.reply
   where
-    repeated : (o : Option (List ℕ)) → IsOneOn w now (repeats w now client o).world
+    repeated : (o : Option (List ℕ)) → IsOneOn w now (repeats w now client o).state
     repeated None = (refl, refl)
     repeated (Some reply) = (refl, refl)
 rule_clock (dropping source bytes m fits recorded wanted unknown full) = (refl, refl)
@@ -79,27 +79,27 @@ rule_clock (idling nothing) = (refl, refl)
 rule_clock (stuck s) = (refl, refl)
 
 -- so it does in each step
-pub clock_after : (w : World) (now draw : ℕ) (grown : Bool) (event : Event) → IsEvent event → ((step_of w now draw grown event).world.last ≡ now) × ((step_of w now draw grown event).world.events ≡ w.events + 1)
+pub clock_after : (w : State) (now draw : ℕ) (grown : Bool) (event : Event) → IsEvent event → ((step_of w now draw grown event).state.last ≡ now) × ((step_of w now draw grown event).state.events ≡ w.events + 1)
 clock_after w now draw grown event fits = rule_clock (rule_of w now draw grown event fits)
 
 -- runs preserve what is carried
-pub runs_carry : (r : Run) (turns : List Taken) → Carries r.history r.world → AreTurns r.world.last (turns_of turns) → Carries (run_of r turns).history (run_of r turns).world
+pub runs_carry : (r : Run) (turns : List Taken) → Carries r.history r.state → AreTurns r.state.last (turns_of turns) → Carries (run_of r turns).history (run_of r turns).state
 runs_carry r [] c are = c
 runs_carry r (t ∷ turns) c are =
-    let next = keeps_step r.world r.history t.turn.now t.turn.draw t.grown t.turn.event c are.0 are.1 in
-    runs_carry (one_turn r t) turns next (subst (λ (last : ℕ). AreTurns last (turns_of turns)) (sym (clock_after r.world t.turn.now t.turn.draw t.grown t.turn.event are.1).0) are.2)
+    let next = keeps_step r.state r.history t.turn.now t.turn.draw t.grown t.turn.event c are.0 are.1 in
+    runs_carry (one_turn r t) turns next (subst (λ (last : ℕ). AreTurns last (turns_of turns)) (sym (clock_after r.state t.turn.now t.turn.draw t.grown t.turn.event are.1).0) are.2)
 
 -- and the setting
-setting_after : (r : Run) (turns : List Taken) → AreTurns r.world.last (turns_of turns) → Carries r.history r.world → (run_of r turns).world.setting ≡ r.world.setting
+setting_after : (r : Run) (turns : List Taken) → AreTurns r.state.last (turns_of turns) → Carries r.history r.state → (run_of r turns).state.setting ≡ r.state.setting
 setting_after r [] are c = refl
 setting_after r (t ∷ turns) are c =
-    let next = keeps_step r.world r.history t.turn.now t.turn.draw t.grown t.turn.event c are.0 are.1 in
-    setting_after (one_turn r t) turns (subst (λ (last : ℕ). AreTurns last (turns_of turns)) (sym (clock_after r.world t.turn.now t.turn.draw t.grown t.turn.event are.1).0) are.2) next ∙ setting_stays r.world t.turn.now t.turn.draw t.grown t.turn.event are.1
+    let next = keeps_step r.state r.history t.turn.now t.turn.draw t.grown t.turn.event c are.0 are.1 in
+    setting_after (one_turn r t) turns (subst (λ (last : ℕ). AreTurns last (turns_of turns)) (sym (clock_after r.state t.turn.now t.turn.draw t.grown t.turn.event are.1).0) are.2) next ∙ setting_stays r.state t.turn.now t.turn.draw t.grown t.turn.event are.1
 
 -- so a run of a new proxy keeps its setting
-pub runs_keep_setting : (setting : Setting) (turns : List Taken) → AreRoutes setting.routes → AreTurns 0 (turns_of turns) → (run_of (new_run setting) turns).world.setting ≡ setting
+pub runs_keep_setting : (setting : Setting) (turns : List Taken) → AreRoutes setting.routes → AreTurns 0 (turns_of turns) → (run_of (new_run setting) turns).state.setting ≡ setting
 runs_keep_setting setting turns routes are = setting_after (new_run setting) turns are (starts setting routes)
 
 -- and it is promised
-pub runs_promise : (setting : Setting) (turns : List Taken) → AreRoutes setting.routes → AreTurns 0 (turns_of turns) → Promised (run_of (new_run setting) turns).history (run_of (new_run setting) turns).world
+pub runs_promise : (setting : Setting) (turns : List Taken) → AreRoutes setting.routes → AreTurns 0 (turns_of turns) → Promised (run_of (new_run setting) turns).history (run_of (new_run setting) turns).state
 runs_promise setting turns routes are = promises _ _ (runs_carry (new_run setting) turns (starts setting routes) are)

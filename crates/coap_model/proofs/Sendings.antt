@@ -24,7 +24,7 @@ use Rattle.coap_exchange.specs.Table.{Numbered, first_that}
 use Rattle.coap_model.specs.declared.report.Outcome.{Outcome}
 use Rattle.coap_model.specs.declared.report.Outcome.TheVariants.{SentRequest, Resent, Delivered}
 use Rattle.coap_model.specs.Setting.{Setting}
-use Rattle.coap_model.specs.World.{World}
+use Rattle.coap_model.specs.State.{State}
 use Rattle.coap_model.specs.History.{Entry, moves, Deed, Place, IsPlaceOf, Never, comes_con, ids_given, last_of, Sends, Asks}
 use Rattle.coap_model.specs.Schedules.{same_act, is_sending, oldest, sends_for, sends_by}
 use Rattle.coap_model.specs.Justified.{IsForwarding, IsToSendAgain, request_again, answer_again, IsDelivery, IsUnsettled, JustifiedBy, AllJustified}
@@ -139,7 +139,7 @@ asking-gives salt x p asks id is = record { gives = ap (ids_given (comes_con p.d
 
 -- two exchanges whose requests were first sent with the same id, less than 247 seconds ago, are
 -- equal
-pub one-asked : (w : World) (history : List Deed) → Bears history w → (now : ℕ) → last_of history ≤ now → (x y : ℕ) (a_key b_key : CacheKey) (a_form b_form : List ℕ) (s t : Sending) (a : WasAsked w.setting history x a_key a_form s) (b : WasAsked w.setting history y b_key b_form t) → s.id ≡ t.id → now < s.timer.started + 247000 → now < t.timer.started + 247000 → x ≡ y
+pub one-asked : (w : State) (history : List Deed) → Bears history w → (now : ℕ) → last_of history ≤ now → (x y : ℕ) (a_key b_key : CacheKey) (a_form b_form : List ℕ) (s t : Sending) (a : WasAsked w.setting history x a_key a_form s) (b : WasAsked w.setting history y b_key b_form t) → s.id ≡ t.id → now < s.timer.started + 247000 → now < t.timer.started + 247000 → x ≡ y
 one-asked w history c now since x y a_key b_key a_form b_form s t a b same s_soon t_soon =
     let place = ⊎_elim (λ (less : a.asking.deed.entry.now < b.asking.deed.entry.now). before (omega (arith, less))) (λ (le : b.asking.deed.entry.now ≤ a.asking.deed.entry.now). sym (after le)) (cases_lt a.asking.deed.entry.now b.asking.deed.entry.now) in
     same_moves x y (sym a.asks.sends.act ∙ ap (λ (p : Place). p.deed.act) place ∙ b.asks.sends.act)
@@ -172,7 +172,7 @@ one-asked w history c now since x y a_key b_key a_form b_form s t a b same s_soo
     after le = differ b.asking a.asking b.was_asked a.was_asked b_gives a_gives le (omega (arith, a_last, since, t_soon, b_began))
 
 -- two exchanges whose requests were sent with the same id, less than 247 seconds ago, are equal
-pub one-sent : (w : World) (history : List Deed) → Bears history w → (now : ℕ) → last_of history ≤ now → (x y : Numbered Exchange) → IsExchangeOf w.setting history x → IsExchangeOf w.setting history y → (s t : Sending) → x.1.sending ≡ Some s → y.1.sending ≡ Some t → s.id ≡ t.id → now < s.timer.started + 247000 → now < t.timer.started + 247000 → x.0 ≡ y.0
+pub one-sent : (w : State) (history : List Deed) → Bears history w → (now : ℕ) → last_of history ≤ now → (x y : Numbered Exchange) → IsExchangeOf w.setting history x → IsExchangeOf w.setting history y → (s t : Sending) → x.1.sending ≡ Some s → y.1.sending ≡ Some t → s.id ≡ t.id → now < s.timer.started + 247000 → now < t.timer.started + 247000 → x.0 ≡ y.0
 one-sent w history c now since x y f g s t s_is t_is same s_soon t_soon =
     one-asked w history c now since x.0 y.0 x.1.key y.1.key x.1.form y.1.form s t (was-asked w.setting history x s f s_is) (was-asked w.setting history y t g t_is) same s_soon t_soon
 
@@ -213,7 +213,7 @@ is-sent-as at id now x s =
     and_from _ _ (subst (λ (e : Endpoint). same_endpoint x.key.target.at e ≡ true) s.to (Tells-endpoint.itself x.key.target.at)) (ap (is_some_as id now) s.sending_is ∙ is-as id now s.sending s.named)
 
 -- two exchanges whose requests were sent with the same id are equal
-pub one-sent-as : (w : World) (history : List Deed) → Bears history w → (at to : Endpoint) (id now : ℕ) → last_of history ≤ now → (x y : Numbered Exchange) → IsExchangeOf w.setting history x → IsExchangeOf w.setting history y → WasSentAs at id now x.1 → WasSentAs to id now y.1 → x.0 ≡ y.0
+pub one-sent-as : (w : State) (history : List Deed) → Bears history w → (at to : Endpoint) (id now : ℕ) → last_of history ≤ now → (x y : Numbered Exchange) → IsExchangeOf w.setting history x → IsExchangeOf w.setting history y → WasSentAs at id now x.1 → WasSentAs to id now y.1 → x.0 ≡ y.0
 one-sent-as w history c at to id now since x y f g s t = one-sent w history c now since x y f g s.sending t.sending s.sending_is t.sending_is (s.named.id_is ∙ sym t.named.id_is) s.named.soon t.named.soon
 
 -- ---- the search for it
@@ -229,7 +229,7 @@ found-as P at id now n xs all e = go (find (λ (x : Numbered Exchange). was_sent
         (x, h.0, same_Some x.0 n f, sent-as at id now x.1 h.1)
 
 -- and an exchange that was sent with the id is the one that is found
-pub as-found : (w : World) (history : List Deed) → Bears history w → (at : Endpoint) (id now : ℕ) → last_of history ≤ now → (x : Numbered Exchange) → Has x w.exchanges → WasSentAs at id now x.1 → first_that (was_sent_as at id now) w.exchanges ≡ Some x.0
+pub as-found : (w : State) (history : List Deed) → Bears history w → (at : Endpoint) (id now : ℕ) → last_of history ≤ now → (x : Numbered Exchange) → Has x w.exchanges → WasSentAs at id now x.1 → first_that (was_sent_as at id now) w.exchanges ≡ Some x.0
 as-found w history c at id now since x there s = go (find (λ (y : Numbered Exchange). was_sent_as at id now y.1) w.exchanges) refl
   where
     go : (o : Option (Numbered Exchange)) → find (λ (y : Numbered Exchange). was_sent_as at id now y.1) w.exchanges ≡ o → option_map (λ (y : Numbered Exchange). y.0) (find (λ (y : Numbered Exchange). was_sent_as at id now y.1) w.exchanges) ≡ Some x.0
@@ -242,7 +242,7 @@ as-found w history c at id now since x there s = go (find (λ (y : Numbered Exch
 -- ---- according to the history
 
 -- an exchange in flight was sent with the id of its request, to the endpoint of its request
-pub asked-as : (w : World) (history : List Deed) → Bears history w → (now : ℕ) (x : Numbered Exchange) (flight : IsInFlight w.setting history x) (p : Place) → IsPlaceOf history p → (asks : Asks w.setting.salt x.0 p) → now < p.deed.entry.now + 247000 → WasSentAs asks.sends.to asks.sends.message.id now x.1
+pub asked-as : (w : State) (history : List Deed) → Bears history w → (now : ℕ) (x : Numbered Exchange) (flight : IsInFlight w.setting history x) (p : Place) → IsPlaceOf history p → (asks : Asks w.setting.salt x.0 p) → now < p.deed.entry.now + 247000 → WasSentAs asks.sends.to asks.sends.message.id now x.1
 asked-as w history c now x flight p at asks soon =
     let a = flight.asked in
     let place = sent-once w.setting history x.0 a.asking p c.past a.was_asked at a.asks.sends asks.sends in
@@ -263,7 +263,7 @@ asked-as w history c now x flight p at asks soon =
     )
 
 -- one that was sent with the id, and neither acknowledged nor answered, is unsettled in the history
-pub as-unsettled : (w : World) (history : List Deed) → Bears history w → (at : Endpoint) (id now : ℕ) (x : Numbered Exchange) → Has x w.exchanges → x.1.state ≡ Sent → (s : WasSentAs at id now x.1) (a : WasAsked w.setting history x.0 x.1.key x.1.form s.sending) → IsUnsettled history now x.0 a.asking
+pub as-unsettled : (w : State) (history : List Deed) → Bears history w → (at : Endpoint) (id now : ℕ) (x : Numbered Exchange) → Has x w.exchanges → x.1.state ≡ Sent → (s : WasSentAs at id now x.1) (a : WasAsked w.setting history x.0 x.1.key x.1.form s.sending) → IsUnsettled history now x.0 a.asking
 as-unsettled w history c at id now x there is s a =
     record {
       to = x.1.key.target.at;

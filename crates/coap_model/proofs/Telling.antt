@@ -27,7 +27,7 @@ use Rattle.coap_model.specs.Empties.{on_client, acknowledges, settles, on_exchan
 use Rattle.coap_model.specs.Requests.{on_request}
 use Rattle.coap_model.specs.Responses.{awaiting, on_awaited, on_separate, on_unknown, on_response_in, on_response}
 use Rattle.coap_model.specs.Step.{on_no_response, on_no_request, message_in, on_read, step_of}
-use Rattle.coap_model.specs.World.{World, Step, known_of, has_record_room, remembers, drops, unprocessed, says, silent}
+use Rattle.coap_model.specs.State.{State, Step, known_of, has_record_room, remembers, drops, unprocessed, says, silent}
 use Rattle.coap_model.proofs.Rules.{answered_world}
 
 -- a step that depends on the memory is the one that its own report determines
@@ -44,7 +44,7 @@ remembered-told : (now : ℕ) (source : Endpoint) (m : Message) (s : Bool → St
 remembered-told now source m s told grown = ap (remembers now source m) (told grown)
 
 -- an answer's report says how it was stored, whatever is sent immediately
-so-outcome : (w : World) (now : ℕ) (a : Arrived) (storing : Storing) (store : List Entry) → (answers_so w now a storing store).report.outcome ≡ Answered storing
+so-outcome : (w : State) (now : ℕ) (a : Arrived) (storing : Storing) (store : List Entry) → (answers_so w now a storing store).report.outcome ≡ Answered storing
 so-outcome w now a storing store = go (is_con a.message.kind)
   where
     go : (b : Bool) → (if b then says (Answered storing) a.source (acknowledgement a.message.id) (answered_world w now a.exchange.0 a.answer store) else silent (Answered storing) (answered_world w now a.exchange.0 a.answer store)).report.outcome ≡ Answered storing
@@ -52,13 +52,13 @@ so-outcome w now a storing store = go (is_con a.message.kind)
     go false = refl
 
 -- an answer that is kept depends on the memory if its key has no entry
-kept-told : (w : World) (now : ℕ) (a : Arrived) (o : Option Entry) → IsTold (λ grown. keeps_if w now grown a o)
+kept-told : (w : State) (now : ℕ) (a : Arrived) (o : Option Entry) → IsTold (λ grown. keeps_if w now grown a o)
 kept-told w now a None true = ap (λ (o : Outcome). keeps_if w now (grown_of o) a None) (so-outcome w now a Kept _)
 kept-told w now a None false = ap (λ (o : Outcome). keeps_if w now (grown_of o) a None) (so-outcome w now a NoMemory w.store)
 kept-told w now a (Some entry) grown = refl
 
 -- storing an answer
-answers-told : (w : World) (now : ℕ) (source : Endpoint) (m : Message) (x : Numbered Exchange) → IsTold (λ grown. answers w now grown source m x)
+answers-told : (w : State) (now : ℕ) (source : Endpoint) (m : Message) (x : Numbered Exchange) → IsTold (λ grown. answers w now grown source m x)
 answers-told w now source m x =
     let a : Arrived = record { source = source; message = m; exchange = x; answer = answer_for w now m x.1 } in
     let changed = with_changed (changed_by x.1.key.target m) w in
@@ -70,24 +70,24 @@ answers-told w now source m x =
 -- ---- responses
 
 -- a response with an exchange that may await it
-awaited-told : (w : World) (now : ℕ) (source : Endpoint) (m : Message) (o : Option (Numbered Exchange)) → IsTold (λ grown. on_awaited w now grown source m o)
+awaited-told : (w : State) (now : ℕ) (source : Endpoint) (m : Message) (o : Option (Numbered Exchange)) → IsTold (λ grown. on_awaited w now grown source m o)
 awaited-told w now source m None = λ grown. refl
 awaited-told w now source m (Some x) = answers-told w now source m x
 
 -- a Confirmable response
-separate-told : (w : World) (now : ℕ) (source : Endpoint) (m : Message) (o : Option (Numbered Exchange)) → IsTold (λ grown. on_separate w now grown source m o)
+separate-told : (w : State) (now : ℕ) (source : Endpoint) (m : Message) (o : Option (Numbered Exchange)) → IsTold (λ grown. on_separate w now grown source m o)
 separate-told w now source m None = λ grown. refl
 separate-told w now source m (Some x) =
     either (has_record_room w now source m.kind) (λ grown. remembers now source m (answers w now grown source m x)) (λ grown. drops w now)
     (remembered-told now source m (λ grown. answers w now grown source m x) (answers-told w now source m x)) (λ grown. refl)
 
 -- a Confirmable response that may be known
-unknown-told : (w : World) (now : ℕ) (source : Endpoint) (m : Message) (o : Option Record) → IsTold (λ grown. on_unknown w now grown source m o)
+unknown-told : (w : State) (now : ℕ) (source : Endpoint) (m : Message) (o : Option Record) → IsTold (λ grown. on_unknown w now grown source m o)
 unknown-told w now source m None = separate-told w now source m (awaiting w source m)
 unknown-told w now source m (Some known) = λ grown. refl
 
 -- a response of any type
-response-told : (w : World) (now : ℕ) (source : Endpoint) (m : Message) (k : Kind) → IsTold (λ grown. on_response_in k w now grown source m)
+response-told : (w : State) (now : ℕ) (source : Endpoint) (m : Message) (k : Kind) → IsTold (λ grown. on_response_in k w now grown source m)
 response-told w now source m Con = unknown-told w now source m (known_of w now source m)
 response-told w now source m Non = awaited-told w now source m (awaiting w source m)
 response-told w now source m Ack = awaited-told w now source m (awaiting w source m)
@@ -96,7 +96,7 @@ response-told w now source m Rst = awaited-told w now source m (awaiting w sourc
 -- ---- Empty messages
 
 -- an Empty message for an exchange that is found
-found-told : (w : World) (now : ℕ) (source : Endpoint) (m : Message) (n : ℕ) (o : Option Exchange) → IsTold (λ grown. on_exchange w now grown source m n o)
+found-told : (w : State) (now : ℕ) (source : Endpoint) (m : Message) (n : ℕ) (o : Option Exchange) → IsTold (λ grown. on_exchange w now grown source m n o)
 found-told w now source m n None = λ grown. refl
 found-told w now source m n (Some x) =
     either (is_sent x) (λ grown. settles w now grown source m n x) (λ grown. on_client w now source m)
@@ -104,14 +104,14 @@ found-told w now source m n (Some x) =
     (λ grown. refl)
 
 -- an Empty message for something that was sent
-sent-told : (w : World) (now : ℕ) (source : Endpoint) (m : Message) (o : Option ℕ) → IsTold (λ grown. on_sent w now grown source m o)
+sent-told : (w : State) (now : ℕ) (source : Endpoint) (m : Message) (o : Option ℕ) → IsTold (λ grown. on_sent w now grown source m o)
 sent-told w now source m None = λ grown. refl
 sent-told w now source m (Some n) = found-told w now source m n (item_at n w.exchanges)
 
 -- ---- steps
 
 -- a datagram that was read
-read-told : (w : World) (now : ℕ) (source : Endpoint) (h : Option Head) (o : Option Message) → IsTold (λ grown. on_read w now grown source h o)
+read-told : (w : State) (now : ℕ) (source : Endpoint) (h : Option Head) (o : Option Message) → IsTold (λ grown. on_read w now grown source h o)
 read-told w now source None o = λ grown. refl
 read-told w now source (Some head) None = λ grown. refl
 read-told w now source (Some head) (Some m) =
@@ -120,7 +120,7 @@ read-told w now source (Some head) (Some m) =
     (either (is_bare m) (λ grown. on_empty w now grown source m) (λ grown. unprocessed w now source m.kind m.id) (sent-told w now source m (first_that (was_sent_as source m.id now) w.exchanges)) (λ grown. refl)))
 
 -- each step is the one that its own report determines
-pub step-told : (w : World) (now draw : ℕ) (event : Event) (grown : Bool) → step_of w now draw (grown_of (step_of w now draw grown event).report.outcome) event ≡ step_of w now draw grown event
+pub step-told : (w : State) (now draw : ℕ) (event : Event) (grown : Bool) → step_of w now draw (grown_of (step_of w now draw grown event).report.outcome) event ≡ step_of w now draw grown event
 step-told w now draw (arrival source bytes) = read-told w now source (head_at bytes) (message_in w.setting.limits.datagram bytes)
 step-told w now draw tick = λ grown. refl
 

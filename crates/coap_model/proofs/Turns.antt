@@ -9,7 +9,7 @@ use Rattle.coap_exchange.specs.declared.exchange.Sending.{Sending}
 use Rattle.coap_exchange.specs.Exchanges.{is_sent_to, deadline, timer_or, due_in, is_blocked}
 use Rattle.coap_exchange.specs.Table.{count}
 use Rattle.coap_model.specs.declared.due.DueItem.TheVariants.{OfExchange}
-use Rattle.coap_model.specs.World.{World}
+use Rattle.coap_model.specs.State.{State}
 use Rattle.coap_model.specs.Standing.{sent, stage_of}
 use Rattle.coap_model.specs.Carries.{stage_at, IsExchangeOf, Bears}
 use Rattle.coap_model.specs.Due.{IsToSend}
@@ -23,7 +23,7 @@ use Rattle.coap_model.proofs.Room.{sent-count}
 use Rattle.coap_model.proofs.Rules.{IsTurnOf}
 use Rattle.coap_model.proofs.Tables.{item-Has, item-holds, one-item}
 
-module _ (w : World) (history : List Deed) (c : Bears history w) (now at number : ℕ) (x : Exchange) (turn : IsTurnOf w now at number x) where
+module _ (w : State) (history : List Deed) (c : Bears history w) (now at number : ℕ) (x : Exchange) (turn : IsTurnOf w now at number x) where
   -- the exchange is in the table
   pub turn-there : Has (number, x) w.exchanges
   turn-there = item-Has number w.exchanges x turn.found

@@ -8,7 +8,7 @@ use Rattle.coap_forward.specs.Messages.{told_again}
 use Rattle.coap_model.specs.declared.report.Outcome.{Outcome}
 use Rattle.coap_model.specs.declared.report.Outcome.TheVariants.{Again, Hit}
 use Rattle.coap_model.specs.Setting.{Setting}
-use Rattle.coap_model.specs.World.{World}
+use Rattle.coap_model.specs.State.{State}
 use Rattle.coap_model.specs.History.{Entry, Deed, Place, IsPlaceOf, IsInOrder}
 use Rattle.coap_model.specs.Cached.{Cached, cached_key, IsCacheOf}
 use Rattle.coap_model.specs.Duplicates.{Repeats}
@@ -75,7 +75,7 @@ cache-at setting (d ∷ past) cached p c (inr there) =
 -- ---- the promise is kept
 
 -- a proxy keeps its promise for any history that it carries
-pub keeps-word : (history : List Entry) (w : World) → Carries history w → KeepsItsWord history w
+pub keeps-word : (history : List Entry) (w : State) → Carries history w → KeepsItsWord history w
 keeps-word history w c =
     let setting = w.setting in
     let upto = λ (p : Place) (at : IsPlaceOf c.deeds p). upto-justified setting c.deeds p c.bears.past at in
@@ -97,5 +97,5 @@ keeps-word history w c =
     }
 
 -- and so does a new one, whatever happens
-pub runs-keep-word : (setting : Setting) (turns : List Taken) → AreRoutes setting.routes → AreTurns 0 (turns_of turns) → KeepsItsWord (run_of (new_run setting) turns).history (run_of (new_run setting) turns).world
+pub runs-keep-word : (setting : Setting) (turns : List Taken) → AreRoutes setting.routes → AreTurns 0 (turns_of turns) → KeepsItsWord (run_of (new_run setting) turns).history (run_of (new_run setting) turns).state
 runs-keep-word setting turns routes are = keeps-word _ _ (runs_carry (new_run setting) turns (starts setting routes) are)

@@ -16,7 +16,7 @@ use Rattle.coap_model.specs.declared.report.Storing.{Storing}
 use Rattle.coap_model.specs.declared.report.Storing.TheVariants.{Kept, TooLarge, NoMemory, NotStored}
 use Rattle.coap_forward.specs.Answers.{answer_of, is_storable}
 use Rattle.coap_forward.specs.Changes.{changed_by}
-use Rattle.coap_model.specs.World.{World, Step, later, takes_up}
+use Rattle.coap_model.specs.State.{State, Step, later, takes_up}
 
 -- ---- changes
 
@@ -32,7 +32,7 @@ tainted_all [] xs = xs
 tainted_all (t ∷ changed) xs = tainted_all changed (all_changed (tainted_by t) xs)
 
 -- these targets were changed
-abbrev pub with_changed : List Target → World → World
+abbrev pub with_changed : List Target → State → State
 with_changed changed w = record w {
   exchanges = tainted_all changed w.exchanges;
   store = marked_all changed w.store;
@@ -53,7 +53,7 @@ asked_of None = 0
 asked_of (Some s) = s.asked
 
 -- the entry that is stored for the answer of an exchange
-abbrev pub entry_made : World → ℕ → Exchange → Answer → Entry
+abbrev pub entry_made : State → ℕ → Exchange → Answer → Entry
 entry_made w now x a = (
   x.key,
   record {
@@ -67,7 +67,7 @@ entry_made w now x a = (
 
 -- the exchange has its answer, and the store becomes this one; a Confirmable message is
 -- acknowledged
-abbrev pub answers_so : World → ℕ → Arrived → Storing → List Entry → Step
+abbrev pub answers_so : State → ℕ → Arrived → Storing → List Entry → Step
 answers_so w now a storing store =
     takes_up (Answered storing) a.source a.message (record (later w now) {
       exchanges = changed_at a.exchange.0 (answered a.answer) w.exchanges;
@@ -75,21 +75,21 @@ answers_so w now a storing store =
     })
 
 -- the answer is put in front of the store, and what no longer fits is evicted
-abbrev pub keeps : World → ℕ → Arrived → Step
+abbrev pub keeps : State → ℕ → Arrived → Step
 keeps w now a =
     answers_so w now a Kept (put entry_key entry_size
     w.setting.limits.cache_bytes w.setting.limits.cache_entries
     (entry_made w now a.exchange.1 a.answer) w.store)
 
 -- only a key without an entry needs memory
-abbrev pub keeps_if : World → ℕ → Bool → Arrived → Option Entry → Step
+abbrev pub keeps_if : State → ℕ → Bool → Arrived → Option Entry → Step
 keeps_if w now grown a None =
     if grown then keeps w now a else answers_so w now a NoMemory w.store
 keeps_if w now grown a (Some entry) = keeps w now a
 
 -- an answer that alone is larger than the limit of the store isn't kept, nor is what it would
 -- replace
-abbrev pub stores : World → ℕ → Bool → Arrived → Step
+abbrev pub stores : State → ℕ → Bool → Arrived → Step
 stores w now grown a =
     if nat_le (entry_size (entry_made w now a.exchange.1 a.answer)) w.setting.limits.cache_bytes
     then keeps_if w now grown a (of_key entry_key a.exchange.1.key w.store)
@@ -99,7 +99,7 @@ stores w now grown a =
 abbrev pub may_store : Exchange → Answer → Bool
 may_store x a = x.is_get && (not x.tainted && is_storable a)
 
-abbrev pub answers_with : World → ℕ → Bool → Arrived → Step
+abbrev pub answers_with : State → ℕ → Bool → Arrived → Step
 answers_with w now grown a =
     if may_store a.exchange.1 a.answer
     then stores w now grown a
@@ -108,13 +108,13 @@ answers_with w now grown a =
 -- ---- the answer
 
 -- the answer that the message gives the exchange
-abbrev pub answer_for : World → ℕ → Message → Exchange → Answer
+abbrev pub answer_for : State → ℕ → Message → Exchange → Answer
 answer_for w now m x =
     answer_of w.setting.limits.datagram x.is_get (option_map (λ s. s.response) x.copy) now m
 
 -- The exchange gets its answer, from a response or a Reset: first, what the message changes is
 -- marked and tainted. `grown` says whether there is memory for one more entry.
-abbrev pub answers : World → ℕ → Bool → Endpoint → Message → Numbered Exchange → Step
+abbrev pub answers : State → ℕ → Bool → Endpoint → Message → Numbered Exchange → Step
 answers w now grown source m x =
     answers_with (with_changed (changed_by x.1.key.target m) w) now grown (record {
       source = source;

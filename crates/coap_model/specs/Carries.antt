@@ -30,7 +30,7 @@ use Rattle.coap_forward.specs.Messages.{is_get, token_of}
 use Rattle.coap_forward.specs.Forms.{forwarded, tag_for}
 use Rattle.coap_model.specs.Keys.{key_sent}
 use Rattle.coap_model.specs.Verdicts.{may_ask}
-use Rattle.coap_model.specs.World.{World, reserved}
+use Rattle.coap_model.specs.State.{State, reserved}
 use Rattle.coap_model.specs.Standing.{Stage, Service, Standing, Open, queued, sent, acked, done, waits, told, open_in, standing_in, window_ids}
 use Rattle.coap_model.specs.Schedules.{IsSchedule, oldest, sends_by}
 use Rattle.coap_model.specs.History.{Entry, Act, moves, serves, Deed, told_by, Place, index, IsPlaceOf, Never, Somewhere, opened_in, admitted_in, ids_in, Opens, Admits, Sends, Serves, Asks, Ends, WasOpened, WasAdmitted, last_of, IsInOrder, AreIds}
@@ -41,18 +41,18 @@ use Rattle.coap_model.specs.Justified.{verdict_on, EndsWith, AllJustified}
 
 -- ---- the clock, the numbers and the ids
 
-pub record Clock (history : List Deed) (w : World) : Type 0 where
+pub record Clock (history : List Deed) (w : State) : Type 0 where
   pub events : w.events ≡ length history
   pub last : w.last ≡ last_of history
   pub in_order : IsInOrder history
 
-pub record Numbers (history : List Deed) (w : World) : Type 0 where
+pub record Numbers (history : List Deed) (w : State) : Type 0 where
   pub opened : w.opened ≡ opened_in history
   pub admitted : w.admitted ≡ admitted_in history
 
 -- The table of Message IDs has the next one, and how many were given out in the window of a moment;
 -- at most half of all ids are given out in one window.
-pub record Ids (history : List Deed) (w : World) : Type 0 where
+pub record Ids (history : List Deed) (w : State) : Type 0 where
   pub following : w.ids.following ≡ (w.setting.first_id + ids_in history) % 65536
   pub given :
       (now : ℕ)
@@ -95,7 +95,7 @@ HasExchange (Waiting exchange) exchanges = HasNumber exchange exchanges
 HasExchange (Delivering bytes id timer) exchanges = Unit {0}
 
 -- Nothing is missing in the tables, and nothing is in them twice.
-pub record AreWhole (history : List Deed) (w : World) : Type 0 where
+pub record AreWhole (history : List Deed) (w : State) : Type 0 where
   pub exchanges : map stage_seen w.exchanges ≡ open_in history
   pub waiters : map standing_seen w.waiters ≡ standing_in history
   pub rising : IsRising 0 w.exchanges
@@ -321,7 +321,7 @@ pub record AreRemembered
 
 -- ---- limits
 
-pub record IsWithin (w : World) : Type 0 where
+pub record IsWithin (w : State) : Type 0 where
   pub exchanges : length w.exchanges ≤ w.setting.limits.exchanges
   pub waiters : length w.waiters ≤ w.setting.limits.waiters
   -- at most NSTART requests to one endpoint are in the state `Sent`
@@ -332,7 +332,7 @@ pub record IsWithin (w : World) : Type 0 where
 -- ---- all of it
 
 -- the tables agree with these deeds
-pub record Bears (deeds : List Deed) (w : World) : Type 0 where
+pub record Bears (deeds : List Deed) (w : State) : Type 0 where
   pub routes : AreRoutes w.setting.routes
   pub clock : Clock deeds w
   pub numbers : Numbers deeds w
@@ -349,7 +349,7 @@ pub record Bears (deeds : List Deed) (w : World) : Type 0 where
   pub past : AllJustified w.setting deeds
 
 -- the tables agree with some deeds whose entries are this history
-pub record Carries (history : List Entry) (w : World) : Type 0 where
+pub record Carries (history : List Entry) (w : State) : Type 0 where
   pub deeds : List Deed
   pub told : told_by deeds ≡ history
   pub bears : Bears deeds w

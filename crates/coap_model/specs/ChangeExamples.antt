@@ -5,7 +5,7 @@ use Rattle.std.specs.Prelude.{ℕ, List, [], ◌∷◌, ◌++◌, replicate}
 use Rattle.coap_limits.specs.Limits.{default_limits}
 use Rattle.coap_model.specs.declared.report.Outcome.TheVariants.{Again, Hit, Joined, Opened, Answered, Acked, SentRequest, Delivered}
 use Rattle.coap_model.specs.declared.report.Storing.TheVariants.{Kept, NotStored}
-use Rattle.coap_model.specs.World.{World}
+use Rattle.coap_model.specs.State.{State}
 use Rattle.coap_model.specs.Runs.{Turn}
 use Rattle.coap_model.specs.Examples.{Sent, origin, client, from, tick_at, nothing, to, answer}
 use Rattle.coap_model.specs.LimitExamples.{proxy_of}
@@ -244,7 +244,7 @@ changed_and_validated_sent =
     ∷ to Hit (client 1) (shows 0x45 7 (tagged 59)) ∷ []
 
 -- the entry is evicted while it is validated, with room for one entry
-abbrev pub one_entry : World
+abbrev pub one_entry : State
 one_entry = proxy_of (record default_limits { cache_entries = 1 })
 
 abbrev pub given_up_by : List ℕ → List Turn

@@ -7,7 +7,7 @@ use Rattle.coap_endpoint.specs.declared.endpoint.Ip.TheVariants.{V4}
 use Rattle.coap_limits.specs.Limits.{default_limits}
 use Rattle.coap_model.specs.declared.report.Outcome.TheVariants.{Again, NoRecordRoom, Refused, Joined, Opened, Overloaded, Answered, Acked, SentRequest, Delivered}
 use Rattle.coap_model.specs.declared.report.Storing.TheVariants.{NotStored}
-use Rattle.coap_model.specs.World.{World}
+use Rattle.coap_model.specs.State.{State}
 use Rattle.coap_model.specs.Runs.{Turn}
 use Rattle.coap_model.specs.History.{no_item, admits, Deed}
 use Rattle.coap_model.specs.Examples.{Sent, origin, client, from, tick_at, nothing, to, get_t, get_t_as, answer}
@@ -19,22 +19,22 @@ use Rattle.coap_model.specs.ReliableExamples.{get_part, asked_part, first_sent, 
 
 -- with these limits for one client on records, on exchanges and on waiters, and the default limits
 -- for all of them
-abbrev pub records_of_one : ℕ → World
+abbrev pub records_of_one : ℕ → State
 records_of_one n =
     proxy_of (record default_limits { client_con_records = n; client_non_records = n })
 
-abbrev pub exchanges_of_one : ℕ → World
+abbrev pub exchanges_of_one : ℕ → State
 exchanges_of_one n = proxy_of (record default_limits { client_exchanges = n })
 
-abbrev pub waiters_of_one : ℕ → World
+abbrev pub waiters_of_one : ℕ → State
 waiters_of_one n = proxy_of (record default_limits { client_waiters = n })
 
 -- with room for two exchanges, of which one client may open one
-abbrev pub two_exchanges : World
+abbrev pub two_exchanges : State
 two_exchanges = proxy_of (record default_limits { exchanges = 2; client_exchanges = 1 })
 
 -- with room for one exchange, of which one client might open two
-abbrev pub one_for_all : World
+abbrev pub one_for_all : State
 one_for_all = proxy_of (record default_limits { exchanges = 1; client_exchanges = 2 })
 
 -- a 5.03 that says to try again after five seconds

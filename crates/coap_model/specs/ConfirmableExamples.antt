@@ -6,7 +6,7 @@ use Rattle.std.specs.Prelude.{ℕ, List, [], ◌∷◌, ◌++◌}
 use Rattle.coap_limits.specs.Limits.{default_limits}
 use Rattle.coap_model.specs.declared.report.Outcome.TheVariants.{Ignored, Again, Joined, Opened, Overloaded, Answered, Acked, SentRequest, Resent, GaveUp, Delivered, Idle}
 use Rattle.coap_model.specs.declared.report.Storing.TheVariants.{Kept, NotStored}
-use Rattle.coap_model.specs.World.{World}
+use Rattle.coap_model.specs.State.{State}
 use Rattle.coap_model.specs.Runs.{Turn}
 use Rattle.coap_model.specs.History.{admits, moves, serves}
 use Rattle.coap_model.specs.Examples.{Sent, origin, client, from, tick_at, nothing, to, get_t, content}
@@ -165,7 +165,7 @@ separate_answer_sent =
 
 -- A client counts until it acknowledges its answer, and its exchange only until the client is
 -- served.
-abbrev pub one_of_each : World
+abbrev pub one_of_each : State
 one_of_each = proxy_of (record default_limits { exchanges = 1; waiters = 1 })
 
 abbrev pub counted_until : List Turn
@@ -180,7 +180,7 @@ counted_until_sent =
 
 -- room for one exchange and two clients: a Confirmable request joins, and the next two are told to
 -- try again, the Confirmable one of them in an acknowledgement
-abbrev pub two_clients : World
+abbrev pub two_clients : State
 two_clients = proxy_of (record default_limits { exchanges = 1; waiters = 2 })
 
 abbrev pub full_tables : List Turn

@@ -4,7 +4,7 @@ use Rattle.std.specs.Prelude.{ℕ, List, [], ◌∷◌, ◌++◌}
 use Rattle.coap_message.specs.declared.code.TheConstants.Code.{NOT_FOUND}
 use Rattle.coap_model.specs.declared.report.Outcome.TheVariants.{Again, NoRecordRoom, Refused, Hit, Opened, Overloaded}
 use Rattle.coap_limits.specs.Limits.{default_limits}
-use Rattle.coap_model.specs.World.{World}
+use Rattle.coap_model.specs.State.{State}
 use Rattle.coap_model.specs.Runs.{Turn}
 use Rattle.coap_model.specs.Examples.{Sent, client, from, nothing, to, get_t, first_answer, first_answer_sent}
 use Rattle.coap_model.specs.LimitExamples.{proxy_of, get_u, not_found}
@@ -37,7 +37,7 @@ of_one_id_sent =
     ∷ to (Refused NOT_FOUND) (client 2) (con_not_found 7) ∷ []
 
 -- room to remember one Confirmable request: the second gets no reply until the first is forgotten
-abbrev pub one_record : World
+abbrev pub one_record : State
 one_record = proxy_of (record default_limits { con_records = 1 })
 
 abbrev pub two_clients : List Turn

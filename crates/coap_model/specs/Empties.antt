@@ -9,29 +9,29 @@ use Rattle.coap_exchange.specs.Table.{changed_at, first_that, item_at, without}
 use Rattle.coap_exchange.specs.Waiters as waiters
 use Rattle.coap_model.specs.declared.report.Outcome.TheVariants.{Acked}
 use Rattle.coap_forward.specs.Messages.{is_ack}
-use Rattle.coap_model.specs.World.{World, Step, later, silent, ignores}
+use Rattle.coap_model.specs.State.{State, Step, later, silent, ignores}
 use Rattle.coap_model.specs.Answers.{answers}
 
 -- the request was acknowledged: its answer will be a separate response
-abbrev pub acknowledges : World → ℕ → ℕ → Step
+abbrev pub acknowledges : State → ℕ → ℕ → Step
 acknowledges w now number =
     silent Acked (record (later w now) { exchanges = changed_at number acked w.exchanges })
 
 -- the client acknowledged its answer, or rejected it with a Reset
-abbrev pub closes : World → ℕ → ℕ → Step
+abbrev pub closes : State → ℕ → ℕ → Step
 closes w now number = silent Acked (record (later w now) { waiters = without number w.waiters })
 
 -- an acknowledgement or a Reset of an answer that a client was sent
-abbrev pub on_told : World → ℕ → Option ℕ → Step
+abbrev pub on_told : State → ℕ → Option ℕ → Step
 on_told w now None = ignores w now
 on_told w now (Some number) = closes w now number
 
-abbrev pub on_client : World → ℕ → Endpoint → Message → Step
+abbrev pub on_client : State → ℕ → Endpoint → Message → Step
 on_client w now source m =
     on_told w now (first_that (waiters.was_sent_as source m.id now) w.waiters)
 
 -- an acknowledgement of a request, or a Reset, which is its answer
-abbrev pub settles : World → ℕ → Bool → Endpoint → Message → ℕ → Exchange → Step
+abbrev pub settles : State → ℕ → Bool → Endpoint → Message → ℕ → Exchange → Step
 settles w now grown source m number x =
     if is_ack m.kind
     then acknowledges w now number
@@ -39,16 +39,16 @@ settles w now grown source m number x =
 
 -- an exchange whose number was found exists, so the first case never occurs; if it was acknowledged
 -- or answered before, the message doesn't refer to a request
-abbrev pub on_exchange : World → ℕ → Bool → Endpoint → Message → ℕ → Option Exchange → Step
+abbrev pub on_exchange : State → ℕ → Bool → Endpoint → Message → ℕ → Option Exchange → Step
 on_exchange w now grown source m number None = on_client w now source m
 on_exchange w now grown source m number (Some x) =
     if is_sent x then settles w now grown source m number x else on_client w now source m
 
-abbrev pub on_sent : World → ℕ → Bool → Endpoint → Message → Option ℕ → Step
+abbrev pub on_sent : State → ℕ → Bool → Endpoint → Message → Option ℕ → Step
 on_sent w now grown source m None = on_client w now source m
 on_sent w now grown source m (Some number) =
     on_exchange w now grown source m number (item_at number w.exchanges)
 
-abbrev pub on_empty : World → ℕ → Bool → Endpoint → Message → Step
+abbrev pub on_empty : State → ℕ → Bool → Endpoint → Message → Step
 on_empty w now grown source m =
     on_sent w now grown source m (first_that (was_sent_as source m.id now) w.exchanges)

@@ -13,7 +13,7 @@ use Rattle.coap_model.specs.declared.report.Storing.TheVariants.{Kept, NotStored
 use Rattle.coap_model.specs.declared.report.Report.{Report}
 use Rattle.coap_limits.specs.Limits.{default_limits}
 use Rattle.coap_model.specs.Events.{arrival, tick}
-use Rattle.coap_model.specs.World.{World, Step, new_world}
+use Rattle.coap_model.specs.State.{State, Step, new_world}
 use Rattle.coap_model.specs.Step.{step_of}
 use Rattle.coap_model.specs.Runs.{Turn}
 
@@ -25,11 +25,11 @@ abbrev pub sent_by : Step → Sent
 sent_by s = (s.report, s.bytes)
 
 -- the reports and datagrams of a proxy for these turns, one after the other
-abbrev pub play : World → List Turn → List Sent
+abbrev pub play : State → List Turn → List Sent
 play w [] = []
 play w (t ∷ turns) =
     let s = step_of w t.now t.draw true t.event in
-    sent_by s ∷ play s.world turns
+    sent_by s ∷ play s.state turns
 
 -- the origin server of the fixed route, and clients by number
 abbrev pub origin : Endpoint
@@ -50,12 +50,12 @@ nothing outcome = (record { send = None; outcome = outcome }, [])
 abbrev pub to : Outcome → Endpoint → List ℕ → Sent
 to outcome at bytes = (record { send = Some at; outcome = outcome }, bytes)
 
-abbrev pub proxy : World
+abbrev pub proxy : State
 proxy = new_world
     (record { limits = default_limits; routes = fixed_routes; first_id = 1; salt = 0 })
 
 -- a proxy with room for one exchange
-abbrev pub small_proxy : World
+abbrev pub small_proxy : State
 small_proxy =
     new_world (record {
       limits = record default_limits { exchanges = 1 };
@@ -65,7 +65,7 @@ small_proxy =
     })
 
 -- a proxy whose datagrams have at most 128 bytes
-abbrev pub narrow_proxy : World
+abbrev pub narrow_proxy : State
 narrow_proxy =
     new_world (record {
       limits = record default_limits { datagram = 128 };
@@ -279,7 +279,7 @@ payload_of_109_sent = delivered_as (0x50 ∷ 0x45 ∷ 0 ∷ 2 ∷ 0xD1 ∷ 1 ∷
 
 -- a proxy that has given out all ids of the first 247 seconds except one: this one goes to a 5.03,
 -- since an exchange needs two; after that there is no reply
-abbrev pub spent_proxy : World
+abbrev pub spent_proxy : State
 spent_proxy = record proxy { ids = record { following = 32768; window = 0; given = 32767 } }
 
 abbrev pub last_id : List Turn
@@ -292,7 +292,7 @@ last_id_sent =
     ∷ nothing NoId ∷ []
 
 -- ids and tokens wrap to 0 after the greatest
-abbrev pub wrapping_proxy : World
+abbrev pub wrapping_proxy : State
 wrapping_proxy =
     new_world (record {
       limits = default_limits;

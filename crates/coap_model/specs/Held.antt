@@ -21,7 +21,7 @@ use Rattle.coap_exchange.specs.declared.waiter.WaiterState.{WaiterState}
 use Rattle.coap_exchange.specs.declared.waiter.WaiterState.TheVariants.{Waiting, Delivering}
 use Rattle.coap_exchange.specs.Table.{Numbered}
 use Rattle.coap_limits.specs.Limits.{Limits}
-use Rattle.coap_model.specs.World.{World}
+use Rattle.coap_model.specs.State.{State}
 
 abbrev pub host_bytes : Option (List ℕ) → ℕ
 host_bytes None = 0
@@ -67,7 +67,7 @@ waiter_bytes v =
     length v.1.token + length (pieces_spelling v.1.tags) + answer_bytes v.1.state
 
 -- what is stored, the replies that are kept (including expired ones), the exchanges and the waiters
-abbrev pub held : World → ℕ
+abbrev pub held : State → ℕ
 held w =
     total entry_size w.store
     + (bytes_of w.con_records.items + bytes_of w.non_records.items)
@@ -104,7 +104,7 @@ waiter_size v (Delivering bytes id timer) = length bytes
 
 -- The bytes held: what is stored; the replies that are kept, including those to expired messages;
 -- the exchanges; and the waiting clients.
-abbrev pub bytes_held : World → ℕ
+abbrev pub bytes_held : State → ℕ
 bytes_held w =
     total entry_size w.store
     + (bytes_of w.con_records.items + bytes_of w.non_records.items)

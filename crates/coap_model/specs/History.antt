@@ -338,29 +338,29 @@ pub record Serves (v : ℕ) (p : Place) : Type 0 where
 
 -- a client is finished: its answer was acknowledged, or isn't retransmitted any more, or was sent
 -- in a message that isn't Confirmable
-abbrev pub lets_go : Outcome → List ℕ → Bool
-lets_go Ignored bytes = false
-lets_go Rejected bytes = false
-lets_go Again bytes = false
-lets_go NoRecordRoom bytes = false
-lets_go (Refused code) bytes = false
-lets_go Hit bytes = false
-lets_go Joined bytes = false
-lets_go Opened bytes = false
-lets_go Overloaded bytes = false
-lets_go NoId bytes = false
-lets_go (Answered storing) bytes = false
-lets_go Acked bytes = true
-lets_go SentRequest bytes = false
-lets_go Resent bytes = false
-lets_go GaveUp bytes = true
-lets_go Delivered bytes = not (is_con_datagram bytes)
-lets_go Idle bytes = false
+abbrev pub closes_unused : Outcome → List ℕ → Bool
+closes_unused Ignored bytes = false
+closes_unused Rejected bytes = false
+closes_unused Again bytes = false
+closes_unused NoRecordRoom bytes = false
+closes_unused (Refused code) bytes = false
+closes_unused Hit bytes = false
+closes_unused Joined bytes = false
+closes_unused Opened bytes = false
+closes_unused Overloaded bytes = false
+closes_unused NoId bytes = false
+closes_unused (Answered storing) bytes = false
+closes_unused Acked bytes = true
+closes_unused SentRequest bytes = false
+closes_unused Resent bytes = false
+closes_unused GaveUp bytes = true
+closes_unused Delivered bytes = not (is_con_datagram bytes)
+closes_unused Idle bytes = false
 
 -- the waiter was finished there
 pub record LetsGo (v : ℕ) (p : Place) : Type 0 where
   pub act : p.deed.act ≡ serves v
-  pub outcome : lets_go p.deed.entry.report.outcome p.deed.entry.bytes ≡ true
+  pub outcome : closes_unused p.deed.entry.report.outcome p.deed.entry.bytes ≡ true
 
 -- ---- moments and ids
 

@@ -5,7 +5,7 @@ use Rattle.std.specs.Prelude.{ℕ, List, [], ◌∷◌, ◌++◌, replicate}
 use Rattle.coap_model.specs.declared.report.Outcome.TheVariants.{Hit, Opened, NoId, Answered, SentRequest, Delivered}
 use Rattle.coap_model.specs.declared.report.Storing.TheVariants.{Kept, TooLarge}
 use Rattle.coap_limits.specs.Limits.{default_limits}
-use Rattle.coap_model.specs.World.{World}
+use Rattle.coap_model.specs.State.{State}
 use Rattle.coap_model.specs.Runs.{Turn}
 use Rattle.coap_model.specs.Examples.{Sent, origin, client, from, tick_at, nothing, to, get_t_as, get_t, answer, answered_by, delivered_with, delivered_as, delivered_once, content, content_for_client, first_answer, first_answer_sent}
 use Rattle.coap_model.specs.LimitExamples.{proxy_of, asked, got}
@@ -85,7 +85,7 @@ not_kept code first = delivered_once (0x50 ∷ code ∷ 0 ∷ 2 ∷ first) ++ mi
 
 -- The size of the entry for the first answer is 73 bytes: 64, five for the path `temp`, two for a
 -- Max-Age of one byte, and a payload of two.
-abbrev pub within_bytes : ℕ → World
+abbrev pub within_bytes : ℕ → State
 within_bytes bytes = proxy_of (record default_limits { cache_bytes = bytes })
 
 abbrev pub too_large_sent : List Sent
@@ -119,7 +119,7 @@ part_answered_sent id token segment next =
     ∷ to Delivered (client 1) (for_client next) ∷ []
 
 -- with room for one entry, an answer for another key replaces the first
-abbrev pub within_entries : ℕ → World
+abbrev pub within_entries : ℕ → State
 within_entries entries = proxy_of (record default_limits { cache_entries = entries })
 
 abbrev pub two_keys : List Turn

@@ -6,7 +6,7 @@ use Rattle.coap_message.specs.declared.code.TheConstants.Code.{REQUEST_ENTITY_TO
 use Rattle.coap_limits.specs.Limits.{default_limits}
 use Rattle.coap_model.specs.declared.report.Outcome.TheVariants.{Again, Refused, Hit, Joined, Opened, Overloaded, NoId, Answered, Acked, SentRequest, GaveUp, Delivered, Idle}
 use Rattle.coap_model.specs.declared.report.Storing.TheVariants.{Kept, NotStored}
-use Rattle.coap_model.specs.World.{World}
+use Rattle.coap_model.specs.State.{State}
 use Rattle.coap_model.specs.Runs.{Turn}
 use Rattle.coap_model.specs.History.{admits, moves, serves}
 use Rattle.coap_model.specs.Examples.{Sent, origin, client, from, tick_at, nothing, to, get_t, answer}
@@ -17,7 +17,7 @@ use Rattle.coap_model.specs.ResponseExamples.{empty_ack, empty_reset}
 -- ---- proxies and clients
 
 -- with room for one exchange, and for two waiting clients
-abbrev pub two_waiters : World
+abbrev pub two_waiters : State
 two_waiters = proxy_of (record default_limits { exchanges = 1; waiters = 2 })
 
 -- a client by number sends a GET for the path `t`, with its number as the token

@@ -6,12 +6,12 @@ use Rattle.coap_target.specs.Routes.{fixed_routes}
 use Rattle.coap_model.specs.declared.report.Outcome.TheVariants.{Ignored, Rejected, Refused, Opened, Overloaded, NoId, Answered, SentRequest, Delivered}
 use Rattle.coap_model.specs.declared.report.Storing.TheVariants.{Kept, NotStored}
 use Rattle.coap_limits.specs.Limits.{Limits, default_limits}
-use Rattle.coap_model.specs.World.{World, new_world}
+use Rattle.coap_model.specs.State.{State, new_world}
 use Rattle.coap_model.specs.Runs.{Turn}
 use Rattle.coap_model.specs.Examples.{get_t_as, Sent, origin, client, from, tick_at, nothing, to, proxy, get_t, answer}
 
 -- a proxy with these limits
-abbrev pub proxy_of : Limits → World
+abbrev pub proxy_of : Limits → State
 proxy_of limits =
     new_world (record {
       limits = limits;
@@ -21,14 +21,14 @@ proxy_of limits =
     })
 
 -- with room for one exchange, and with room for one waiting client
-abbrev pub one_exchange : World
+abbrev pub one_exchange : State
 one_exchange = proxy_of (record default_limits { exchanges = 1 })
 
-abbrev pub one_waiter : World
+abbrev pub one_waiter : State
 one_waiter = proxy_of (record default_limits { waiters = 1 })
 
 -- with an `nstart` of 2
-abbrev pub two_at_once : World
+abbrev pub two_at_once : State
 two_at_once = proxy_of (record default_limits { nstart = 2 })
 
 -- the request of an exchange, and its answer with a Max-Age of ten seconds, with its id and the
@@ -85,7 +85,7 @@ until_served_sent =
     ∷ to Delivered (client 3) (stale_for_client 8) ∷ []
 
 -- the time after which to try again is one of the limits: zero, and an hour
-abbrev pub retries_after : ℕ → World
+abbrev pub retries_after : ℕ → State
 retries_after seconds = proxy_of (record default_limits { exchanges = 1; retry_s = seconds })
 
 abbrev pub two_requests : List Turn
@@ -95,7 +95,7 @@ abbrev pub second_is_told : List ℕ → List Sent
 second_is_told after = nothing Opened ∷ to Overloaded (client 3) (busy 1 after) ∷ []
 
 -- datagrams of 129 bytes, with a limit of 128: a Confirmable one is rejected, another is ignored
-abbrev pub narrow : World
+abbrev pub narrow : State
 narrow = proxy_of (record default_limits { datagram = 128 })
 
 abbrev pub long_datagrams : List Turn
@@ -109,7 +109,7 @@ long_datagrams_sent =
     to Rejected (client 1) (0x70 ∷ 0 ∷ 0 ∷ 7 ∷ []) ∷ nothing Ignored ∷ nothing Opened ∷ []
 
 -- ids and tokens count up from the first id and the salt
-abbrev pub later_proxy : World
+abbrev pub later_proxy : State
 later_proxy =
     new_world (record {
       limits = default_limits;
@@ -135,7 +135,7 @@ counted_on_sent =
     ∷ []
 
 -- a proxy that has given out `count` of 32,768 ids, all of them in the first 247 seconds
-abbrev pub after_ids : ℕ → World
+abbrev pub after_ids : ℕ → State
 after_ids count =
     record proxy { ids = record { following = 1 + count; window = 0; given = count } }
 

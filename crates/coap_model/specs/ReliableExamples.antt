@@ -9,7 +9,7 @@ use Rattle.coap_limits.specs.Limits.{default_limits}
 use Rattle.coap_model.specs.declared.report.Outcome.TheVariants.{Ignored, Refused, Hit, Opened, NoId, Answered, SentRequest, Resent, GaveUp, Delivered, Idle}
 use Rattle.coap_model.specs.declared.report.Storing.TheVariants.{Kept, NotStored}
 use Rattle.coap_model.specs.Events.{tick}
-use Rattle.coap_model.specs.World.{World}
+use Rattle.coap_model.specs.State.{State}
 use Rattle.coap_model.specs.Runs.{Turn, answer_at}
 use Rattle.coap_model.specs.Step.{step_of}
 use Rattle.coap_model.specs.History.{Act, no_item, admits, moves, serves, Deed}
@@ -21,10 +21,10 @@ use Rattle.coap_model.specs.OptionExamples.{with_scheme}
 -- ---- proxies and what they send
 
 -- with exchanges that may take a second, or ten minutes
-abbrev pub hasty_proxy : World
+abbrev pub hasty_proxy : State
 hasty_proxy = proxy_of (record default_limits { exchange_ms = 1000 })
 
-abbrev pub patient_proxy : World
+abbrev pub patient_proxy : State
 patient_proxy = proxy_of (record default_limits { exchange_ms = 600000 })
 
 abbrev pub tick_with : ℕ → ℕ → Turn
@@ -274,7 +274,7 @@ again_without_id_sent =
     ∷ to (Refused NOT_FOUND) (client 2) (not_found 0x7F 0xFF) ∷ []
 
 -- an answer is in the cache, and all ids are given out: in an acknowledgement it needs none
-abbrev pub spent_with_cache : World
+abbrev pub spent_with_cache : State
 spent_with_cache = record (after proxy first_answer) {
   ids = record { following = 32769; window = 0; given = 32768 };
 }
@@ -289,7 +289,7 @@ hit_without_id_sent =
     ∷ to Hit (client 2) (0x60 ∷ 0x45 ∷ 0 ∷ 1 ∷ 0xD1 ∷ 1 ∷ 10 ∷ 0xFF ∷ 0x32 ∷ 0x31 ∷ []) ∷ []
 
 -- the id after 65,535 is 0
-abbrev pub greatest_id : World
+abbrev pub greatest_id : State
 greatest_id = record proxy { ids = record { following = 65535; window = 0; given = 9 } }
 
 abbrev pub after_the_greatest : List Turn
@@ -310,10 +310,10 @@ pub record Acting : Type 0 where
   pub act : Act
 
 -- the deeds of a proxy at these turns, after others
-abbrev pub deeds_of : World → List Deed → List Acting → List Deed
+abbrev pub deeds_of : State → List Deed → List Acting → List Deed
 deeds_of w past [] = past
 deeds_of w past (a ∷ more) =
-    deeds_of (step_of w a.turn.now a.turn.draw true a.turn.event).world
+    deeds_of (step_of w a.turn.now a.turn.draw true a.turn.event).state
     (record {
       entry = answer_at w a.turn.now a.turn.draw true a.turn.event;
       act = a.act;

@@ -9,7 +9,7 @@ use Rattle.coap_endpoint.specs.declared.endpoint.Endpoint.{Endpoint}
 use Rattle.coap_dedup.specs.declared.record.Record.{Record}
 use Rattle.coap_model.specs.declared.report.Outcome.TheVariants.{Ignored, Rejected, Again, NoRecordRoom, Refused, Hit, Opened, Answered, Acked, SentRequest, GaveUp, Delivered, Idle}
 use Rattle.coap_model.specs.declared.report.Storing.TheVariants.{Kept, NotStored}
-use Rattle.coap_model.specs.World.{World}
+use Rattle.coap_model.specs.State.{State}
 use Rattle.coap_model.specs.Runs.{Turn}
 use Rattle.coap_model.specs.History.{no_item, admits, moves, serves}
 use Rattle.coap_model.specs.Responses.{awaiting}
@@ -267,8 +267,8 @@ of_one_id_sent =
 
 -- one: the second is sent when the first is acknowledged, the third when the second is answered or
 -- reset
-abbrev pub lets_go : List ℕ → List Turn
-lets_go bytes =
+abbrev pub closes_unused : List ℕ → List Turn
+closes_unused bytes =
     from 0 (client 1) (get_t []) ∷ from 0 (client 1) (get_part 8 0x78)
     ∷ from 0 (client 1) (get_part 9 0x79) ∷ tick_at 0 ∷ tick_at 0 ∷ from 5 origin (empty_ack 1)
     ∷ tick_at 5 ∷ tick_at 5 ∷ from 6 origin bytes ∷ tick_at 6 ∷ []
@@ -295,7 +295,7 @@ response kind id token = record {
 abbrev pub request : Kind → Message
 request kind = record (response kind 7 1) { code = GET }
 
-abbrev pub is_awaited : World → Endpoint → Message → Bool
+abbrev pub is_awaited : State → Endpoint → Message → Bool
 is_awaited w source m = is_some (awaiting w source m)
 
 -- a request that waits for its turn, that is sent, acknowledged, and answered

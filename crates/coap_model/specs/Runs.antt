@@ -2,7 +2,7 @@
 use Rattle.std.specs.Prelude.{ℕ, ◌≤◌, Bool, List, [], ◌∷◌, map}
 use Rattle.coap_model.specs.Setting.{Setting}
 use Rattle.coap_model.specs.Events.{Event, IsEvent}
-use Rattle.coap_model.specs.World.{World, Step, new_world}
+use Rattle.coap_model.specs.State.{State, Step, new_world}
 use Rattle.coap_model.specs.Step.{step_of}
 use Rattle.coap_model.specs.History.{Entry}
 
@@ -32,24 +32,24 @@ entry_of now draw event s =
     record { now = now; draw = draw; event = event; report = s.report; bytes = s.bytes }
 
 -- the entry of the step that an event makes at a moment
-abbrev pub answer_at : World → ℕ → ℕ → Bool → Event → Entry
+abbrev pub answer_at : State → ℕ → ℕ → Bool → Event → Entry
 answer_at w now draw grown event = entry_of now draw event (step_of w now draw grown event)
 
 -- a proxy and its history
 pub record Run : Type 0 where
-  pub world : World
+  pub state : State
   pub history : List Entry
 
 abbrev pub new_run : Setting → Run
-new_run setting = record { world = new_world setting; history = [] }
+new_run setting = record { state = new_world setting; history = [] }
 
-abbrev pub step_taken : World → Taken → Step
+abbrev pub step_taken : State → Taken → Step
 step_taken w t = step_of w t.turn.now t.turn.draw t.grown t.turn.event
 
 abbrev pub one_turn : Run → Taken → Run
 one_turn r t = record {
-  world = (step_taken r.world t).world;
-  history = entry_of t.turn.now t.turn.draw t.turn.event (step_taken r.world t) ∷ r.history;
+  state = (step_taken r.state t).state;
+  history = entry_of t.turn.now t.turn.draw t.turn.event (step_taken r.state t) ∷ r.history;
 }
 
 abbrev pub run_of : Run → List Taken → Run

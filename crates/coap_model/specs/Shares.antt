@@ -9,7 +9,7 @@ use Rattle.coap_endpoint.specs.Endpoint.{same_endpoint}
 use Rattle.coap_limits.specs.Limits.{Limits}
 use Rattle.coap_model.specs.declared.report.Outcome.TheVariants.{NoRecordRoom, Overloaded}
 use Rattle.coap_model.specs.Events.{Event, arrival, tick}
-use Rattle.coap_model.specs.World.{World}
+use Rattle.coap_model.specs.State.{State}
 use Rattle.coap_model.specs.History.{Entry, Deed, told_by, Place, IsPlaceOf, IsRequestOf}
 use Rattle.coap_model.specs.Standing.{open_in, standing_in, HasIds, HasOwnRoomToOpen}
 use Rattle.coap_model.specs.Remembered.{most_remembered, remembered_at}
@@ -61,7 +61,7 @@ pub record AreShares (limits : Limits) (many : ℕ) : Type 0 where
 -- - If so few endpoints have sent anything that the limits for one of them, added up, are no more
 --   than the shared ones, then no such message is dropped, and such a request gets 5.03 only if
 --   Message IDs are short.
-pub record LeavesRoom (history : List Entry) (w : World) : Type 0 where
+pub record LeavesRoom (history : List Entry) (w : State) : Type 0 where
   pub deeds : List Deed
   pub told : told_by deeds ≡ history
   pub justified : AllJustified w.setting deeds

@@ -2,7 +2,7 @@
 use Rattle.std.specs.Prelude.{Bool, List, [], ◌∷◌, ◌++◌}
 use Rattle.coap_model.specs.declared.report.Outcome.TheVariants.{Delivered}
 use Rattle.coap_model.specs.Events.{arrival}
-use Rattle.coap_model.specs.World.{Step}
+use Rattle.coap_model.specs.State.{Step}
 use Rattle.coap_model.specs.Step.{step_of}
 use Rattle.coap_model.specs.Examples.{Sent, origin, client, from, tick_at, to, proxy, get_t, content, content_for_client, first_answer}
 use Rattle.coap_model.specs.LimitExamples.{got}

@@ -15,7 +15,7 @@ use Rattle.coap_model.specs.declared.report.Outcome.TheVariants.{Ignored, Again,
 use Rattle.coap_model.specs.declared.report.Storing.TheVariants.{Kept}
 use Rattle.coap_model.specs.Setting.{Setting}
 use Rattle.coap_model.specs.Events.{arrival, tick}
-use Rattle.coap_model.specs.World.{World}
+use Rattle.coap_model.specs.State.{State}
 use Rattle.coap_model.specs.Runs.{Turn}
 use Rattle.coap_model.specs.Examples.{origin, client, from, tick_at, proxy, get_t_as, get_temp, answer, answered_by, content, bare_get}
 use Rattle.coap_model.specs.LimitExamples as limited
@@ -279,7 +279,7 @@ told_in_con =
     ∷ tick_at 0 ∷ []
 
 -- three bytes are kept for a message that isn't Confirmable
-abbrev pub keeps_a_reply : World
+abbrev pub keeps_a_reply : State
 keeps_a_reply =
     record proxy {
       non_records = record proxy.non_records {

@@ -24,7 +24,7 @@ ghost use Rattle.coap_option.specs.Selection.{tags_of};
 ghost use Rattle.coap_target.specs.Routes.{AreRoutes};
 ghost use Rattle.coap_model.specs.Cached.{IsFetched, IsLasting, IsObtained, Cached, cached_key, cached_size, entry_marked, entry_of_cached, store_limits, leaves, copied, entry_got, IsCacheOf, WasCacheAt, StandsFirst, IsStored, IsStoreOf, WasObtained, IsEntryOf};
 ghost use Rattle.coap_limits.specs.Limits.{AreLimits};
-ghost use Rattle.coap_model.specs.World.{World, counts};
+ghost use Rattle.coap_model.specs.State.{State, counts};
 ghost use Rattle.coap_model.specs.Justified.{IsHit, IsKept, IsObtainedHere, entry_here, size_here, JustifiedBy, AllJustified};
 ghost use Rattle.coap_model.specs.Carries.{Carries};
 ghost use Rattle.coap_model.specs.Word.{IsFromCache, KeepsItsWord};
@@ -155,7 +155,7 @@ pub fn forged_hits_are_refused()
         changed_past
         → IsFromCache setting changed_past (reply 25 9).entry }
     ensures overtaken { ¬ IsKept setting overtaken_past keeps_overtaken }
-    ensures two_exchanges { (w : World)
+    ensures two_exchanges { (w : State)
         → w.setting.limits.exchanges ≡ 1
         → ¬ KeepsItsWord opens_two w }
 {}
@@ -165,7 +165,7 @@ pub fn forged_hits_are_refused()
 pub fn examples_of_memory()
     ensures memory { (answer_with true).report.outcome ≡ Answered Kept }
     ensures no_memory { (answer_with false).report.outcome ≡ Answered NoMemory }
-    ensures still_delivered { play (answer_with false).world (tick_at 0 ∷ []) ≡ still_delivered }
+    ensures still_delivered { play (answer_with false).state (tick_at 0 ∷ []) ≡ still_delivered }
     ensures in_place { (answer_in_place false).report.outcome ≡ Answered Kept }
 {}
 
@@ -347,7 +347,7 @@ pub fn what_is_kept_stands_first()
         → (here : IsObtainedHere setting past d)
         → IsCacheOf setting (d ∷ past) cached
         → StandsFirst (entry_here here) cached }
-    ensures in_the_store { (w : World) (history : List told.Entry) (c : Carries history w)
+    ensures in_the_store { (w : State) (history : List told.Entry) (c : Carries history w)
         (past : List Deed) (d : Deed)
         → AreLimits w.setting.limits
         → c.deeds ≡ d ∷ past

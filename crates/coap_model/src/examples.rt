@@ -13,7 +13,7 @@ ghost use Rattle.coap_model.specs.Keys.{request_key};
 ghost use Rattle.coap_model.specs.Verdicts.{refusal_of};
 ghost use Rattle.coap_forward.specs.Answers.{answer_of, bad_gateway, greatest_max_age};
 ghost use Rattle.coap_model.specs.Events.{tick};
-ghost use Rattle.coap_model.specs.World.{client_counts, counts};
+ghost use Rattle.coap_model.specs.State.{client_counts, counts};
 ghost use Rattle.coap_message.specs.declared.code.TheConstants.Code.{BAD_REQUEST, NOT_FOUND};
 ghost use Rattle.coap_message.specs.Uint.{uint_spelling};
 ghost use Rattle.coap_target.specs.declared.error.TargetError.TheVariants.{OutOfMemory};
@@ -30,7 +30,7 @@ ghost use Rattle.coap_model.specs.OptionExamples.{others, form_with_others, key_
 ghost use Rattle.coap_model.specs.DuplicateExamples.{con_u, con_not_found, twice_until, refused_with, of_one_id, of_one_id_sent, one_record, two_clients, two_clients_sent, con_hit, con_hits, con_hits_sent, opened_until, hit_until, hit_sent, con_t, con_acked, con_busy, con_busy_until, con_busy_sent, non_hit, non_busy, busy_until, busy_sent};
 ghost use Rattle.coap_model.specs.ReliableExamples.{hasty_proxy, patient_proxy, silent_origin, longest_waits, silence_sent, late_ticks, late_ticks_sent, first_again_at, again_in_time, too_late, after_the_last, after_the_last_sent, answered_later, answered_later_sent, deadline, deadline_sent, sent_late, never_sent, never_sent_sent, blocked, blocked_sent, turn_of_the_second, turn_of_the_second_sent, after_the_end, after_the_end_sent, one_at_a_time, one_at_a_time_sent, two_at_a_time, two_at_a_time_sent, two_origins, two_origins_sent, next_window, next_window_sent, over_the_edge, over_the_edge_sent, again_without_id, again_without_id_sent, spent_with_cache, hit_without_id, hit_without_id_sent, greatest_id, after_the_greatest, after_the_greatest_sent, sent_twice, then_answered, history_of, two_windows};
 ghost use Rattle.coap_model.specs.ResponseExamples as responses;
-ghost use Rattle.coap_model.specs.ResponseExamples.{empty_ack, empty_reset, con_got, non_got, acked_as, comes, becomes, taken, ignored, acknowledged_until, silence_after, of_others, of_others_sent, reset_by_origin, reset_by_origin_sent, reset_after, reset_after_sent, con_response, con_response_sent, non_response, non_response_sent, before_acknowledgement, before_acknowledgement_sent, block_in_separate, block_in_separate_sent, of_impostors, of_impostors_sent, after_giving_up, after_giving_up_sent, no_room, no_room_sent, no_room_needed, no_room_needed_sent, lets_go, lets_go_sent, response, request, is_awaited, queued_turns, sent_turns, acked_turns, answered_turns, opened_acting, sent_acting, acked_acting, reset_acting, got_acting, served_acting, non_acting, record_of_response};
+ghost use Rattle.coap_model.specs.ResponseExamples.{empty_ack, empty_reset, con_got, non_got, acked_as, comes, becomes, taken, ignored, acknowledged_until, silence_after, of_others, of_others_sent, reset_by_origin, reset_by_origin_sent, reset_after, reset_after_sent, con_response, con_response_sent, non_response, non_response_sent, before_acknowledgement, before_acknowledgement_sent, block_in_separate, block_in_separate_sent, of_impostors, of_impostors_sent, after_giving_up, after_giving_up_sent, no_room, no_room_sent, no_room_needed, no_room_needed_sent, closes_unused, lets_go_sent, response, request, is_awaited, queued_turns, sent_turns, acked_turns, answered_turns, opened_acting, sent_acting, acked_acting, reset_acting, got_acting, served_acting, non_acting, record_of_response};
 ghost use Rattle.coap_model.specs.ClientExamples as clients;
 ghost use Rattle.coap_model.specs.NextProxyExamples as beyond;
 ghost use Rattle.coap_model.specs.JoiningExamples as joining;
@@ -399,11 +399,11 @@ pub fn responses()
     ensures no_room { play one_record no_room ≡ no_room_sent }
     ensures no_room_needed { play one_record no_room_needed ≡ no_room_needed_sent }
     ensures one_id { play proxy responses.of_one_id ≡ responses.of_one_id_sent }
-    ensures lets_go_answered { play proxy (lets_go (non_got 2 2))
+    ensures lets_go_answered { play proxy (closes_unused (non_got 2 2))
         ≡ lets_go_sent (nothing (Answered Kept)) }
-    ensures lets_go_acked { play proxy (lets_go (con_got 2 2))
+    ensures lets_go_acked { play proxy (closes_unused (con_got 2 2))
         ≡ lets_go_sent (to (Answered Kept) origin (acked_as 2)) }
-    ensures lets_go_reset { play proxy (lets_go (empty_reset 2))
+    ensures lets_go_reset { play proxy (closes_unused (empty_reset 2))
         ≡ lets_go_sent (nothing (Answered NotStored)) }
     ensures due_again { next_due (after proxy sent_turns) ≡ Some 2000 }
     ensures due_at_its_end { next_due (after proxy acked_turns) ≡ Some 93000 }

@@ -12,7 +12,7 @@ ghost use Rattle.coap_model.specs.Keys.{key_sent};
 ghost use Rattle.coap_model.specs.Verdicts.{may_ask};
 ghost use Rattle.coap_forward.specs.Answers.{left_of};
 ghost use Rattle.coap_model.specs.Events.{tick, arrival, Event, IsEvent};
-ghost use Rattle.coap_model.specs.World.{client_counts, counts, World, new_world};
+ghost use Rattle.coap_model.specs.State.{client_counts, counts, State, new_world};
 ghost use Rattle.coap_model.specs.Ticks.{next_due};
 ghost use Rattle.coap_model.specs.History.{Act, no_item, serves, takes, opened_in, Deed, Place, IsPlaceOf, Somewhere, Sends, Ends, Serves, LetsGo, Never, last_of, IsInOrder, IsRequestOf, Entry, grown_of, gives_id, ids_in, Gives};
 ghost use Rattle.coap_forward.specs.Messages.{told_again, brings_requests, acknowledgement};
@@ -78,14 +78,14 @@ pub fn left_and_age_add_up()
 
 /// A tick of a proxy that carries a history does nothing exactly if nothing is due, or only later.
 pub fn ticks_are_idle_where_nothing_is_due()
-    ensures none { (w : World) (now draw : ℕ) (grown : Bool)
+    ensures none { (w : State) (now draw : ℕ) (grown : Bool)
         → next_due w ≡ None
         → (step_of w now draw grown tick).report.outcome ≡ Idle }
-    ensures later { (w : World) (now draw at : ℕ) (grown : Bool)
+    ensures later { (w : State) (now draw at : ℕ) (grown : Bool)
         → next_due w ≡ Some at
         → now < at
         → (step_of w now draw grown tick).report.outcome ≡ Idle }
-    ensures due { (w : World) (history : List Entry) (now draw at : ℕ) (grown : Bool)
+    ensures due { (w : State) (history : List Entry) (now draw at : ℕ) (grown : Bool)
         → Carries history w
         → next_due w ≡ Some at
         → at ≤ now
@@ -127,13 +127,13 @@ pub fn forged_deliveries_are_refused()
 /// Each step of a proxy that carries a history leaves a proxy that carries the history with the
 /// step's entry in front, if moments never decrease and datagrams consist of bytes.
 pub fn steps_are_carried()
-    ensures carried { (w : World) (history : List Entry) (now draw : ℕ) (grown : Bool)
+    ensures carried { (w : State) (history : List Entry) (now draw : ℕ) (grown : Bool)
         (event : Event)
         → Carries history w
         → w.last ≤ now
         → IsEvent event
         → Carries (entry_of now draw event (step_of w now draw grown event) ∷ history)
-        (step_of w now draw grown event).world }
+        (step_of w now draw grown event).state }
 {}
 
 /// A proxy that has done nothing carries the empty history.
@@ -146,16 +146,16 @@ pub fn new_proxies_carry_nothing()
 /// No step changes the limits, the routes, the first Message ID or the salt, if datagrams consist
 /// of bytes.
 pub fn settings_stay()
-    ensures stays { (w : World) (now draw : ℕ) (grown : Bool) (event : Event)
+    ensures stays { (w : State) (now draw : ℕ) (grown : Bool) (event : Event)
         → IsEvent event
-        → (step_of w now draw grown event).world.setting ≡ w.setting }
+        → (step_of w now draw grown event).state.setting ≡ w.setting }
 {}
 
 /// Whether there was memory for one more entry of the store is the only choice that the event of a
 /// step leaves open, and its report says it: the step is the one that its own report determines,
 /// and only an answer that wasn't stored since memory ran out says that there was none.
 pub fn memory_is_told()
-    ensures step { (w : World) (now draw : ℕ) (event : Event) (grown : Bool)
+    ensures step { (w : State) (now draw : ℕ) (event : Event) (grown : Bool)
         → step_of w now draw (grown_of (step_of w now draw grown event).report.outcome) event
         ≡ step_of w now draw grown event }
     ensures wanting { (outcome : Outcome) → grown_of outcome ≡ false → outcome ≡ Answered NoMemory }
@@ -165,24 +165,24 @@ pub fn memory_is_told()
 /// and of pending clients, the entries and bytes of the cache of these deeds, and the number of
 /// messages that are still remembered.
 pub fn counts_are_of_the_history()
-    ensures exchanges { (deeds : List Deed) (w : World)
+    ensures exchanges { (deeds : List Deed) (w : State)
         → Bears deeds w
         → (counts w).exchanges ≡ length (open_in deeds) }
-    ensures waiters { (deeds : List Deed) (w : World)
+    ensures waiters { (deeds : List Deed) (w : State)
         → Bears deeds w
         → (counts w).waiters ≡ length (standing_in deeds) }
-    ensures entries { (deeds : List Deed) (w : World) (cached : List Cached)
+    ensures entries { (deeds : List Deed) (w : State) (cached : List Cached)
         → Bears deeds w
         → IsCacheOf w.setting deeds cached
         → (counts w).entries ≡ length cached }
-    ensures cached_bytes { (deeds : List Deed) (w : World) (cached : List Cached)
+    ensures cached_bytes { (deeds : List Deed) (w : State) (cached : List Cached)
         → Bears deeds w
         → IsCacheOf w.setting deeds cached
         → (counts w).cached_bytes ≡ total cached_size cached }
-    ensures con_records { (deeds : List Deed) (w : World)
+    ensures con_records { (deeds : List Deed) (w : State)
         → Bears deeds w
         → (counts w).con_records ≡ length (remembered_at Con w.last deeds) }
-    ensures non_records { (deeds : List Deed) (w : World)
+    ensures non_records { (deeds : List Deed) (w : State)
         → Bears deeds w
         → (counts w).non_records ≡ length (remembered_at Non w.last deeds) }
 {}
@@ -190,16 +190,16 @@ pub fn counts_are_of_the_history()
 /// The same for what is one endpoint's: open exchanges count for the client that opened them,
 /// pending requests for the client that sent them, and remembered messages for their source.
 pub fn client_counts_are_of_the_history()
-    ensures exchanges { (deeds : List Deed) (w : World) (client : Endpoint)
+    ensures exchanges { (deeds : List Deed) (w : State) (client : Endpoint)
         → Bears deeds w
         → (client_counts w client).exchanges ≡ exchanges_of client deeds }
-    ensures waiters { (deeds : List Deed) (w : World) (client : Endpoint)
+    ensures waiters { (deeds : List Deed) (w : State) (client : Endpoint)
         → Bears deeds w
         → (client_counts w client).waiters ≡ waiters_of client deeds }
-    ensures con_records { (deeds : List Deed) (w : World) (from : Endpoint)
+    ensures con_records { (deeds : List Deed) (w : State) (from : Endpoint)
         → Bears deeds w
         → (client_counts w from).con_records ≡ remembered_of from Con w.last deeds }
-    ensures non_records { (deeds : List Deed) (w : World) (from : Endpoint)
+    ensures non_records { (deeds : List Deed) (w : State) (from : Endpoint)
         → Bears deeds w
         → (client_counts w from).non_records ≡ remembered_of from Non w.last deeds }
 {}
@@ -210,7 +210,7 @@ pub fn client_counts_are_of_the_history()
 /// endpoint are outstanding, exchanges, waiters and records are within their shared and client
 /// limits, and the store and the bytes held are within their limits.
 pub fn what_is_carried_is_promised()
-    ensures promised { (history : List Entry) (w : World) → Carries history w → Promised history w }
+    ensures promised { (history : List Entry) (w : State) → Carries history w → Promised history w }
 {}
 
 /// The promise in short. A proxy keeps its promise for any history that it carries, at each place
@@ -221,14 +221,14 @@ pub fn what_is_carried_is_promised()
 /// lifetime gets the kept reply again; and no Message ID is given out twice within 247 seconds. So
 /// does a new proxy, whatever datagrams and ticks come at moments that never decrease.
 pub fn the_word_is_kept()
-    ensures carried { (history : List Entry) (w : World)
+    ensures carried { (history : List Entry) (w : State)
         → Carries history w
         → KeepsItsWord history w }
     ensures run { (setting : Setting) (turns : List Taken)
         → AreRoutes setting.routes
         → AreTurns 0 (turns_of turns)
         → KeepsItsWord (run_of (new_run setting) turns).history
-        (run_of (new_run setting) turns).world }
+        (run_of (new_run setting) turns).state }
 {}
 
 /// One client doesn't use up the room of the others. In any history that a proxy carries, a message
@@ -239,14 +239,14 @@ pub fn the_word_is_kept()
 /// that never decrease. What an entry lacked is stated exactly by what justifies it: room of its
 /// own or shared room.
 pub fn one_client_leaves_room_for_others()
-    ensures carried { (history : List Entry) (w : World)
+    ensures carried { (history : List Entry) (w : State)
         → Carries history w
         → LeavesRoom history w }
     ensures run { (setting : Setting) (turns : List Taken)
         → AreRoutes setting.routes
         → AreTurns 0 (turns_of turns)
         → LeavesRoom (run_of (new_run setting) turns).history
-        (run_of (new_run setting) turns).world }
+        (run_of (new_run setting) turns).state }
     ensures to_join { (setting : Setting) (past : List Deed) (now : ℕ) (client : Endpoint)
         → HasOwnRoomToJoin setting.limits client past
         → HasSharedRoomToJoin setting.limits now past
@@ -263,19 +263,19 @@ pub fn one_client_leaves_room_for_others()
 /// outstanding; the history consists of the entries of these deeds; and what the proxy counts and
 /// holds is within its limits.
 pub fn what_is_promised_holds_at_each_place()
-    ensures justified { (history : List Entry) (w : World) (p : Promised history w) (place : Place)
+    ensures justified { (history : List Entry) (w : State) (p : Promised history w) (place : Place)
         → IsPlaceOf p.deeds place
         → JustifiedBy place.deed.entry.report.outcome w.setting place.before place.deed }
-    ensures in_order { (history : List Entry) (w : World) (p : Promised history w)
+    ensures in_order { (history : List Entry) (w : State) (p : Promised history w)
         (place earlier : Place)
         → IsPlaceOf p.deeds place
         → IsPlaceOf place.before earlier
         → earlier.deed.entry.now ≤ place.deed.entry.now }
-    ensures id { (history : List Entry) (w : World) (p : Promised history w) (place : Place)
+    ensures id { (history : List Entry) (w : State) (p : Promised history w) (place : Place)
         → IsPlaceOf p.deeds place
         → gives_id place.deed.entry ≡ 1
         → Gives ((w.setting.first_id + ids_in place.before) % 65536) place.deed.entry }
-    ensures once { (history : List Entry) (w : World) (p : Promised history w) (a b : Place)
+    ensures once { (history : List Entry) (w : State) (p : Promised history w) (a b : Place)
         (id : ℕ)
         → IsPlaceOf p.deeds a
         → IsPlaceOf p.deeds b
@@ -284,43 +284,43 @@ pub fn what_is_promised_holds_at_each_place()
         → a.deed.entry.now ≤ b.deed.entry.now
         → b.deed.entry.now < a.deed.entry.now + 247000
         → a ≡ b }
-    ensures schedule { (history : List Entry) (w : World) (p : Promised history w) (act : Act)
+    ensures schedule { (history : List Entry) (w : State) (p : Promised history w) (act : Act)
         → IsSchedule (sends_by act p.deeds) }
-    ensures pace { (history : List Entry) (w : World) (p : Promised history w) (to : Endpoint)
+    ensures pace { (history : List Entry) (w : State) (p : Promised history w) (to : Endpoint)
         → outstanding_to to p.deeds ≤ w.setting.limits.nstart }
-    ensures told { (history : List Entry) (w : World) (p : Promised history w)
+    ensures told { (history : List Entry) (w : State) (p : Promised history w)
         → map (λ d. d.entry) p.deeds ≡ history }
-    ensures exchanges { (history : List Entry) (w : World)
+    ensures exchanges { (history : List Entry) (w : State)
         → Promised history w
         → (counts w).exchanges ≤ w.setting.limits.exchanges }
-    ensures waiters { (history : List Entry) (w : World)
+    ensures waiters { (history : List Entry) (w : State)
         → Promised history w
         → (counts w).waiters ≤ w.setting.limits.waiters }
-    ensures entries { (history : List Entry) (w : World)
+    ensures entries { (history : List Entry) (w : State)
         → Promised history w
         → (counts w).entries ≤ w.setting.limits.cache_entries }
-    ensures cached_bytes { (history : List Entry) (w : World)
+    ensures cached_bytes { (history : List Entry) (w : State)
         → Promised history w
         → (counts w).cached_bytes ≤ w.setting.limits.cache_bytes }
-    ensures con_records { (history : List Entry) (w : World)
+    ensures con_records { (history : List Entry) (w : State)
         → Promised history w
         → (counts w).con_records ≤ w.setting.limits.con_records }
-    ensures non_records { (history : List Entry) (w : World)
+    ensures non_records { (history : List Entry) (w : State)
         → Promised history w
         → (counts w).non_records ≤ w.setting.limits.non_records }
-    ensures client_exchanges { (history : List Entry) (w : World) (client : Endpoint)
+    ensures client_exchanges { (history : List Entry) (w : State) (client : Endpoint)
         → Promised history w
         → (client_counts w client).exchanges ≤ w.setting.limits.client_exchanges }
-    ensures client_waiters { (history : List Entry) (w : World) (client : Endpoint)
+    ensures client_waiters { (history : List Entry) (w : State) (client : Endpoint)
         → Promised history w
         → (client_counts w client).waiters ≤ w.setting.limits.client_waiters }
-    ensures client_con_records { (history : List Entry) (w : World) (from : Endpoint)
+    ensures client_con_records { (history : List Entry) (w : State) (from : Endpoint)
         → Promised history w
         → (client_counts w from).con_records ≤ w.setting.limits.client_con_records }
-    ensures client_non_records { (history : List Entry) (w : World) (from : Endpoint)
+    ensures client_non_records { (history : List Entry) (w : State) (from : Endpoint)
         → Promised history w
         → (client_counts w from).non_records ≤ w.setting.limits.client_non_records }
-    ensures held { (history : List Entry) (w : World)
+    ensures held { (history : List Entry) (w : State)
         → Promised history w
         → held w ≤ most_held w.setting.limits }
 {}
@@ -331,21 +331,21 @@ pub fn what_is_promised_holds_at_each_place()
 /// wasn't changed since, is answered from the cache; and an answer that was obtained is stored if
 /// its size allows it, unless memory runs out, and one that wasn't obtained isn't stored.
 pub fn what_is_owed_is_given_at_each_place()
-    ensures again { (history : List Entry) (w : World) (p : Promised history w)
+    ensures again { (history : List Entry) (w : State) (p : Promised history w)
         (place former : Place) (source : Endpoint) (message : Message)
         → IsPlaceOf p.deeds place
         → Comes w.setting source message place.deed.entry.event
         → IsPlaceOf place.before former
         → Repeats place.deed.entry.now source message former
         → place.deed.entry.report.outcome ≡ Again }
-    ensures no_room { (history : List Entry) (w : World) (p : Promised history w) (place : Place)
+    ensures no_room { (history : List Entry) (w : State) (p : Promised history w) (place : Place)
         (client : Endpoint) (request : Message)
         → IsPlaceOf p.deeds place
         → IsRequestOf w.setting client request place.deed.entry.event
         → known_of place.before place.deed.entry.now client request ≡ None
         → ¬ HasRecordRoom w.setting place.before place.deed.entry.now client request
         → place.deed.entry.report.outcome ≡ NoRecordRoom }
-    ensures no_answer_room { (history : List Entry) (w : World) (p : Promised history w)
+    ensures no_answer_room { (history : List Entry) (w : State) (p : Promised history w)
         (place : Place) (exchange : ℕ)
         (awaited : IsAwaited w.setting place.before place.deed.entry.now exchange
         place.deed.entry.event)
@@ -356,7 +356,7 @@ pub fn what_is_owed_is_given_at_each_place()
         → ¬ HasRecordRoom w.setting place.before place.deed.entry.now
         awaited.meets.asks.sends.to awaited.meets.message
         → place.deed.entry.report.outcome ≡ NoRecordRoom }
-    ensures hit { (history : List Entry) (w : World) (p : Promised history w) (place : Place)
+    ensures hit { (history : List Entry) (w : State) (p : Promised history w) (place : Place)
         (client : Endpoint) (request : Message) (key : CacheKey) (cached : List Cached)
         (entry : Cached)
         → IsPlaceOf p.deeds place
@@ -369,18 +369,18 @@ pub fn what_is_owed_is_given_at_each_place()
         → IsUsable w.setting place.before place.deed.entry.now entry
         → HasIdFor request place.deed.entry.now place.before
         → place.deed.entry.report.outcome ≡ Hit }
-    ensures kept { (history : List Entry) (w : World) (p : Promised history w) (place : Place)
+    ensures kept { (history : List Entry) (w : State) (p : Promised history w) (place : Place)
         (o : IsObtainedHere w.setting place.before place.deed)
         → IsPlaceOf p.deeds place
         → size_here o ≤ w.setting.limits.cache_bytes
         → place.deed.entry.report.outcome ≢ Answered NoMemory
         → place.deed.entry.report.outcome ≡ Answered Kept }
-    ensures too_large { (history : List Entry) (w : World) (p : Promised history w) (place : Place)
+    ensures too_large { (history : List Entry) (w : State) (p : Promised history w) (place : Place)
         (o : IsObtainedHere w.setting place.before place.deed)
         → IsPlaceOf p.deeds place
         → w.setting.limits.cache_bytes < size_here o
         → place.deed.entry.report.outcome ≡ Answered TooLarge }
-    ensures not_stored { (history : List Entry) (w : World) (p : Promised history w)
+    ensures not_stored { (history : List Entry) (w : State) (p : Promised history w)
         (place : Place)
         → IsPlaceOf p.deeds place
         → takes place.deed.entry.report.outcome ≡ true
@@ -552,7 +552,7 @@ pub fn one_answer_is_justified()
         → MayFollow setting past e
         → AreOfOneTurn d.entry e.entry
         → d ≡ e }
-    ensures of_the_step { (w : World) (history : List Entry) (c : Carries history w) (d : Deed)
+    ensures of_the_step { (w : State) (history : List Entry) (c : Carries history w) (d : Deed)
         (grown : Bool)
         → w.last ≤ d.entry.now
         → w.opened < 2 ^ 64
@@ -566,10 +566,10 @@ pub fn one_answer_is_justified()
 /// The moment at which the next tick is needed is the earliest at which anything is due according
 /// to the history, which is unique, and none is needed if nothing is due.
 pub fn next_due_is_least()
-    ensures next { (w : World) (history : List Entry) (c : Carries history w) (at : ℕ)
+    ensures next { (w : State) (history : List Entry) (c : Carries history w) (at : ℕ)
         → next_due w ≡ Some at
         → IsNextDue w.setting c.deeds at }
-    ensures none { (w : World) (history : List Entry) (c : Carries history w)
+    ensures none { (w : State) (history : List Entry) (c : Carries history w)
         → next_due w ≡ None
         → (act : Act) (at : ℕ)
         → ¬ IsDueAt w.setting c.deeds act at }
@@ -582,7 +582,7 @@ pub fn next_due_is_least()
 /// If moments are at most 2^62 milliseconds and draws at most 1,000, nothing is due later than ten
 /// minutes after 2^62.
 pub fn dues_are_bounded()
-    ensures bounded { (w : World) (history : List Entry) (at : ℕ)
+    ensures bounded { (w : State) (history : List Entry) (at : ℕ)
         → Carries history w
         → AreInRange history
         → AreLimits w.setting.limits
@@ -593,7 +593,7 @@ pub fn dues_are_bounded()
 /// No datagram that a step sends is longer than the limit `datagram`, if the limits are within
 /// their ranges.
 pub fn datagrams_fit()
-    ensures fits { (w : World) (history : List Entry) (now draw : ℕ) (grown : Bool) (event : Event)
+    ensures fits { (w : State) (history : List Entry) (now draw : ℕ) (grown : Bool) (event : Event)
         → Carries history w
         → AreLimits w.setting.limits
         → IsEvent event
@@ -603,8 +603,8 @@ pub fn datagrams_fit()
 /// The bytes held, as the values count, are at most those that are kept for them, and so within the
 /// same bound.
 pub fn bytes_held_are_kept()
-    ensures kept { (w : World) → bytes_held w ≤ held w }
-    ensures within { (w : World) (history : List Entry)
+    ensures kept { (w : State) → bytes_held w ≤ held w }
+    ensures within { (w : State) (history : List Entry)
         → Carries history w
         → bytes_held w ≤ most_held w.setting.limits }
 {}
@@ -615,9 +615,9 @@ pub fn runs_are_promised()
     ensures kept { (setting : Setting) (turns : List Taken)
         → AreRoutes setting.routes
         → AreTurns 0 (turns_of turns)
-        → (run_of (new_run setting) turns).world.setting ≡ setting }
+        → (run_of (new_run setting) turns).state.setting ≡ setting }
     ensures promised { (setting : Setting) (turns : List Taken)
         → AreRoutes setting.routes
         → AreTurns 0 (turns_of turns)
-        → Promised (run_of (new_run setting) turns).history (run_of (new_run setting) turns).world }
+        → Promised (run_of (new_run setting) turns).history (run_of (new_run setting) turns).state }
 {}

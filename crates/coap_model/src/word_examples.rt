@@ -21,7 +21,7 @@ ghost use Rattle.coap_model.specs.History.{IsPlaceOf, LetsGo};
 ghost use Rattle.coap_model.specs.OptionExamples.{key_of_temp};
 ghost use Rattle.coap_model.specs.Schedules.{AreSpaced, IsSchedule, MayGoOn};
 ghost use Rattle.coap_model.specs.Word.{IsFromCache, IsToldAgain, IsWithin, KeepsItsWord};
-ghost use Rattle.coap_model.specs.World.{World};
+ghost use Rattle.coap_model.specs.State.{State};
 ghost use Rattle.coap_model.specs.WordExamples as words;
 ghost use Rattle.coap_model.specs.WordExamples.{at};
 
@@ -116,7 +116,7 @@ pub fn a_sixth_transmission_is_refused()
 /// A proxy whose replies to two requests in less than 247 seconds have one Message ID doesn't keep
 /// its promise.
 pub fn one_id_twice_is_refused()
-    ensures { (w : World) → ¬ KeepsItsWord words.of_one_id w }
+    ensures { (w : State) → ¬ KeepsItsWord words.of_one_id w }
 {}
 
 /// A client is finished when its answer is acknowledged or given up, and when it is sent in a

@@ -5,7 +5,7 @@ use Rattle.coap_model.proofs.Word.{keeps-word}
 use Rattle.coap_model.specs.History.{Entry}
 use Rattle.coap_model.specs.Runs.{Run, Turn, one_turn, step_taken}
 use Rattle.coap_model.specs.Ticks.{next_due}
-use Rattle.coap_model.specs.World.{World}
+use Rattle.coap_model.specs.State.{State}
 use Rattle.coap_endpoint.specs.declared.endpoint.Endpoint.{Endpoint}
 use Rattle.std.specs.Prelude.{is_some}
 use Rattle.coap_watch.specs.Told.{Told}
@@ -15,34 +15,34 @@ use Rattle.coap_port.specs.Stats.{no_stats, with_turn}
 use Rattle.coap_port.specs.declared.stats.Stats.{Stats}
 
 -- the tables after a turn don't depend on the history before it
-given-apart : (r q : Run) (g : Given) → r.world ≡ q.world → (run_given r g).world ≡ (run_given q g).world
+given-apart : (r q : Run) (g : Given) → r.state ≡ q.state → (run_given r g).state ≡ (run_given q g).state
 given-apart r q g e = go g.lost
   where
-    go : (lost : Bool) → (cond lost r (one_turn r (taken_of g))).world ≡ (cond lost q (one_turn q (taken_of g))).world
+    go : (lost : Bool) → (cond lost r (one_turn r (taken_of g))).state ≡ (cond lost q (one_turn q (taken_of g))).state
     go true = e
-    go false = ap (λ (w : World). (step_taken w (taken_of g)).world) e
+    go false = ap (λ (w : State). (step_taken w (taken_of g)).state) e
 
 -- nor do those after several turns
-run-apart : (r q : Run) (givens : List Given) → r.world ≡ q.world → (run_by r givens).world ≡ (run_by q givens).world
+run-apart : (r q : Run) (givens : List Given) → r.state ≡ q.state → (run_by r givens).state ≡ (run_by q givens).state
 run-apart r q [] e = e
 run-apart r q (g ∷ before) e = given-apart (run_by r before) (run_by q before) g (run-apart r q before e)
 
 module _ {P : Type 0} (gives : P → ℕ → Turn → P → Type 0) (takes : P → Endpoint → List ℕ → Bool → P → Type 0) (clock failures : P → ℕ) where
   -- the state of a loop: what was done, whether a datagram came last, and the last moment
-  pub record IsAt (first : ℕ) (w : World) (p : P) (v : World) (q : P) (s : Stats) (came : Bool) : Type 0 where
+  pub record IsAt (first : ℕ) (w : State) (p : P) (v : State) (q : P) (s : Stats) (came : Bool) : Type 0 where
     pub driven : IsDriven gives takes first w p v q s
     pub told : came ≡ came_last driven.givens
     pub moment : clock q ≡ last_moment first driven.givens
 
   -- at first nothing was done
-  pub at-start : (w : World) (p : P) → IsAt (clock p) w p w p no_stats false
+  pub at-start : (w : State) (p : P) → IsAt (clock p) w p w p no_stats false
   at-start w p = record {
     driven = record {
       givens = [];
       leads = refl;
       asked = tt;
       lost = tt;
-      world = refl;
+      state = refl;
       carries = λ history c. c;
       word = λ history c. keeps-word history w c;
       counted = refl;
@@ -51,8 +51,8 @@ module _ {P : Type 0} (gives : P → ℕ → Turn → P → Type 0) (takes : P �
     moment = refl;
   }
 
-  module _ (first : ℕ) (w : World) (p : P) (v : World) (q : P) (s : Stats) (came : Bool) (at : IsAt first w p v q s came)
-      (v' : World) (q' : P) (s' : Stats) (arrived : Bool) (did : DidTurn gives takes clock failures came v q s v' q' s' arrived) where
+  module _ (first : ℕ) (w : State) (p : P) (v : State) (q : P) (s : Stats) (came : Bool) (at : IsAt first w p v q s came)
+      (v' : State) (q' : P) (s' : Stats) (arrived : Bool) (did : DidTurn gives takes clock failures came v q s v' q' s' arrived) where
     abbrev givens : List Given
     givens = at.driven.givens
 
@@ -61,35 +61,35 @@ module _ {P : Type 0} (gives : P → ℕ → Turn → P → Type 0) (takes : P �
 
     -- the tables before the turn
     before : v ≡ world_by w givens
-    before = at.driven.world
+    before = at.driven.state
 
     leads : DoesTurn gives takes (world_by w givens) q g q'
-    leads = subst (λ (u : World). DoesTurn gives takes u q g q') before did.does
+    leads = subst (λ (u : State). DoesTurn gives takes u q g q') before did.does
 
     asked : g.wait ≡ wait_for (came_last givens) (last_moment first givens) (next_due (world_by w givens))
     asked =
         did.asked
         ∙ ap (λ (b : Bool). wait_for b (clock q) (next_due v)) at.told
         ∙ ap (λ (n : ℕ). wait_for (came_last givens) n (next_due v)) at.moment
-        ∙ ap (λ (u : World). wait_for (came_last givens) (last_moment first givens) (next_due u)) before
+        ∙ ap (λ (u : State). wait_for (came_last givens) (last_moment first givens) (next_due u)) before
 
     lost : g.lost ≡ true → takes_some (world_by w givens) g.turn ≡ true
-    lost = subst (λ (u : World). g.lost ≡ true → takes_some u g.turn ≡ true) before did.lost
+    lost = subst (λ (u : State). g.lost ≡ true → takes_some u g.turn ≡ true) before did.lost
 
-    world : v' ≡ world_by w (g ∷ givens)
-    world = did.world ∙ given-apart (run_at v []) (run_by (run_at w []) givens) g before
+    state : v' ≡ world_by w (g ∷ givens)
+    state = did.state ∙ given-apart (run_at v []) (run_by (run_at w []) givens) g before
 
     carries : (history : List Entry) → Carries history w → Carries (run_by (run_at w history) (g ∷ givens)).history v'
     carries history c =
         let run : Run = run_by (run_at w history) givens in
-        let tables : v ≡ run.world = before ∙ run-apart (run_at w []) (run_at w history) givens refl in
-        let same : run_at v run.history ≡ run = ap (λ (u : World). run_at u run.history) tables in
+        let tables : v ≡ run.state = before ∙ run-apart (run_at w []) (run_at w history) givens refl in
+        let same : run_at v run.history ≡ run = ap (λ (u : State). run_at u run.history) tables in
         subst (λ (r : Run). Carries (run_given r g).history v') same (did.carries run.history (at.driven.carries history c))
 
     counted : s' ≡ stats_of w (g ∷ givens)
     counted =
         did.counted
-        ∙ ap (λ (u : World). with_turn g.lost (is_some (sent_at u g)) g.went s) before
+        ∙ ap (λ (u : State). with_turn g.lost (is_some (sent_at u g)) g.went s) before
         ∙ ap (with_turn g.lost (is_some (sent_at (world_by w givens) g)) g.went) at.driven.counted
 
     -- one more turn was done
@@ -100,7 +100,7 @@ module _ {P : Type 0} (gives : P → ℕ → Turn → P → Type 0) (takes : P �
         leads = (q, at.driven.leads, leads);
         asked = (asked, at.driven.asked);
         lost = (lost, at.driven.lost);
-        world = world;
+        state = state;
         carries = carries;
         word = λ history c. keeps-word (run_by (run_at w history) (g ∷ givens)).history v' (carries history c);
         counted = counted;
@@ -111,23 +111,23 @@ module _ {P : Type 0} (gives : P → ℕ → Turn → P → Type 0) (takes : P �
 
 module _ {P W : Type 0} (gives : P → ℕ → Turn → P → Type 0) (takes : P → Endpoint → List ℕ → Bool → P → Type 0) (sees : W → Told → W → Type 0) (clock failures : P → ℕ) where
   -- the same, with a watcher that was told what was done
-  pub record IsAtWatched (first : ℕ) (w : World) (p : P) (a : W) (v : World) (q : P) (b : W) (s : Stats) (came : Bool) : Type 0 where
+  pub record IsAtWatched (first : ℕ) (w : State) (p : P) (a : W) (v : State) (q : P) (b : W) (s : Stats) (came : Bool) : Type 0 where
     pub at : IsAt gives takes clock failures first w p v q s came
     pub told : WasTold sees a (tolds_of w at.driven.givens) b
 
-  pub watched-start : (w : World) (p : P) (a : W) → IsAtWatched (clock p) w p a w p a no_stats false
+  pub watched-start : (w : State) (p : P) (a : W) → IsAtWatched (clock p) w p a w p a no_stats false
   unfolding at-start
   watched-start w p a = record { at = at-start gives takes clock failures w p; told = refl }
 
-  pub watched-more : (first : ℕ) (w : World) (p : P) (a : W) (v : World) (q : P) (b : W) (s : Stats) (came : Bool) → IsAtWatched first w p a v q b s came
-      → (v' : World) (q' : P) (b' : W) (s' : Stats) (arrived : Bool) → DidWatched gives takes sees clock failures came v q b s v' q' b' s' arrived
+  pub watched-more : (first : ℕ) (w : State) (p : P) (a : W) (v : State) (q : P) (b : W) (s : Stats) (came : Bool) → IsAtWatched first w p a v q b s came
+      → (v' : State) (q' : P) (b' : W) (s' : Stats) (arrived : Bool) → DidWatched gives takes sees clock failures came v q b s v' q' b' s' arrived
       → IsAtWatched first w p a v' q' b' s' arrived
   unfolding one-more
   watched-more first w p a v q b s came at v' q' b' s' arrived did = record {
     at = one-more gives takes clock failures first w p v q s came at.at v' q' s' arrived did.did;
-    told = (b, at.told, subst (λ (u : World). sees b (told_by u did.did.given) b') at.at.driven.world did.told);
+    told = (b, at.told, subst (λ (u : State). sees b (told_by u did.did.given) b') at.at.driven.state did.told);
   }
 
   -- what was done so far, and told
-  pub watched-now : (first : ℕ) (w : World) (p : P) (a : W) (v : World) (q : P) (b : W) (s : Stats) (came : Bool) → IsAtWatched first w p a v q b s came → IsWatched gives takes sees first w p a v q b s
+  pub watched-now : (first : ℕ) (w : State) (p : P) (a : W) (v : State) (q : P) (b : W) (s : Stats) (came : Bool) → IsAtWatched first w p a v q b s came → IsWatched gives takes sees first w p a v q b s
   watched-now first w p a v q b s came at = record { driven = at.at.driven; told = at.told }

@@ -9,7 +9,7 @@ use Rattle.coap_model.specs.History.{Entry, grown_of}
 use Rattle.coap_model.specs.Runs.{Turn}
 use Rattle.coap_model.specs.Step.{step_of}
 use Rattle.coap_model.specs.Ticks.{next_due}
-use Rattle.coap_model.specs.World.{Step, World}
+use Rattle.coap_model.specs.State.{Step, State}
 use Rattle.coap_model.specs.declared.report.Report.{Report}
 use Rattle.coap_endpoint.specs.declared.endpoint.Endpoint.{Endpoint}
 use Rattle.coap_watch.specs.Told.{Told}
@@ -33,17 +33,17 @@ abbrev pub told : Report → List ℕ → Option (Endpoint × List ℕ)
 told report bytes = option_map (λ e. (e, bytes)) report.send
 
 -- what is told of a turn at this moment, which was done or was lost
-abbrev pub told_done : Turn → Event → Report → List ℕ → Bool → World → Told
-told_done t event report bytes went w = record { turn = record { now = t.now; draw = t.draw; event = event }; report = Some report; bytes = bytes; went = went; world = w }
+abbrev pub told_done : Turn → Event → Report → List ℕ → Bool → State → Told
+told_done t event report bytes went w = record { turn = record { now = t.now; draw = t.draw; event = event }; report = Some report; bytes = bytes; went = went; state = w }
 
-abbrev pub told_lost : Turn → Event → World → Told
-told_lost t event w = record { turn = record { now = t.now; draw = t.draw; event = event }; report = None; bytes = []; went = false; world = w }
+abbrev pub told_lost : Turn → Event → State → Told
+told_lost t event w = record { turn = record { now = t.now; draw = t.draw; event = event }; report = None; bytes = []; went = false; state = w }
 
 module _ {P W : Type 0} (gives : P → ℕ → Turn → P → Type 0) (takes : P → Endpoint → List ℕ → Bool → P → Type 0) (sees : W → Told → W → Type 0) (clock failures : P → ℕ)
-    (came : Bool) (v : World) (p : P) (a b : W) (s : Stats) (wait : ℕ) (t : Turn) (m : P) (arrived : Bool)
+    (came : Bool) (v : State) (p : P) (a b : W) (s : Stats) (wait : ℕ) (t : Turn) (m : P) (arrived : Bool)
     (asked : wait ≡ wait_for came (clock p) (next_due v)) (gave : gives p wait t m) (arrives : arrived ≡ is_arrival t.event) (moment : clock m ≡ t.now) where
   -- a step was done, and what it sent was handed over
-  pub did-step : (v' : World) (q : P) (s' : Stats) (event : Event) (report : Report) (out out' : Datagram) (went : Bool) → event ≡ t.event → IsEvent t.event
+  pub did-step : (v' : State) (q : P) (s' : Stats) (event : Event) (report : Report) (out out' : Datagram) (went : Bool) → event ≡ t.event → IsEvent t.event
       → Does (step_of v t.now t.draw (grown_of report.outcome) event) report out out' v' → CarriesOn v (entry_told t.now t.draw event report out'.bytes) v'
       → HandsOver takes m (told report out'.bytes) went q → clock q ≡ clock m → failures q ≡ failures p
       → s' ≡ with_turn false (is_some report.send) went s → sees a (told_done t event report out'.bytes went v') b
@@ -54,13 +54,13 @@ module _ {P W : Type 0} (gives : P → ℕ → Turn → P → Type 0) (takes : P
       does = (m, gave, subst (λ (d : Option (Endpoint × List ℕ)). HandsOver takes m d went q) sent handed);
       asked = asked;
       lost = λ (h : false ≡ true). absurd cc;
-      world = done.2;
+      state = done.2;
       carries = λ history c. subst (λ (e : Entry). Carries (e ∷ history) v') entry (on history c);
       counted = counted ∙ ap (λ (b : Bool). with_turn false b went s) (sym (is_some-map (λ to. (to, out'.bytes)) report.send) ∙ ap (λ (d : Option (Endpoint × List ℕ)). is_some d) sent);
       told = arrives;
       moment = still-now ∙ moment;
-      onward = omega (arith, ap (λ (w : World). w.last) done.2, clock-is.0, still-now, moment);
-      events = omega (arith, ap (λ (w : World). w.events) done.2, clock-is.1);
+      onward = omega (arith, ap (λ (w : State). w.last) done.2, clock-is.0, still-now, moment);
+      events = omega (arith, ap (λ (w : State). w.events) done.2, clock-is.1);
       still = still;
     };
     told = subst (λ (u : Told). sees a u b) told-is seen;
@@ -84,18 +84,18 @@ module _ {P W : Type 0} (gives : P → ℕ → Turn → P → Type 0) (takes : P
       entry : entry_told t.now t.draw t.event report out'.bytes ≡ entry_told t.now t.draw t.event step.report step.bytes
       entry = ap (entry_told t.now t.draw t.event report) spelled ∙ ap (λ (r : Report). entry_told t.now t.draw t.event r step.bytes) done.0
 
-      told-is : told_done t event report out'.bytes went v' ≡ told_done t t.event step.report step.bytes went step.world
+      told-is : told_done t event report out'.bytes went v' ≡ told_done t t.event step.report step.bytes went step.state
       told-is =
           ap (λ (e : Event). told_done t e report out'.bytes went v') same
           ∙ ap (λ (r : Report). told_done t t.event r out'.bytes went v') done.0
           ∙ ap (λ (bs : List ℕ). told_done t t.event step.report bs went v') spelled
           ∙ ap (told_done t t.event step.report step.bytes went) done.2
 
-      clock-is : (step.world.last ≡ t.now) × (step.world.events ≡ v.events + 1)
+      clock-is : (step.state.last ≡ t.now) × (step.state.events ≡ v.events + 1)
       clock-is = clock_after v t.now t.draw (grown_of report.outcome) t.event bytes
 
   -- a step ran out of memory
-  pub did-nothing : (v' : World) (s' : Stats) (event : Event) → event ≡ t.event → v' ≡ v → wants_memory (step_of v t.now t.draw true event) ≡ true
+  pub did-nothing : (v' : State) (s' : Stats) (event : Event) → event ≡ t.event → v' ≡ v → wants_memory (step_of v t.now t.draw true event) ≡ true
       → v.last ≤ t.now → failures m ≡ failures p → s' ≡ with_turn true false false s → sees a (told_lost t event v') b
       → DidWatched gives takes sees clock failures came v p a s v' m b s' arrived
   did-nothing v' s' event same nothing memory onward still counted seen = record {
@@ -104,13 +104,13 @@ module _ {P W : Type 0} (gives : P → ℕ → Turn → P → Type 0) (takes : P
       does = (m, gave, refl);
       asked = asked;
       lost = λ h. subst (λ (e : Event). wants_memory (step_of v t.now t.draw true e) ≡ true) same memory;
-      world = nothing;
-      carries = λ history c. subst (λ (w : World). Carries history w) (sym nothing) c;
+      state = nothing;
+      carries = λ history c. subst (λ (w : State). Carries history w) (sym nothing) c;
       counted = counted;
       told = arrives;
       moment = moment;
-      onward = omega (arith, ap (λ (w : World). w.last) nothing, onward, moment);
-      events = omega (arith, ap (λ (w : World). w.events) nothing);
+      onward = omega (arith, ap (λ (w : State). w.last) nothing, onward, moment);
+      events = omega (arith, ap (λ (w : State). w.events) nothing);
       still = still;
     };
     told = subst (λ (u : Told). sees a u b) (ap (λ (e : Event). told_lost t e v') same ∙ ap (told_lost t t.event) nothing) seen;

@@ -9,7 +9,7 @@ use Rattle.coap_model.specs.Runs.{Turn, Taken, Run, one_turn, step_taken}
 use Rattle.coap_model.specs.Step.{step_of}
 use Rattle.coap_model.specs.Ticks.{next_due}
 use Rattle.coap_model.specs.Word.{KeepsItsWord}
-use Rattle.coap_model.specs.World.{Step, World}
+use Rattle.coap_model.specs.State.{Step, State}
 use Rattle.coap_core.specs.Steps.{wants_memory}
 use Rattle.coap_watch.specs.Told.{Told}
 use Rattle.coap_watch.specs.Watched.{WasTold}
@@ -40,7 +40,7 @@ run_given r g = if g.lost then r else one_turn r (taken_of g)
 abbrev pub datagram_of : Step → Option (Endpoint × List ℕ)
 datagram_of s = option_map (λ to. (to, s.bytes)) s.report.send
 
-abbrev pub sent_at : World → Given → Option (Endpoint × List ℕ)
+abbrev pub sent_at : State → Given → Option (Endpoint × List ℕ)
 sent_at w g = if g.lost then None else datagram_of (step_taken w (taken_of g))
 
 -- ---- how long a port is asked to wait
@@ -63,11 +63,11 @@ abbrev pub run_by : Run → List Given → Run
 run_by r [] = r
 run_by r (g ∷ before) = run_given (run_by r before) g
 
-abbrev pub run_at : World → List Entry → Run
-run_at w history = record { world = w; history = history }
+abbrev pub run_at : State → List Entry → Run
+run_at w history = record { state = w; history = history }
 
-abbrev pub world_by : World → List Given → World
-world_by w givens = (run_by (run_at w []) givens).world
+abbrev pub world_by : State → List Given → State
+world_by w givens = (run_by (run_at w []) givens).state
 
 -- whether the last was a datagram, and its moment
 abbrev pub came_last : List Given → Bool
@@ -79,41 +79,41 @@ last_moment first [] = first
 last_moment first (g ∷ before) = g.turn.now
 
 -- each was requested with the wait that `wait_for` gives
-abbrev pub AreAsked : World → ℕ → List Given → Type 0
+abbrev pub AreAsked : State → ℕ → List Given → Type 0
 AreAsked w first [] = Unit {0}
 AreAsked w first (g ∷ before) =
     (g.wait ≡ wait_for (came_last before) (last_moment first before) (next_due (world_by w before)))
     × AreAsked w first before
 
 -- whether the step of a turn may allocate
-abbrev pub takes_some : World → Turn → Bool
+abbrev pub takes_some : State → Turn → Bool
 takes_some w t = wants_memory (step_of w t.now t.draw true t.event)
 
 -- only a turn whose step may allocate is lost
-abbrev pub AreLostForMemory : World → List Given → Type 0
+abbrev pub AreLostForMemory : State → List Given → Type 0
 AreLostForMemory w [] = Unit {0}
 AreLostForMemory w (g ∷ before) =
     (g.lost ≡ true → takes_some (world_by w before) g.turn ≡ true)
     × AreLostForMemory w before
 
 -- the counts of these turns
-abbrev pub stats_of : World → List Given → Stats
+abbrev pub stats_of : State → List Given → Stats
 stats_of w [] = no_stats
 stats_of w (g ∷ before) =
     with_turn g.lost (is_some (sent_at (world_by w before) g)) g.went (stats_of w before)
 
 -- ---- what a watcher is told
 
-abbrev pub told_by : World → Given → Told
+abbrev pub told_by : State → Given → Told
 told_by w g = record {
   turn = g.turn;
   report = if g.lost then None else Some (step_taken w (taken_of g)).report;
   bytes = if g.lost then [] else (step_taken w (taken_of g)).bytes;
   went = g.went;
-  world = (run_given (run_at w []) g).world;
+  state = (run_given (run_at w []) g).state;
 }
 
-abbrev pub tolds_of : World → List Given → List Told
+abbrev pub tolds_of : State → List Given → List Told
 tolds_of w [] = []
 tolds_of w (g ∷ before) = told_by (world_by w before) g ∷ tolds_of w before
 
@@ -128,23 +128,23 @@ HandsOver takes p (Some d) went q = takes p d.0 d.1 went q
 module _ {P : Type 0} (gives : P → ℕ → Turn → P → Type 0)
     (takes : P → Endpoint → List ℕ → Bool → P → Type 0) where
   -- a port gave a turn, and was handed what its step sent
-  abbrev pub DoesTurn : World → P → Given → P → Type 0
+  abbrev pub DoesTurn : State → P → Given → P → Type 0
   DoesTurn w p g q = (m : P) × gives p g.wait g.turn m × HandsOver takes m (sent_at w g) g.went q
 
   -- it gave these turns, one after the other, and was handed what they sent, and nothing else
-  abbrev pub LeadsTo : World → P → List Given → P → Type 0
+  abbrev pub LeadsTo : State → P → List Given → P → Type 0
   LeadsTo w p [] q = q ≡ p
   LeadsTo w p (g ∷ before) q = (m : P) × LeadsTo w p before m × DoesTurn (world_by w before) m g q
 
   -- A proxy was driven over a port, starting at the moment `first`, and the port gave turns, here
   -- the newest first. The proxy did these turns and nothing else, so that it carries their history
   -- in front of any that it carried before, and keeps its word about that.
-  pub record IsDriven (first : ℕ) (w : World) (p : P) (v : World) (q : P) (s : Stats) : Type 0 where
+  pub record IsDriven (first : ℕ) (w : State) (p : P) (v : State) (q : P) (s : Stats) : Type 0 where
     pub givens : List Given
     pub leads : LeadsTo w p givens q
     pub asked : AreAsked w first givens
     pub lost : AreLostForMemory w givens
-    pub world : v ≡ world_by w givens
+    pub state : v ≡ world_by w givens
     pub carries : (history : List Entry) → Carries history w
         → Carries (run_by (run_at w history) givens).history v
     pub word : (history : List Entry) → Carries history w
@@ -155,7 +155,7 @@ module _ {P : Type 0} (gives : P → ℕ → Turn → P → Type 0)
   --   Ok: after this many turns.
   --   The port failed: at the turn after those that are counted.
   --   Out of memory: before the first turn.
-  abbrev pub Ends : (P → ℕ) → (P → ℕ) → ℕ → World → P → World → P → Result Stats DriveError
+  abbrev pub Ends : (P → ℕ) → (P → ℕ) → ℕ → State → P → State → P → Result Stats DriveError
       → Type 0
   Ends clock failures turns w p v q (Ok s) =
       IsDriven (clock p) w p v q s × (s.turns ≡ turns) × (failures q ≡ failures p)
@@ -165,12 +165,12 @@ module _ {P : Type 0} (gives : P → ℕ → Turn → P → Type 0)
 
   -- The same, with a watcher that was told each of these turns, in order, and nothing else.
   module _ {W : Type 0} (sees : W → Told → W → Type 0) where
-    pub record IsWatched (first : ℕ) (w : World) (p : P) (a : W) (v : World) (q : P) (b : W)
+    pub record IsWatched (first : ℕ) (w : State) (p : P) (a : W) (v : State) (q : P) (b : W)
         (s : Stats) : Type 0 where
       pub driven : IsDriven first w p v q s
       pub told : WasTold sees a (tolds_of w driven.givens) b
 
-    abbrev pub EndsWatched : (P → ℕ) → (P → ℕ) → ℕ → World → P → W → World → P → W
+    abbrev pub EndsWatched : (P → ℕ) → (P → ℕ) → ℕ → State → P → W → State → P → W
         → Result Stats DriveError → Type 0
     EndsWatched clock failures turns w p a v q b (Ok s) =
         IsWatched (clock p) w p a v q b s × (s.turns ≡ turns) × (failures q ≡ failures p)
@@ -180,13 +180,13 @@ module _ {P : Type 0} (gives : P → ℕ → Turn → P → Type 0)
         (v ≡ w) × (q ≡ p) × (b ≡ a)
 
   -- One turn; `came` says whether the turn before was a datagram.
-  pub record DidTurn (clock failures : P → ℕ) (came : Bool) (v : World) (p : P) (s : Stats)
-      (v' : World) (q : P) (s' : Stats) (arrived : Bool) : Type 0 where
+  pub record DidTurn (clock failures : P → ℕ) (came : Bool) (v : State) (p : P) (s : Stats)
+      (v' : State) (q : P) (s' : Stats) (arrived : Bool) : Type 0 where
     pub given : Given
     pub does : DoesTurn v p given q
     pub asked : given.wait ≡ wait_for came (clock p) (next_due v)
     pub lost : given.lost ≡ true → takes_some v given.turn ≡ true
-    pub world : v' ≡ (run_given (run_at v []) given).world
+    pub state : v' ≡ (run_given (run_at v []) given).state
     pub carries : (history : List Entry) → Carries history v
         → Carries (run_given (run_at v history) given).history v'
     pub counted : s' ≡ with_turn given.lost (is_some (sent_at v given)) given.went s
@@ -198,7 +198,7 @@ module _ {P : Type 0} (gives : P → ℕ → Turn → P → Type 0)
 
   -- One turn, of which a watcher was told.
   pub record DidWatched {W : Type 0} (sees : W → Told → W → Type 0) (clock failures : P → ℕ)
-      (came : Bool) (v : World) (p : P) (a : W) (s : Stats) (v' : World) (q : P) (b : W)
+      (came : Bool) (v : State) (p : P) (a : W) (s : Stats) (v' : State) (q : P) (b : W)
       (s' : Stats) (arrived : Bool) : Type 0 where
     pub did : DidTurn clock failures came v p s v' q s' arrived
     pub told : sees a (told_by v did.given) b

@@ -1,5 +1,5 @@
 //! The loop that drives a core over a port.
-ghost use Rattle.std.specs.Prelude.{◌≤◌, ◌<◌, ◌+◌, ◌^◌};
+ghost use Rattle.std.specs.Prelude.{◌≤◌, ◌<◌, ◌+◌, ◌^◌, IfOk};
 ghost use Rattle.coap_port.specs.Driven.{Ends, EndsWatched};
 
 use crate::error::{DriveError, PortFault};
@@ -24,6 +24,11 @@ use std::alloc::Global;
 /// # Errors
 /// `Port` if the port failed, with the counts of the turns before; `OutOfMemory` if there was no
 /// memory for the two buffers, in which case nothing was done.
+///
+/// # How many turns
+/// Every call ends, since every function is proved to return. So a program gets control back after
+/// `turns` turns, and may call again for more. A server that is to run for ever takes `1 << 63`, the
+/// most that a new core can handle: at a million turns a second they take 292,000 years.
 pub fn drive<P: Port, S: Store + Drop>(
     alloc: Global,
     core: &mut Core<S>,
@@ -33,8 +38,10 @@ pub fn drive<P: Port, S: Store + Drop>(
     requires events { core.old.events + turns ≤ 2 ^ 63 }
     requires onward { core.old.last ≤ P.clock port.old }
     requires failures { P.failures port.old < 2 ^ 63 }
-    ensures { Ends (P.gives (core.old.setting.limits.datagram + 1)) P.takes P.clock P.failures turns
-        core.old port.old core.new port.new result }
+    ensures ends { Ends (P.gives (core.old.setting.limits.datagram + 1)) P.takes P.clock P.failures
+        turns core.old port.old core.new port.new result }
+    ensures events { core.new.events ≤ core.old.events + turns }
+    ensures onward { IfOk result (λ _. core.new.last ≤ P.clock port.new) }
 {
     drive_watched(alloc, core, port, &mut Unwatched, turns)
 }
@@ -54,8 +61,11 @@ pub fn drive_watched<P: Port, S: Store + Drop, W: Watch>(
     requires events { core.old.events + turns ≤ 2 ^ 63 }
     requires onward { core.old.last ≤ P.clock port.old }
     requires failures { P.failures port.old < 2 ^ 63 }
-    ensures { EndsWatched (P.gives (core.old.setting.limits.datagram + 1)) P.takes W.sees P.clock
-        P.failures turns core.old port.old watcher.old core.new port.new watcher.new result }
+    ensures ends { EndsWatched (P.gives (core.old.setting.limits.datagram + 1)) P.takes W.sees
+        P.clock P.failures turns core.old port.old watcher.old core.new port.new watcher.new
+        result }
+    ensures events { core.new.events ≤ core.old.events + turns }
+    ensures onward { IfOk result (λ _. core.new.last ≤ P.clock port.new) }
 {
     let longest = core.datagram();
     let Some(room) = longest.checked_add(1) else {

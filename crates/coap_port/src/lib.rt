@@ -4,9 +4,13 @@
 //!
 //! ```rust
 //! let mut port = MemoryPort::new(alloc, None);
-//! port.add(Scripted { now: 5, draw: 250, datagram: Some((client, request)) })?;
+//! port.add(Scripted {
+//!     now: 5,
+//!     draw: 250,
+//!     datagram: Some((client, request)),
+//! })?;
 //! let stats = drive(alloc, &mut core, &mut port, 2)?;
-//! assert_eq!((stats.turns, stats.sent, port.handed().len()), (2, 1, 1));
+//! assert_eq!(rt; (stats.turns, stats.sent, port.handed().len()), (2, 1, 1));
 //! ```
 #![tactic(auto)]
 

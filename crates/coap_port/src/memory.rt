@@ -6,13 +6,10 @@ ghost use Rattle.coap_port.specs.Memory as spec;
 use crate::error::PortFault;
 use crate::port::{Port, Turn};
 use coap_endpoint::Endpoint;
-use coap_message::{Datagram, OutOfMemory, Seq};
+use coap_message::{Datagram, LAST_MOMENT, MOST_JITTER, OutOfMemory, Seq};
 use std::alloc::Global;
 use std::collections::VecDeque;
 use std::marker::Model;
-
-/// The last moment that a port may give: 2^62 ms.
-const LAST_MOMENT: u64 = 1 << 62;
 
 /// A turn of a script: a moment, a draw, and a datagram with its source, or none for a tick.
 #[derive(Drop)]
@@ -117,7 +114,7 @@ fn turn_of(scripted: Scripted, last: u64, into: &mut Datagram) -> Turn
     ensures room { into.new.room ≡ into.old.room }
 {
     let now = scripted.now.min(LAST_MOMENT).max(last);
-    let draw = scripted.draw.min(1000);
+    let draw = scripted.draw.min(MOST_JITTER);
     let from = match scripted.datagram {
         Some((from, bytes)) => {
             into.put(bytes.as_slice());

@@ -42,7 +42,8 @@ pub trait Port {
 
     /// The next turn: a datagram if one comes within `wait` milliseconds, or else a tick. Without a
     /// wait it is a tick, and nothing is read. The datagram replaces what the buffer holds, cut to
-    /// the buffer's room.
+    /// the buffer's room. So a buffer for a core has room for one byte more than the core's
+    /// `datagram()`, as that of `drive` has: the core then sees that a datagram is too long.
     ///
     /// # Errors
     /// The port can't be used any more. Never happens without a wait.

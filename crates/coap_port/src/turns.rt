@@ -2,7 +2,7 @@
 ghost use Rattle.std.specs.Prelude.{◌≡◌, ◌≤◌, ◌<◌, ◌+◌, ◌^◌, [], None, Some, false, IfOk, OnErr, is_some, length, option_map};
 ghost use Rattle.coap_message.specs.Uint.{IsBytes};
 ghost use Rattle.coap_model.specs.Events.{IsEvent};
-ghost use Rattle.coap_model.specs.World.{World};
+ghost use Rattle.coap_model.specs.State.{State};
 ghost use Rattle.coap_core.specs.Events.{seen};
 ghost use Rattle.coap_watch.specs.Told.{told};
 ghost use Rattle.coap_port.specs.Driven as spec;
@@ -90,12 +90,12 @@ fn count(stats: &mut Stats, lost: bool, sent: bool, went: bool)
 
 /// What a watcher is told of a turn that was done.
 fn done<'a>(turn: Turn, event: Event<'a>, report: Report, sent: &'a [u8], went: bool) -> Seen<'a>
-    ensures { (w : World) → told result w ≡ record {
+    ensures { (w : State) → told result w ≡ record {
       turn = record { now = turn.now; draw = turn.draw; event = seen event.entry };
       report = Some report;
       bytes = sent.entry.now;
       went = went;
-      world = w;
+      state = w;
     } }
 {
     Seen {
@@ -110,12 +110,12 @@ fn done<'a>(turn: Turn, event: Event<'a>, report: Report, sent: &'a [u8], went: 
 
 /// What a watcher is told of a turn that was lost.
 fn lost<'a>(turn: Turn, event: Event<'a>) -> Seen<'a>
-    ensures { (w : World) → told result w ≡ record {
+    ensures { (w : State) → told result w ≡ record {
       turn = record { now = turn.now; draw = turn.draw; event = seen event.entry };
       report = None;
       bytes = [];
       went = false;
-      world = w;
+      state = w;
     } }
 {
     Seen {

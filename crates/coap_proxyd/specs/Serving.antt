@@ -3,7 +3,7 @@ use Rattle.std.specs.Prelude.{◌≡◌, ◌⊎◌, ℕ, min, Bool, List, [], Op
 use Rattle.std.specs.Io.KnownBytes.{Appends}
 use Rattle.std.specs.Option.{unwrap_or}
 use Rattle.coap_model.specs.Runs.{Turn}
-use Rattle.coap_model.specs.World.{World, counts}
+use Rattle.coap_model.specs.State.{State, counts}
 use Rattle.coap_model.specs.declared.report.Counts.{Counts}
 use Rattle.coap_port.specs.Driven as port
 use Rattle.coap_port.specs.declared.error.DriveError.{DriveError}
@@ -31,15 +31,15 @@ ended_as (Err e) = Err (replay_fault e)
 
 -- a replay by that proxy, of at most `turns` turns; or memory ran out before it, and nothing was
 -- written
-abbrev pub IsServed : ℕ → World → Option (List ℕ) → Option (List ℕ) → Option (List ℕ)
+abbrev pub IsServed : ℕ → State → Option (List ℕ) → Option (List ℕ) → Option (List ℕ)
     → Result (Unit {0}) Fault → Type 0
 IsServed turns proxy input old new result = ((result ≡ Err OutOfMemory) × Appends old new [])
-    ⊎ ((after : World) × (left : Option (List ℕ)) × (replayed : Result ℕ ReplayError)
+    ⊎ ((after : State) × (left : Option (List ℕ)) × (replayed : Result ℕ ReplayError)
     × IsReplayed proxy after turns input left old new replayed × (result ≡ ended_as replayed))
 
 -- a watcher was told of turns of that proxy, in order, from its first one on
-abbrev pub IsTold : {V : Type 0} → (V → Told → V → Type 0) → World → V → V → Type 0
-IsTold sees proxy a b = (after : World) × replay.IsTold sees proxy a after b
+abbrev pub IsTold : {V : Type 0} → (V → Told → V → Type 0) → State → V → V → Type 0
+IsTold sees proxy a b = (after : State) × replay.IsTold sees proxy a after b
 
 -- ---- over a port
 
@@ -51,27 +51,27 @@ driven_as (Err e) = Err (drive_fault e)
 -- that proxy is driven over the port for `turns` turns; or there was no memory for the proxy, and
 -- nothing was done
 abbrev pub IsServedOver : {P : Type 0} → (P → ℕ → Turn → P → Type 0)
-    → (P → Endpoint → List ℕ → Bool → P → Type 0) → (P → ℕ) → (P → ℕ) → ℕ → World → P → P
+    → (P → Endpoint → List ℕ → Bool → P → Type 0) → (P → ℕ) → (P → ℕ) → ℕ → State → P → P
     → Result (Unit {0}) Fault → Type 0
 IsServedOver gives takes clock failures turns proxy p q result =
     ((result ≡ Err OutOfMemory) × (q ≡ p))
-    ⊎ ((after : World) × (driven : Result Stats DriveError)
+    ⊎ ((after : State) × (driven : Result Stats DriveError)
     × port.Ends gives takes clock failures turns proxy p after q driven
     × (result ≡ driven_as driven))
 
 -- ---- over a port, with a watcher
 
 -- how it ends, with how much the proxy holds then
-abbrev pub counted_as : World → Result Stats DriveError → Result Counts Fault
+abbrev pub counted_as : State → Result Stats DriveError → Result Counts Fault
 counted_as after (Ok stats) = Ok (counts after)
 counted_as after (Err e) = Err (drive_fault e)
 
 -- the same, and the watcher was told each turn; or nothing was done, and it was told nothing
 abbrev pub IsWatchedOver : {P W : Type 0} → (P → ℕ → Turn → P → Type 0)
     → (P → Endpoint → List ℕ → Bool → P → Type 0) → (W → Told → W → Type 0) → (P → ℕ) → (P → ℕ)
-    → ℕ → World → P → W → P → W → Result Counts Fault → Type 0
+    → ℕ → State → P → W → P → W → Result Counts Fault → Type 0
 IsWatchedOver gives takes sees clock failures turns proxy p a q b result =
     ((result ≡ Err OutOfMemory) × (q ≡ p) × (b ≡ a))
-    ⊎ ((after : World) × (driven : Result Stats DriveError)
+    ⊎ ((after : State) × (driven : Result Stats DriveError)
     × port.EndsWatched gives takes sees clock failures turns proxy p a after q b driven
     × (result ≡ counted_as after driven))

@@ -5,9 +5,14 @@
 //!
 //! ```rust
 //! let wanted = read_wanted(alloc, &words)?;
-//! let plan = read_plan(alloc, wanted, configuration)?; // the bytes of the file, if one is named
-//! let mut port = UdpPort::bind(rt, alloc, plan.local)?;
-//! serve_port::<_, ListStore>(alloc, (), plan, first_id, salt, &mut port)?;
+//! let plan = read_plan(alloc, wanted, None)?; // or the bytes of a configuration
+//! let mut port = MemoryPort::new(alloc, None); // or a UdpPort at `plan.local`
+//! port.add(Scripted {
+//!     now: 5,
+//!     draw: 250,
+//!     datagram: None,
+//! })?;
+//! serve_port::<_, ListStore>(alloc, (), plan, 1, 0, &mut port)?;
 //! ```
 #![tactic(auto)]
 
@@ -18,12 +23,19 @@ mod recording;
 mod serving;
 mod words;
 
+pub use coap_core::{
+    Code, Core, Counts, Datagram, Endpoint, Event, Ip, LimitError, LimitValues, Limits,
+    OutOfMemory, Outcome, Report, RouteError, Routes, Store, Storing,
+};
 pub use coap_port::{
     DriveError, Handed, MemoryPort, Port, PortFault, Scripted, Seen, Stats, Turn, Unwatched, Watch,
     drive, drive_watched,
 };
 pub use coap_record::{HeaderError, Recording, Start, header_of};
 pub use coap_replay::{ReplayError, replay};
+pub use coap_store_list::ListStore;
+pub use coap_store_lru::LruStore;
+pub use coap_udp::UdpPort;
 pub use coap_words::{
     Config, ConfigError, KeyName, MapOptionError, ProxyOption, ProxyOptionError, Settings, VERSION,
     WordsError, parse_map_option, parse_proxy_option, read_config, read_words,

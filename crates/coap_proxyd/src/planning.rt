@@ -1,6 +1,6 @@
 //! What the program is to do, by its words and its configuration.
 ghost use Rattle.std.specs.Prelude.{◌≡◌, IfOk, Ok, option_map, string_bytes};
-ghost use Rattle.coap_model.specs.World.{new_world};
+ghost use Rattle.coap_model.specs.State.{new_world};
 ghost use Rattle.coap_target.specs.RouteTexts.{pair_of};
 ghost use Rattle.coap_uri.specs.Answer.{Says};
 ghost use Rattle.coap_words.specs.ConfigView as view;

@@ -1,6 +1,6 @@
 //! What the program does for its plan: over an input, or over a port.
 ghost use Rattle.std.specs.Prelude.{◌≡◌, ◌<◌, ◌+◌, ◌^◌};
-ghost use Rattle.coap_model.specs.World.{new_world};
+ghost use Rattle.coap_model.specs.State.{new_world};
 ghost use Rattle.coap_proxyd.specs.Planning.{setting_of};
 ghost use Rattle.coap_proxyd.specs.Serving as spec;
 

@@ -5,7 +5,7 @@ use Rattle.std.proofs.KnownBytes.{Appends-nil, Appends-trans}
 use Rattle.std.proofs.lemmas.Bool.{false≢true}
 use Rattle.coap_endpoint.specs.declared.endpoint.Endpoint.{Endpoint}
 use Rattle.coap_model.specs.Runs.{Turn}
-use Rattle.coap_model.specs.World.{World}
+use Rattle.coap_model.specs.State.{State}
 use Rattle.coap_lines.specs.Lines.{ended}
 use Rattle.coap_lines.specs.Turns.{IsReadAs, turn_line, turn_text}
 use Rattle.coap_port.specs.Driven.{Given, HandsOver, LeadsTo, is_arrival, last_moment, sent_at, world_by}
@@ -104,7 +104,7 @@ module _ {P W : Type 0} (contents : W → Option (List ℕ)) where
       pub read : AreRead (clock p.port) givens
       pub moment : clock q.port ≡ last_moment (clock p.port) givens
 
-    pub run-recorded : (room : ℕ) (w : World) (p q : Recorder P W) (givens : List Given) → LeadsTo (Gives gives clock contents room) (Takes takes clock) w p givens q → q.ended ≡ false → IsRecorded p q givens
+    pub run-recorded : (room : ℕ) (w : State) (p q : Recorder P W) (givens : List Given) → LeadsTo (Gives gives clock contents room) (Takes takes clock) w p givens q → q.ended ≡ false → IsRecorded p q givens
     run-recorded room w p q [] same on = record {
       before = ap (λ (x : Recorder P W). x.ended) (sym same) ∙ on;
       grows = subst (λ (x : Recorder P W). Appends (recorded contents p) (recorded contents x) []) (sym same) (Appends-nil (recorded contents p));

@@ -5,7 +5,7 @@ use Rattle.std.proofs.lemmas.List.{length-append}
 use Rattle.std.specs.Io.KnownBytes.{Appends}
 use Rattle.coap_endpoint.specs.declared.endpoint.Endpoint.{Endpoint}
 use Rattle.coap_model.specs.Runs.{Run, Taken, Turn, one_turn, run_of, step_taken, turns_of}
-use Rattle.coap_model.specs.World.{Step, World}
+use Rattle.coap_model.specs.State.{Step, State}
 use Rattle.coap_lines.specs.Lines.{ended, lines_of}
 use Rattle.coap_lines.specs.Scripts.{AsksFor, Script, script_from, with_turn}
 use Rattle.coap_port.specs.Driven.{Given, IsDriven, run_at, run_by, sent_at, taken_of, world_by}
@@ -28,7 +28,7 @@ run-same r (g ∷ before) done =
     run-more r (in_order before) (taken_of g) ∙ ap (λ (q : Run). one_turn q (taken_of g)) front ∙ here
 
 -- the line of what a step sends
-line-same : (w : World) (g : Given) → g.lost ≡ false → line_sent w (taken_of g) ≡ line_for g.turn.now (sent_at w g)
+line-same : (w : State) (g : Given) → g.lost ≡ false → line_sent w (taken_of g) ≡ line_for g.turn.now (sent_at w g)
 line-same w g done = rw done (go (step_taken w (taken_of g)).report.send)
   where
     step : Step
@@ -39,12 +39,12 @@ line-same w g done = rw done (go (step_taken w (taken_of g)).report.send)
     go (Some to) = refl
 
 -- what a replay of these turns writes is the lines of what was handed to the port
-output-same : (w : World) (givens : List Given) → AreDone givens → output_of w (in_order givens) ≡ lines_handed w givens
+output-same : (w : State) (givens : List Given) → AreDone givens → output_of w (in_order givens) ≡ lines_handed w givens
 output-same w [] done = refl
 output-same w (g ∷ before) done =
-    let at : (run_of (run_at w []) (in_order before)).world ≡ world_by w before = ap (λ (r : Run). r.world) (run-same (run_at w []) before done.1) in
+    let at : (run_of (run_at w []) (in_order before)).state ≡ world_by w before = ap (λ (r : Run). r.state) (run-same (run_at w []) before done.1) in
     output-more (run_at w []) (in_order before) (taken_of g)
-    ∙ ap₂ (λ (front line : List ℕ). front ++ line) (output-same w before done.1) (ap (λ (u : World). line_sent u (taken_of g)) at ∙ line-same (world_by w before) g done.0)
+    ∙ ap₂ (λ (front line : List ℕ). front ++ line) (output-same w before done.1) (ap (λ (u : State). line_sent u (taken_of g)) at ∙ line-same (world_by w before) g done.0)
 
 -- turns that are the same and found as much memory
 pub taken-same : (ts us : List Taken) → turns_of ts ≡ turns_of us → memory_of ts ≡ memory_of us → ts ≡ us
@@ -74,7 +74,7 @@ none [] few = refl
 none (t ∷ ts) few = absurd (omega (arith, few))
 
 -- as many turns of an input as it has are all of them
-all-turns : (w : World) (input : List ℕ) (left : Option (List ℕ)) (turns : List Taken) (all : List Turn) (most : ℕ) → script_for w input ≡ record { turns = all; bad = None } → length all ≤ most
+all-turns : (w : State) (input : List ℕ) (left : Option (List ℕ)) (turns : List Taken) (all : List Turn) (most : ℕ) → script_for w input ≡ record { turns = all; bad = None } → length all ≤ most
     → IsThrough w most input left turns → turns_of turns ≡ all
 all-turns w input left turns all most asks few (inl (fewer, done)) = ap (λ (s : Script). s.turns) (sym done ∙ asks)
 all-turns w input left turns all most asks few (inr (many, inl (nothing, unread))) =
@@ -87,19 +87,19 @@ all-turns w input left turns all most asks few (inr (many, inr (before, last, ar
     ap turns_of are ∙ turns_of-more before last ∙ ap (λ (l : List Turn). turns_of before ++ last.turn ∷ l) (sym none-left) ∙ whole
 
 -- a replay that ends well, with as much memory, does what was done in the run
-replayed : (w : World) (givens : List Given) (input : List ℕ) → AreDone givens → script_for w input ≡ record { turns = turns_of (in_order givens); bad = None }
-    → (v : World) (most : ℕ) (left old new : Option (List ℕ)) (count : ℕ) (r : IsReplayed w v most (Some input) left old new (Ok count)) → length givens ≤ most
+replayed : (w : State) (givens : List Given) (input : List ℕ) → AreDone givens → script_for w input ≡ record { turns = turns_of (in_order givens); bad = None }
+    → (v : State) (most : ℕ) (left old new : Option (List ℕ)) (count : ℕ) (r : IsReplayed w v most (Some input) left old new (Ok count)) → length givens ≤ most
     → memory_of r.turns ≡ memory_of (in_order givens) → (v ≡ world_by w givens) × Appends old new (lines_handed w givens)
 replayed w givens input done asks v most left old new count r few memory =
     let turns = all-turns w input left r.turns (turns_of (in_order givens)) most asks (omega (arith, few, length-order givens)) r.ends.3 in
     let same : r.turns ≡ in_order givens = taken-same r.turns (in_order givens) turns memory in
-    let world : v ≡ world_by w givens = r.done.world ∙ ap (world_after w) same ∙ ap (λ (q : Run). q.world) (run-same (run_at w []) givens done) in
+    let state : v ≡ world_by w givens = r.done.state ∙ ap (world_after w) same ∙ ap (λ (q : Run). q.state) (run-same (run_at w []) givens done) in
     let lines : output_of w r.turns ≡ lines_handed w givens = ap (output_of w) same ∙ output-same w givens done in
-    (world, subst (λ (l : List ℕ). Appends old new l) lines r.ends.2)
+    (state, subst (λ (l : List ℕ). Appends old new l) lines r.ends.2)
 
 -- a recording of a run can be replayed
 module _ {P W : Type 0} (gives : ℕ → P → ℕ → Turn → P → Type 0) (takes : P → Endpoint → List ℕ → Bool → P → Type 0) (clock : P → ℕ) (contents : W → Option (List ℕ)) where
-  pub replayable : (room first : ℕ) (w v : World) (p q : Recorder P W) (s : Stats) (head : List (List ℕ)) (text : List ℕ)
+  pub replayable : (room first : ℕ) (w v : State) (p q : Recorder P W) (s : Stats) (head : List (List ℕ)) (text : List ℕ)
       → (run : IsDriven (Gives gives clock contents room) (Takes takes clock) first w p v q s) → AreDone run.givens → q.ended ≡ false → w.last ≤ clock p.port
       → length head + length run.givens ≤ 2 ^ 62 → w.events + length run.givens ≤ 2 ^ 63 → AreSkipped head text → recorded contents p ≡ Some text
       → IfSome (recorded contents q) (IsReplayable w run.givens)

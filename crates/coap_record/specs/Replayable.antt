@@ -4,7 +4,7 @@ use Rattle.std.specs.Io.KnownBytes.{Appends}
 use Rattle.std.specs.List.{AllByRecursion}
 use Rattle.coap_endpoint.specs.declared.endpoint.Endpoint.{Endpoint}
 use Rattle.coap_model.specs.Runs.{Taken, run_of, turns_of}
-use Rattle.coap_model.specs.World.{World}
+use Rattle.coap_model.specs.State.{State}
 use Rattle.coap_lines.specs.Lines.{ended, is_skipped, is_too_long, line_of}
 use Rattle.coap_lines.specs.Texts.{has, line_feed}
 use Rattle.coap_lines.specs.Turns.{turn_text}
@@ -33,7 +33,7 @@ line_for now None = []
 line_for now (Some datagram) = line_of now datagram.0 datagram.1
 
 -- the lines of the datagrams that were handed to the port, in order
-abbrev pub lines_handed : World → List Given → List ℕ
+abbrev pub lines_handed : State → List Given → List ℕ
 lines_handed w [] = []
 lines_handed w (g ∷ before) =
     lines_handed w before ++ line_for g.turn.now (sent_at (world_by w before) g)
@@ -57,10 +57,10 @@ memory_of taken = map (λ t. t.grown) taken
 --   same tables and the same history after them: the same reports and the same datagrams.
 --   So has one that replays the input, of which it may do at least as many turns, each with as much
 --   memory; and that replay writes the lines of exactly the datagrams that were handed to the port.
-pub record IsReplayable (w : World) (givens : List Given) (input : List ℕ) : Type 0 where
+pub record IsReplayable (w : State) (givens : List Given) (input : List ℕ) : Type 0 where
   pub asks : script_for w input ≡ record { turns = turns_of (in_order givens); bad = None }
   pub same : run_of (run_at w []) (in_order givens) ≡ run_by (run_at w []) givens
-  pub replayed : (v : World) (most : ℕ) (left old new : Option (List ℕ)) (count : ℕ)
+  pub replayed : (v : State) (most : ℕ) (left old new : Option (List ℕ)) (count : ℕ)
       (r : IsReplayed w v most (Some input) left old new (Ok count)) → length givens ≤ most
       → memory_of r.turns ≡ memory_of (in_order givens)
       → (v ≡ world_by w givens) × Appends old new (lines_handed w givens)

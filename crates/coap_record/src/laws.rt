@@ -1,6 +1,6 @@
 //! Laws of recordings: public functions that do nothing, whose contracts are the laws.
 ghost use Rattle.std.specs.Prelude.{◌≡◌, ◌≤◌, ◌+◌, ◌^◌, ℕ, List, Some, false, length, IfSome};
-ghost use Rattle.coap_model.specs.World.{World};
+ghost use Rattle.coap_model.specs.State.{State};
 ghost use Rattle.coap_port.specs.Driven.{IsDriven};
 ghost use Rattle.coap_port.specs.declared.stats.Stats.{Stats};
 ghost use Rattle.coap_record.specs.Recorder.{Gives, Recorder, Takes, recorded};
@@ -16,7 +16,7 @@ use std::io::Write;
 /// replayed to the same tables and the same datagrams, by a proxy that starts as this one did. The
 /// numbers of lines and of events are within what a replay reads: 2^62 and 2^63.
 pub fn recorded_runs_are_replayable<P: Port, W: Write>()
-    ensures { (room first : ℕ) (w v : World) (p q : Recorder P W) (s : Stats)
+    ensures { (room first : ℕ) (w v : State) (p q : Recorder P W) (s : Stats)
         (head : List (List ℕ)) (text : List ℕ)
         → (run : IsDriven (Gives P.gives P.clock W.contents room) (Takes P.takes P.clock) first w p
         v q s) → AreDone run.givens → q.ended ≡ false → w.last ≤ P.clock p.port

@@ -3,11 +3,11 @@
 //! # First use
 //!
 //! ```rust
-//! let mut port = Recording::new(alloc, MemoryPort::new(alloc, None), Vec::new(alloc))?;
-//! drive(alloc, &mut core, &mut port, turns)?;
+//! let mut port = Recording::new(alloc, inner, Vec::new(alloc))?;
+//! drive(alloc, &mut core, &mut port, 1)?;
 //! port.finish();
-//! assert!(!port.has_ended());
-//! let recorded = port.writer().as_slice(); // `replay` of it does the same again
+//! assert!(rt; !port.has_ended());
+//! assert_eq!(rt; port.writer().as_slice(), b"5 250 tick\n".as_slice()); // `replay` does it again
 //! ```
 #![tactic(auto)]
 

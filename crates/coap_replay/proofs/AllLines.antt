@@ -3,7 +3,7 @@ use Rattle.std.proofs.Common.{◌≡◌, inl, inr, ℕ, ◌+◌, ◌-◌, ◌^�
 use Rattle.std.specs.Prelude.{IfSome}
 use Rattle.std.proofs.lemmas.Bool.{ltb-true}
 use Rattle.std.proofs.lemmas.List.{length-append}
-use Rattle.coap_model.specs.World.{World}
+use Rattle.coap_model.specs.State.{State}
 use Rattle.coap_model.specs.Runs.{Turn, Taken, turns_of}
 use Rattle.coap_lines.specs.Lines.{is_skipped, is_too_long, lines_of}
 use Rattle.coap_lines.specs.Scripts.{Script, bad_at, script_from, with_event, with_turn}
@@ -40,26 +40,26 @@ length-turns [] = refl
 length-turns (t ∷ ts) = omega (arith, length-turns ts)
 
 -- fewer than 2^64 - 1 turns were done before a line
-few-before : (w : World) (input : List ℕ) (before : List Taken) (line : ℕ) (left : List (List ℕ)) → IsUpTo w input before line left → length before ≤ 9223372036854775808
+few-before : (w : State) (input : List ℕ) (before : List Taken) (line : ℕ) (left : List (List ℕ)) → IsUpTo w input before line left → length before ≤ 9223372036854775808
 few-before w input before line left up =
     let script = ap (λ (s : Script). length s.turns) up.asked in
     let all = few-turns 1 w.last w.events (lines_of input) in
     omega (arith, script, all, length-append (turns_of before) (script_after w before line left).turns, length-turns before)
 
 -- so all lines were done
-all-done : (w : World) (i : List ℕ) (left : Option (List ℕ)) (turns : List Taken) → IsThrough w 18446744073709551615 i left turns → script_for w i ≡ record { turns = turns_of turns; bad = None }
+all-done : (w : State) (i : List ℕ) (left : Option (List ℕ)) (turns : List Taken) → IsThrough w 18446744073709551615 i left turns → script_for w i ≡ record { turns = turns_of turns; bad = None }
 all-done w i left turns (inl (few, all)) = all
 all-done w i left turns (inr (many, inl (none, unread))) = absurd (omega (arith, many, ap length none))
 all-done w i left turns (inr (many, inr (before, last, are, done, text, rest, line, split, is, after, up, asks))) =
     absurd (omega (arith, many, ap length are, length-append before (last ∷ []), few-before w i before _ _ up))
 
 -- the same for an input that may not be known
-of-known : (w : World) (input left : Option (List ℕ)) (turns : List Taken) → IfSome input (λ i. IsThrough w 18446744073709551615 i left turns) → IfSome input (λ i. script_for w i ≡ record { turns = turns_of turns; bad = None })
+of-known : (w : State) (input left : Option (List ℕ)) (turns : List Taken) → IfSome input (λ i. IsThrough w 18446744073709551615 i left turns) → IfSome input (λ i. script_for w i ≡ record { turns = turns_of turns; bad = None })
 of-known w None left turns through = tt
 of-known w (Some i) left turns through = all-done w i left turns through
 
 -- a replay of at most 2^64 - 1 turns is a replay of the whole input
-pub wholly : (w v : World) (input left old new : Option (List ℕ)) (result : Result ℕ ReplayError) → IsReplayed w v 18446744073709551615 input left old new result → IsWhollyReplayed w v input left old new result
+pub wholly : (w v : State) (input left old new : Option (List ℕ)) (result : Result ℕ ReplayError) → IsReplayed w v 18446744073709551615 input left old new result → IsWhollyReplayed w v input left old new result
 wholly w v input left old new (Ok n) is =
     record { turns = is.turns; done = is.done; ends = is.ends; whole = of-known w input left is.turns is.ends.3 }
 wholly w v input left old new (Err e) is = record { turns = is.turns; done = is.done; ends = is.ends; whole = tt }

@@ -9,7 +9,7 @@ use Rattle.coap_model.specs.History.{grown_of}
 use Rattle.coap_model.specs.Step.{step_of}
 use Rattle.coap_model.specs.declared.report.Report.{Report}
 use Rattle.coap_model.specs.Runs.{Run, Taken, Turn, one_turn, step_taken}
-use Rattle.coap_model.specs.World.{Step, World}
+use Rattle.coap_model.specs.State.{Step, State}
 use Rattle.coap_watch.specs.Told as watch
 use Rattle.coap_replay.specs.Replays.{DoesTurn, line_for, run_at, taken, world_after}
 use Rattle.coap_replay.specs.Watched.{AreTold, DoesTold, IsTold, TellsTurn, told_in}
@@ -18,12 +18,12 @@ use Rattle.coap_replay.specs.declared.error.ReplayError.TheVariants.{BadEvent, O
 use Rattle.coap_replay.proofs.Replaying.{run-apart, run-more}
 
 -- the tables after a turn and more turns
-after-more : (w : World) (u : Taken) (ts : List Taken) → world_after w (u ∷ ts) ≡ world_after (step_taken w u).world ts
-after-more w u ts = run-apart (one_turn (run_at w []) u) (run_at (step_taken w u).world []) ts refl
+after-more : (w : State) (u : Taken) (ts : List Taken) → world_after w (u ∷ ts) ≡ world_after (step_taken w u).state ts
+after-more w u ts = run-apart (one_turn (run_at w []) u) (run_at (step_taken w u).state []) ts refl
 
 -- what is told of a step
-abbrev pub told_of : ℕ → ℕ → Event → Report → List ℕ → World → watch.Told
-told_of now draw event report bytes w = record { turn = record { now = now; draw = draw; event = event }; report = Some report; bytes = bytes; went = true; world = w }
+abbrev pub told_of : ℕ → ℕ → Event → Report → List ℕ → State → watch.Told
+told_of now draw event report bytes w = record { turn = record { now = now; draw = draw; event = event }; report = Some report; bytes = bytes; went = true; state = w }
 
 -- what holds on an error holds if there is one
 pub err-holds : {T E P : Type 0} (r : Result T E) → is_err r ≡ true → OnErr r P → P
@@ -31,7 +31,7 @@ err-holds (Ok x) never p = absurd cc
 err-holds (Err e) true-is p = p
 
 -- a step was done, and its line was written in part
-pub failed-write : (w v : World) (t : Turn) (event : Event) (report : Report) (out out' : Datagram) (old new : Option (List ℕ)) (number : ℕ) (text : List ℕ) → event ≡ t.event
+pub failed-write : (w v : State) (t : Turn) (event : Event) (report : Report) (out out' : Datagram) (old new : Option (List ℕ)) (number : ℕ) (text : List ℕ) → event ≡ t.event
     → Does (step_of w t.now t.draw (grown_of report.outcome) event) report out out' v → text ≡ line_for t.now report.send out'.bytes
     → ((done rest : List ℕ) × (text ≡ done ++ rest) × (rest ≢ []) × Appends old new done) → DoesTurn w v t old new number (Err Write)
 failed-write w v t event report out out' old new number text same does line front =
@@ -43,12 +43,12 @@ failed-write w v t event report out out' old new number text same does line fron
 
 module _ {V : Type 0} (sees : V → watch.Told → V → Type 0) where
   -- a step that was done is told
-  pub step-told : (w v : World) (t : Turn) (event : Event) (report : Report) (out out' : Datagram) (a b : V) → event ≡ t.event → Does (step_of w t.now t.draw (grown_of report.outcome) event) report out out' v
+  pub step-told : (w v : State) (t : Turn) (event : Event) (report : Report) (out out' : Datagram) (a b : V) → event ≡ t.event → Does (step_of w t.now t.draw (grown_of report.outcome) event) report out out' v
       → sees a (told_of t.now t.draw event report out'.bytes v) b → DoesTold sees w a v b t
   step-told w v t event report out out' a b same does seen =
       let done = subst (λ (e : Event). Does (step_of w t.now t.draw (grown_of report.outcome) e) report out out' v) same does in
       let step : Step = step_of w t.now t.draw (grown_of report.outcome) t.event in
-      let is : told_of t.now t.draw event report out'.bytes v ≡ told_of t.now t.draw t.event step.report step.bytes step.world =
+      let is : told_of t.now t.draw event report out'.bytes v ≡ told_of t.now t.draw t.event step.report step.bytes step.state =
       ap (λ (e : Event). told_of t.now t.draw e report out'.bytes v) same
       ∙ ap (λ (r : Report). told_of t.now t.draw t.event r out'.bytes v) done.0
       ∙ ap (λ (d : Datagram). told_of t.now t.draw t.event step.report d.bytes v) done.1
@@ -56,27 +56,27 @@ module _ {V : Type 0} (sees : V → watch.Told → V → Type 0) where
       (grown_of report.outcome, done.2, subst (λ (u : watch.Told). sees a u b) is seen)
 
   -- one more turn is told
-  more : (w : World) (a m b : V) (ts : List Taken) (t : Taken) → AreTold sees w a ts m → sees m (told_in (world_after w ts) t) b → AreTold sees w a (ts ++ t ∷ []) b
+  more : (w : State) (a m b : V) (ts : List Taken) (t : Taken) → AreTold sees w a ts m → sees m (told_in (world_after w ts) t) b → AreTold sees w a (ts ++ t ∷ []) b
   more w a m b [] t told one = (b, subst (λ (x : V). sees x (told_in w t) b) told one, refl)
   more w a m b (u ∷ ts) t told one =
-      (told.0, told.1, more (step_taken w u).world told.0 m b ts t told.2 (subst (λ (v : World). sees m (told_in v t) b) (after-more w u ts) one))
+      (told.0, told.1, more (step_taken w u).state told.0 m b ts t told.2 (subst (λ (v : State). sees m (told_in v t) b) (after-more w u ts) one))
 
   -- nothing is told at first
-  pub told-none : (w : World) (a : V) → IsTold sees w a w a
-  told-none w a = record { turns = []; world = refl; told = refl }
+  pub told-none : (w : State) (a : V) → IsTold sees w a w a
+  told-none w a = record { turns = []; state = refl; told = refl }
 
   -- a turn that was done is told
-  done-told : (w : World) (a : V) (v : World) (m : V) (v' : World) (b : V) (t : Turn) → IsTold sees w a v m → DoesTold sees v m v' b t → IsTold sees w a v' b
+  done-told : (w : State) (a : V) (v : State) (m : V) (v' : State) (b : V) (t : Turn) → IsTold sees w a v m → DoesTold sees v m v' b t → IsTold sees w a v' b
   done-told w a v m v' b t is one =
       let u : Taken = taken t one.0 in
       record {
         turns = is.turns ++ u ∷ [];
-        world = one.1 ∙ ap (λ (x : World). (step_taken x u).world) is.world ∙ sym (ap (λ (r : Run). r.world) (run-more (run_at w []) is.turns u));
-        told = more w a m b is.turns u is.told (subst (λ (x : World). sees m (told_in x u) b) is.world one.2);
+        state = one.1 ∙ ap (λ (x : State). (step_taken x u).state) is.state ∙ sym (ap (λ (r : Run). r.state) (run-more (run_at w []) is.turns u));
+        told = more w a m b is.turns u is.told (subst (λ (x : State). sees m (told_in x u) b) is.state one.2);
       }
 
   -- a turn is told, or nothing is done
-  pub told-more : (w : World) (a : V) (v : World) (m : V) (v' : World) (b : V) (t : Turn) (r : Result (Unit {0}) ReplayError) → IsTold sees w a v m → TellsTurn sees v m v' b t r → IsTold sees w a v' b
+  pub told-more : (w : State) (a : V) (v : State) (m : V) (v' : State) (b : V) (t : Turn) (r : Result (Unit {0}) ReplayError) → IsTold sees w a v m → TellsTurn sees v m v' b t r → IsTold sees w a v' b
   told-more w a v m v' b t (Ok u) is one = done-told w a v m v' b t is one
   told-more w a v m v' b t (Err (BadEvent line)) is one = absurd one
   told-more w a v m v' b t (Err (OutOfMemory line)) is one = rw (one.0, one.1) is

@@ -3,7 +3,7 @@
 use Rattle.std.specs.Prelude.{◌≡◌, ◌≢◌, ◌⊎◌, ℕ, ◌+◌, ◌≤◌, ◌<◌, ◌^◌, ◌-◌, false, true, List, [], ◌∷◌, ◌++◌, length, Option, Some, None, Result, Ok, Err, IfOk, IfSome, Bool}
 use Rattle.std.specs.Io.KnownBytes.{Appends}
 use Rattle.coap_endpoint.specs.declared.endpoint.Endpoint.{Endpoint}
-use Rattle.coap_model.specs.World.{World}
+use Rattle.coap_model.specs.State.{State}
 use Rattle.coap_model.specs.History.{Entry}
 use Rattle.coap_model.specs.Events.{IsEvent}
 use Rattle.coap_model.specs.Carries.{Carries}
@@ -27,28 +27,28 @@ abbrev pub line_for : ℕ → Option Endpoint → List ℕ → List ℕ
 line_for now None bytes = []
 line_for now (Some to) bytes = line_of now to bytes
 
-abbrev pub line_sent : World → Taken → List ℕ
+abbrev pub line_sent : State → Taken → List ℕ
 line_sent w t = line_for t.turn.now (step_taken w t).report.send (step_taken w t).bytes
 
 -- the lines that a proxy sends in these turns
-abbrev pub output_of : World → List Taken → List ℕ
+abbrev pub output_of : State → List Taken → List ℕ
 output_of w [] = []
-output_of w (t ∷ turns) = line_sent w t ++ output_of (step_taken w t).world turns
+output_of w (t ∷ turns) = line_sent w t ++ output_of (step_taken w t).state turns
 
 -- ---- what is done
 
-abbrev pub run_at : World → List Entry → Run
-run_at w history = record { world = w; history = history }
+abbrev pub run_at : State → List Entry → Run
+run_at w history = record { state = w; history = history }
 
 -- the tables after turns
-abbrev pub world_after : World → List Taken → World
-world_after w turns = (run_of (run_at w []) turns).world
+abbrev pub world_after : State → List Taken → State
+world_after w turns = (run_of (run_at w []) turns).state
 
 -- A proxy did these turns, whose moments never go back, and nothing else. It carries their history
 -- in front of any that it carried before, and keeps its word about that.
-pub record HasDone (w : World) (turns : List Taken) (v : World) : Type 0 where
+pub record HasDone (w : State) (turns : List Taken) (v : State) : Type 0 where
   pub are : AreTurns w.last (turns_of turns)
-  pub world : v ≡ world_after w turns
+  pub state : v ≡ world_after w turns
   pub carries : (history : List Entry) → Carries history w
       → Carries (run_of (run_at w history) turns).history v
   pub word : (history : List Entry) → Carries history w
@@ -57,7 +57,7 @@ pub record HasDone (w : World) (turns : List Taken) (v : World) : Type 0 where
 -- ---- what was asked for
 
 -- what an input asks a proxy to do
-abbrev pub script_for : World → List ℕ → Script
+abbrev pub script_for : State → List ℕ → Script
 script_for w input = script_from 1 w.last w.events (lines_of input)
 
 -- turns, and what the rest of the input asks for
@@ -65,13 +65,13 @@ abbrev pub with_turns : List Taken → Script → Script
 with_turns turns script = record { turns = turns_of turns ++ script.turns; bad = script.bad }
 
 -- what lines, numbered from `line` on, ask of a proxy that did these turns
-abbrev pub script_after : World → List Taken → ℕ → List (List ℕ) → Script
+abbrev pub script_after : State → List Taken → ℕ → List (List ℕ) → Script
 script_after w turns line left =
     script_from line (world_after w turns).last (world_after w turns).events left
 
 -- These turns are those of the lines of an input before the line with this number, and `left` are
 -- the remaining lines: that one, if there is one, and those after it.
-pub record IsUpTo (w : World) (input : List ℕ) (turns : List Taken) (line : ℕ)
+pub record IsUpTo (w : State) (input : List ℕ) (turns : List Taken) (line : ℕ)
     (left : List (List ℕ)) : Type 0 where
   pub front : List (List ℕ)
   pub split : lines_of input ≡ front ++ left
@@ -80,11 +80,11 @@ pub record IsUpTo (w : World) (input : List ℕ) (turns : List Taken) (line : �
 
 -- Whether a turn may run out of memory: its step may allocate. So a tick only does when it sends a
 -- client its answer in a Confirmable message.
-abbrev pub takes_some : World → Turn → Bool
+abbrev pub takes_some : State → Turn → Bool
 takes_some w t = wants_memory (step_of w t.now t.draw true t.event)
 
 -- the line with this number exists, and its event may follow these turns and may run out of memory
-abbrev pub IsAtEvent : World → List ℕ → List Taken → ℕ → Type 0
+abbrev pub IsAtEvent : State → List ℕ → List Taken → ℕ → Type 0
 IsAtEvent w input turns line = (left : List (List ℕ)) × (turn : Turn)
     × IsUpTo w input turns line left
     × AsksFor line (world_after w turns).last (world_after w turns).events left turn
@@ -96,7 +96,7 @@ IsAtStart input left turns line = (left ≡ input) × (turns ≡ []) × (line �
 
 -- Part of the line after these turns was read, perhaps nothing, but not its line feed: `rest` is
 -- what the reader has left, `done` are the lines before that line.
-abbrev pub IsBroken : World → List ℕ → Option (List ℕ) → List Taken → Type 0
+abbrev pub IsBroken : State → List ℕ → Option (List ℕ) → List Taken → Type 0
 IsBroken w input None turns = ⊥
 IsBroken w input (Some rest) turns = (done part : List ℕ)
     × (input ≡ done ++ part ++ rest) × (has line_feed part ≡ false)
@@ -104,7 +104,7 @@ IsBroken w input (Some rest) turns = (done part : List ℕ)
 
 -- what was written is the lines of all these turns except for the last one, and a proper prefix of
 -- the last one's
-abbrev pub IsWrittenInPart : World → Option (List ℕ) → Option (List ℕ) → List Taken → Type 0
+abbrev pub IsWrittenInPart : State → Option (List ℕ) → Option (List ℕ) → List Taken → Type 0
 IsWrittenInPart w old new turns = (before : List Taken) × (turn : Taken) × (front back : List ℕ)
     × (turns ≡ before ++ turn ∷ []) × (line_sent (world_after w before) turn ≡ front ++ back)
     × (back ≢ []) × Appends old new (output_of w before ++ front)
@@ -112,7 +112,7 @@ IsWrittenInPart w old new turns = (before : List Taken) × (turn : Taken) × (fr
 -- Nothing of an input was read after the line of the last of these turns, or nothing at all if
 -- there are no turns. `done` are the lines before that line, `text` begins with that line, and
 -- `rest` is what the reader has left.
-abbrev pub IsReadTo : World → List ℕ → Option (List ℕ) → List Taken → Type 0
+abbrev pub IsReadTo : State → List ℕ → Option (List ℕ) → List Taken → Type 0
 IsReadTo w input left turns = ((turns ≡ []) × (left ≡ Some input))
     ⊎ ((before : List Taken) × (last : Taken) × (turns ≡ before ++ last ∷ [])
     × (done text rest line : List ℕ) × (input ≡ done ++ text) × IsLine text rest line
@@ -122,7 +122,7 @@ IsReadTo w input left turns = ((turns ≡ []) × (left ≡ Some input))
 
 -- The lines of an input have fewer than `most` turns, and these are all of them; or these are
 -- `most` turns, and nothing was read after the last one.
-abbrev pub IsThrough : World → ℕ → List ℕ → Option (List ℕ) → List Taken → Type 0
+abbrev pub IsThrough : State → ℕ → List ℕ → Option (List ℕ) → List Taken → Type 0
 IsThrough w most input left turns = ((length turns < most)
     × (script_for w input ≡ record { turns = turns_of turns; bad = None }))
     ⊎ ((length turns ≡ most) × IsReadTo w input left turns)
@@ -141,7 +141,7 @@ IsThrough w most input left turns = ((length turns < most)
 --   of the last one, of at least one byte. It isn't stated that the writer failed.
 -- A line that is bad, that runs out of memory or that can't be read comes before `most` turns are
 -- done.
-abbrev pub Ends : World → ℕ → Option (List ℕ) → Option (List ℕ) → Option (List ℕ)
+abbrev pub Ends : State → ℕ → Option (List ℕ) → Option (List ℕ) → Option (List ℕ)
     → Option (List ℕ) → List Taken → Result ℕ ReplayError → Type 0
 Ends w most input left old new turns (Ok n) = (n ≡ length turns) × (n ≤ most)
     × Appends old new (output_of w turns) × IfSome input (λ i. IsThrough w most i left turns)
@@ -157,7 +157,7 @@ Ends w most input left old new turns (Err Write) = (length turns ≤ most)
     × IsWrittenInPart w old new turns
     × IfSome input (λ i. (line : ℕ) × (lines : List (List ℕ)) × IsUpTo w i turns line lines)
 
-pub record IsReplayed (w v : World) (most : ℕ) (input left old new : Option (List ℕ))
+pub record IsReplayed (w v : State) (most : ℕ) (input left old new : Option (List ℕ))
     (result : Result ℕ ReplayError) : Type 0 where
   pub turns : List Taken
   pub done : HasDone w turns v
@@ -166,7 +166,7 @@ pub record IsReplayed (w v : World) (most : ℕ) (input left old new : Option (L
 -- A replay of a whole input, whatever it holds. If it succeeds, all lines were done: the turns are
 -- those of all the lines, and no line is bad. Otherwise it ends like a replay of at most 2^64 - 1
 -- turns, more than any input has.
-pub record IsWhollyReplayed (w v : World) (input left old new : Option (List ℕ))
+pub record IsWhollyReplayed (w v : State) (input left old new : Option (List ℕ))
     (result : Result ℕ ReplayError) : Type 0 where
   pub turns : List Taken
   pub done : HasDone w turns v
@@ -218,16 +218,16 @@ taken t grown = record { turn = t; grown = grown }
 
 -- A turn was done, and its line was written; or its step, which may allocate, ran out of memory,
 -- and nothing was done or written; or the writer failed at its line.
-abbrev pub DoesTurn : World → World → Turn → Option (List ℕ) → Option (List ℕ) → ℕ
+abbrev pub DoesTurn : State → State → Turn → Option (List ℕ) → Option (List ℕ) → ℕ
     → Result (Unit {0}) ReplayError → Type 0
 DoesTurn w v t old new number (Ok u) = (grown : Bool)
-    × (v ≡ (step_taken w (taken t grown)).world)
+    × (v ≡ (step_taken w (taken t grown)).state)
     × Appends old new (line_sent w (taken t grown))
 DoesTurn w v t old new number (Err (BadEvent line)) = ⊥
 DoesTurn w v t old new number (Err (OutOfMemory line)) =
     (line ≡ number) × Appends old new [] × (v ≡ w) × (takes_some w t ≡ true)
 DoesTurn w v t old new number (Err Read) = ⊥
 DoesTurn w v t old new number (Err Write) = (grown : Bool)
-    × (v ≡ (step_taken w (taken t grown)).world)
+    × (v ≡ (step_taken w (taken t grown)).state)
     × ((front back : List ℕ) × (line_sent w (taken t grown) ≡ front ++ back) × (back ≢ [])
     × Appends old new front)

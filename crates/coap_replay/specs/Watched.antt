@@ -1,42 +1,42 @@
 -- What a watcher of a replay is told.
 use Rattle.std.specs.Prelude.{◌≡◌, Bool, true, List, [], ◌∷◌, Some, Result, Ok, Err}
 use Rattle.coap_model.specs.Runs.{Taken, Turn, step_taken}
-use Rattle.coap_model.specs.World.{World}
+use Rattle.coap_model.specs.State.{State}
 use Rattle.coap_watch.specs.Told as watch
 use Rattle.coap_replay.specs.Replays.{taken, world_after}
 use Rattle.coap_replay.specs.declared.error.ReplayError.{ReplayError}
 use Rattle.coap_replay.specs.declared.error.ReplayError.TheVariants.{BadEvent, OutOfMemory, Read, Write}
 
 -- what is told of a turn that a proxy does
-abbrev pub told_in : World → Taken → watch.Told
+abbrev pub told_in : State → Taken → watch.Told
 told_in w t = record {
   turn = t.turn;
   report = Some (step_taken w t).report;
   bytes = (step_taken w t).bytes;
   went = true;
-  world = (step_taken w t).world;
+  state = (step_taken w t).state;
 }
 
 module _ {V : Type 0} (sees : V → watch.Told → V → Type 0) where
   -- it was told of these turns of a proxy, the oldest first, and of nothing else
-  abbrev pub AreTold : World → V → List Taken → V → Type 0
+  abbrev pub AreTold : State → V → List Taken → V → Type 0
   AreTold w a [] b = b ≡ a
   AreTold w a (t ∷ turns) b =
-      (m : V) × sees a (told_in w t) m × AreTold (step_taken w t).world m turns b
+      (m : V) × sees a (told_in w t) m × AreTold (step_taken w t).state m turns b
 
   -- it was told of turns that lead from a proxy to what the proxy is now
-  pub record IsTold (w : World) (a : V) (v : World) (b : V) : Type 0 where
+  pub record IsTold (w : State) (a : V) (v : State) (b : V) : Type 0 where
     pub turns : List Taken
-    pub world : v ≡ world_after w turns
+    pub state : v ≡ world_after w turns
     pub told : AreTold w a turns b
 
   -- a turn was done, and it was told of that
-  abbrev pub DoesTold : World → V → World → V → Turn → Type 0
-  DoesTold w a v b t = (grown : Bool) × (v ≡ (step_taken w (taken t grown)).world)
+  abbrev pub DoesTold : State → V → State → V → Turn → Type 0
+  DoesTold w a v b t = (grown : Bool) × (v ≡ (step_taken w (taken t grown)).state)
       × sees a (told_in w (taken t grown)) b
 
   -- the same, or memory ran out, so that nothing was done or told
-  abbrev pub TellsTurn : World → V → World → V → Turn → Result (Unit {0}) ReplayError → Type 0
+  abbrev pub TellsTurn : State → V → State → V → Turn → Result (Unit {0}) ReplayError → Type 0
   TellsTurn w a v b t (Ok u) = DoesTold w a v b t
   TellsTurn w a v b t (Err (BadEvent line)) = ⊥
   TellsTurn w a v b t (Err (OutOfMemory line)) = (v ≡ w) × (b ≡ a)

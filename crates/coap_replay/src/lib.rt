@@ -5,8 +5,9 @@
 //! ```rust
 //! let mut input = b"0 0 192.0.2.7:40001 50010007B174\n0 0 tick\n".as_slice();
 //! let mut output = Vec::new(alloc);
-//! assert_eq!(replay(alloc, &mut input, &mut output, &mut core)?, 2);
-//! assert_eq!(output, b"0 127.0.0.1:5690 480100010000000000000001B474656D70\n");
+//! assert_eq!(rt; replay(alloc, &mut input, &mut output, &mut core)?, 2);
+//! let line = b"0 127.0.0.1:5690 480100010000000000000001B474656D70\n";
+//! assert_eq!(rt; output.as_slice(), line.as_slice());
 //! ```
 #![tactic(auto)]
 

@@ -1,7 +1,7 @@
 //! Replays: a core handles the events of an input one after the other, and what it sends is
 //! written.
 ghost use Rattle.std.specs.Prelude.{◌≡◌, ◌≤◌, ℕ, true, Some, IfSome, length, vec_capacity};
-ghost use Rattle.coap_model.specs.World.{World};
+ghost use Rattle.coap_model.specs.State.{State};
 ghost use Rattle.coap_core.specs.Events.{seen};
 ghost use Rattle.coap_replay.specs.Buffers.{HaveRoom};
 ghost use Rattle.coap_watch.specs.Told.{told};
@@ -100,12 +100,12 @@ fn line_for(text: &mut Vec<u8>, now: u64, report: Report, out: &Datagram)
 
 /// What a watcher is told of a turn.
 fn done<'a>(turn: Turn, event: Event<'a>, report: Report, sent: &'a [u8]) -> Seen<'a>
-    ensures { (w : World) → told result w ≡ record {
+    ensures { (w : State) → told result w ≡ record {
       turn = record { now = turn.now; draw = turn.draw; event = seen event.entry };
       report = Some report;
       bytes = sent.entry.now;
       went = true;
-      world = w;
+      state = w;
     } }
 {
     Seen {

@@ -4,10 +4,10 @@
 //!
 //! ```rust
 //! let mut tally = Tally::new();
-//! drive_watched(alloc, &mut core, &mut port, &mut tally, turns)?;
+//! drive_watched(alloc, &mut core, &mut port, &mut tally, 1)?;
 //! let mut text = Vec::new(alloc);
-//! put_line(&mut text, &tally, &core.counts(), &limits)?;
-//! // seconds=60 received=12 sent=12 hit=9 ..
+//! put_line(&mut text, &tally, &core.counts(), &fixtures::limits())?;
+//! assert!(rt; text.starts_with(b"seconds=2 received=0 sent=0 "));
 //! ```
 #![tactic(auto)]
 

@@ -1,6 +1,6 @@
 //! Counts of what turns did.
 ghost use Rattle.std.specs.Prelude.{◌≡◌, true};
-ghost use Rattle.coap_model.specs.World.{World};
+ghost use Rattle.coap_model.specs.State.{State};
 ghost use Rattle.coap_stats.specs.Tally as spec;
 ghost use Rattle.coap_watch.specs.Told.{told};
 
@@ -202,7 +202,7 @@ impl Tally {
 
     /// Counts a turn.
     pub fn count(&mut self, turn: Seen<'_>)
-        ensures { (w : World) → self.new ≡ spec.with_told (told turn.entry w) self.old }
+        ensures { (w : State) → self.new ≡ spec.with_told (told turn.entry w) self.old }
     {
         self.last = turn.now;
         if let Event::Datagram { .. } = turn.event {

@@ -4,12 +4,19 @@
 //! # First use
 //!
 //! ```rust
-//! // a 2.05 with Max-Age 10 that came at moment 0
-//! let stored = Stored { response, asked: 1, got_no: 2, got: 0, marked: false };
-//! assert!(stored.is_fresh(10_000) && !stored.is_fresh(10_001));
+//! let response = decode(alloc, b"\x60\x45\x00\x01\xD1\x01\x0A\xFF21")?; // a 2.05 with Max-Age 10
+//! // it came at moment 0, in event 2; the request was sent in event 1
+//! let stored = Stored {
+//!     response,
+//!     asked: 1,
+//!     got_no: 2,
+//!     got: 0,
+//!     marked: false,
+//! };
+//! assert!(rt; stored.is_fresh(10_000) && !stored.is_fresh(10_001));
 //! let left = stored.left(4_000);
 //! let message = shown(alloc, &stored.response, Some(left), &Pieces::new(alloc))?;
-//! assert_eq!(max_age(&message), 6);
+//! assert_eq!(rt; max_age(&message), 6);
 //! ```
 #![tactic(auto)]
 

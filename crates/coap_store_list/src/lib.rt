@@ -4,8 +4,8 @@
 //!
 //! ```rust
 //! let mut store = ListStore::with_limits(alloc, (), 262_144, 1024)?; // bytes, entries
-//! assert!(store.put(key, stored) == Put::Kept);
-//! assert!(store.hit(&same_key, 5_000)); // usable, and the most recently used from now on
+//! assert!(rt; store.put(key, stored) == Put::Kept);
+//! assert!(rt; store.hit(&same_key, 5_000)); // usable, and the most recently used from now on
 //! ```
 #![tactic(auto)]
 

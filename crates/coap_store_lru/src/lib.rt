@@ -3,10 +3,10 @@
 //! # First use
 //!
 //! ```rust
-//! let seed = RandomState::new(rt)?; // hashes that outsiders can't predict
+//! let seed = RandomState::new(&rt)?; // hashes that outsiders can't predict
 //! let mut store = LruStore::with_limits(alloc, seed, 262_144, 1024)?; // bytes, entries
-//! assert!(store.put(key, stored) == Put::Kept);
-//! assert!(store.hit(&same_key, 5_000)); // usable, and the most recently used from now on
+//! assert!(rt; store.put(key, stored) == Put::Kept);
+//! assert!(rt; store.hit(&same_key, 5_000)); // usable, and the most recently used from now on
 //! ```
 #![tactic(auto)]
 

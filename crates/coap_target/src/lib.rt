@@ -6,10 +6,14 @@
 //! # First use
 //!
 //! ```rust
-//! let routes = Routes::fixed(alloc)?; // /t is /temp of the server at 127.0.0.1:5690
+//! let prefix = String::from_str(alloc, "/t")?;
+//! let origin = String::from_str(alloc, "coap://192.0.2.1/temp")?;
+//! // no own names, no hosts, one map, and no next proxy
+//! let routes = Routes::new(alloc, &[], &[], &[(prefix, origin)], None)?;
 //! let request = decode(alloc, b"\x40\x01\x12\x34\xB1t")?; // a GET of /t
+//! screen_request(&request)?;
 //! let target = routes.target_of(alloc, &request)?;
-//! assert_eq!(target.at.port, 5690);
+//! assert!(rt; target.at.port == 5683 && target.path.len() == 1);
 //! ```
 #![tactic(auto)]
 

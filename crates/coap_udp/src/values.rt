@@ -4,15 +4,10 @@ ghost use Rattle.coap_udp.specs.Values as spec;
 
 use crate::failing::passes;
 use coap_endpoint::Endpoint;
+use coap_message::{LAST_MOMENT, MOST_JITTER};
 use coap_port::PortFault;
 use std::io;
 use std::time::Instant;
-
-/// The last moment that a port may give: 2^62 ms.
-const LAST_MOMENT: u64 = 1 << 62;
-
-/// The greatest draw, in milliseconds.
-const LAST_DRAW: u32 = 1000;
 
 /// The shortest wait for which the read itself waits, in milliseconds.
 const WAITING_READ: u64 = 8;
@@ -28,7 +23,7 @@ pub(crate) fn draw_of(number: u32) -> u16
     ensures exact { result ≡ spec.draw_of number }
     ensures draw { result ≤ 1000 }
 {
-    (number % (LAST_DRAW + 1)) as u16
+    (number % (u32::from(MOST_JITTER) + 1)) as u16
 }
 
 /// The milliseconds from an instant to a later one, at most 2^62.

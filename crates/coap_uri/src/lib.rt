@@ -4,8 +4,11 @@
 //!
 //! ```rust
 //! let parts = split_uri(alloc, "coap://192.0.2.1/temp?unit=C")?;
-//! assert_eq!((parts.port, parts.path.len(), parts.query.len()), (5683, 1, 1));
-//! assert!(read_ip(alloc, "192.0.2.1")? == Ip::V4([192, 0, 2, 1]));
+//! assert_eq!(rt;
+//!     (parts.port, parts.path.len(), parts.query.len()),
+//!     (5683, 1, 1)
+//! );
+//! assert!(rt; read_ip(alloc, "192.0.2.1")? == Ip::V4([192, 0, 2, 1]));
 //! ```
 #![tactic(auto)]
 

@@ -3,9 +3,9 @@
 //! # First use
 //!
 //! ```rust
-//! // `valid` is a 2.03 with the ETag of the stored response, and without a Max-Age
+//! let valid = decode(alloc, b"\x60\x43\x00\x02\x41\xAB")?; // a 2.03 with its ETag, and no Max-Age
 //! let message = renewed(alloc, &stored, &valid)?;
-//! assert_eq!(max_age(&message), 60);
+//! assert_eq!(rt; max_age(&message), 60);
 //! ```
 #![tactic(auto)]
 

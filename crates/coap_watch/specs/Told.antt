@@ -2,7 +2,7 @@
 use Rattle.std.specs.Prelude.{ℕ, Bool, List, Option}
 use Rattle.coap_core.specs.Events.{seen}
 use Rattle.coap_model.specs.Runs.{Turn}
-use Rattle.coap_model.specs.World.{World}
+use Rattle.coap_model.specs.State.{State}
 use Rattle.coap_model.specs.declared.report.Report.{Report}
 use Rattle.coap_watch.specs.declared.watch.Seen.{Seen}
 
@@ -13,14 +13,14 @@ pub record Told : Type 0 where
   pub report : Option Report
   pub bytes : List ℕ
   pub went : Bool
-  pub world : World
+  pub state : State
 
 -- what a program tells of a turn, with this proxy after it
-abbrev pub told : Seen → World → Told
+abbrev pub told : Seen → State → Told
 told s w = record {
   turn = record { now = s.now; draw = s.draw; event = seen s.event };
   report = s.report;
   bytes = s.sent.now;
   went = s.went;
-  world = w;
+  state = w;
 }

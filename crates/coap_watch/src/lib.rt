@@ -3,11 +3,12 @@
 //! # First use
 //!
 //! ```rust
-//! /// The greatest moment of a turn that was lost.
+//! /// The moment of the last turn that was lost.
+//! #[derive(Drop)]
 //! struct LastLost(u64);
 //!
 //! impl Watch for LastLost {
-//!     ghost sees = { λ a told b. b.0 ≡ last_lost told a.0 };
+//!     ghost sees = { λ before told after. Unit {0} }; // nothing is said of what it does
 //!
 //!     fn see<S: Store + Drop>(&mut self, turn: Seen<'_>, _core: &Core<S>) {
 //!         if turn.report.is_none() {

@@ -5,8 +5,9 @@
 //!
 //! ```rust
 //! let settings = read_words(alloc, &words)?; // as `-p 5683 --config proxy.toml`
+//! assert!(rt; settings.config.is_some());
 //! let config = read_config(alloc, b"version = 1\n[limits]\nnstart = 2\n")?;
-//! assert_eq!(config.limits.values().nstart, 2);
+//! assert_eq!(rt; config.limits.values().nstart, 2);
 //! ```
 #![tactic(auto)]
 

@@ -2,7 +2,7 @@
 ghost use Rattle.std.specs.Prelude.{◌≡◌, ◌<◌, ◌≤◌};
 
 use coap_core::{Core, Counts, LimitValues};
-use coap_message::OutOfMemory;
+use coap_message::{LAST_MOMENT, OutOfMemory};
 use coap_proxyd::{Fault, Plan, Seen, Watch};
 use coap_stats::{StandingClock, Tally, period_end, put_line, put_metrics};
 use coap_store::Store;
@@ -14,9 +14,6 @@ const PERIOD: u64 = 60;
 
 /// The longest period, in seconds.
 const LONGEST: u64 = 86_400;
-
-/// The last moment, in milliseconds.
-const LAST_MOMENT: u64 = 1 << 62;
 
 /// A file that is written beside its name, and then takes it, so that it is never read in part.
 #[derive(Drop)]

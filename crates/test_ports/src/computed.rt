@@ -2,7 +2,7 @@
 //! of `coap_port`.
 ghost use Rattle.std.specs.Prelude.{◌≡◌, ◌∷◌, [], None, Some, false, true};
 ghost use Rattle.coap_model.specs.Setting.{Setting};
-ghost use Rattle.coap_model.specs.World.{World, new_world};
+ghost use Rattle.coap_model.specs.State.{State, new_world};
 ghost use Rattle.coap_port.specs.Driven.{stats_of, wait_for};
 ghost use Rattle.coap_port.specs.Stats.{no_stats, with_turn};
 ghost use Rattle.test_ports.specs.Computed.{counts, tick_given};
@@ -29,8 +29,8 @@ pub fn counted()
     ensures not_taken { with_turn false true false no_stats ≡ counts 1 0 1 0 }
     ensures nothing_sent { with_turn false false true no_stats ≡ counts 1 0 0 0 }
     ensures one_more { with_turn true false false (counts 7 3 2 1) ≡ counts 8 3 2 2 }
-    ensures no_turns { (w : World) → stats_of w [] ≡ counts 0 0 0 0 }
-    ensures two_lost { (w : World)
+    ensures no_turns { (w : State) → stats_of w [] ≡ counts 0 0 0 0 }
+    ensures two_lost { (w : State)
         → stats_of w (tick_given true ∷ tick_given true ∷ []) ≡ counts 2 0 0 2 }
     ensures one_lost { (s : Setting)
         → stats_of (new_world s) (tick_given true ∷ tick_given false ∷ []) ≡ counts 2 0 0 1 }

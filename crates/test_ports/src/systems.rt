@@ -4,7 +4,7 @@ ghost use Rattle.std.specs.Counts.{IsPrefixLen};
 ghost use Rattle.std.specs.IoError.{error_kind};
 ghost use Rattle.test_ports.specs.Systems.{noted};
 
-use coap_message::Seq;
+use coap_message::{LAST_MOMENT, Seq};
 use coap_udp::System;
 use std::alloc::Global;
 use std::collections::VecDeque;
@@ -12,9 +12,6 @@ use std::io;
 use std::io::ErrorKind;
 use std::marker::Model;
 use std::net::SocketAddr;
-
-/// The last moment that a clock may show: 2^62 ms.
-const LAST_MOMENT: u64 = 1 << 62;
 
 /// A call of a system, with what it was asked.
 #[derive(Drop)]

@@ -2,9 +2,11 @@
 //! describes: the program's words, a configuration or none, events, and what must be written for
 //! them. Each is played over both stores, and what is written is compared with that.
 //!
-//! For a run that doesn't agree with its file, its name and the first line that differs are
-//! printed, for each store in which it doesn't. The last line says how many runs agree in both
-//! stores. The status is 1 if not all do. `cd data && ../out/worked_runs` plays the runs in `data`.
+//! For a run that doesn't agree with its file, the first line of the file that isn't met and what
+//! is written in its place are printed, for each store in which it doesn't. A file that has no line
+//! of what must be written agrees with nothing. The last line says how many runs agree in both
+//! stores. The status is 1 if not all do, or there are none. `cd data && ../out/worked_runs` plays
+//! the runs in `data`.
 #![tactic(auto)]
 
 mod expected;
@@ -18,12 +20,12 @@ use std::io::Write;
 use std::process::ExitCode;
 use std::{fs, io};
 
-/// Plays the run with this name over a store that is made from this seed, and returns whether it
-/// agrees with its file. If not, prints where, with the name of the store.
+/// Plays the run of this file over a store that is made from this seed, and returns whether it
+/// agrees with the file. If not, prints where, with the name of the store.
 fn agrees<S: Store + Drop>(
     rt: &HostRuntime,
     seed: S::Seed,
-    name: &str,
+    file: &str,
     store: &str,
     events: &[u8],
 ) -> io::Result<bool>
@@ -33,25 +35,31 @@ where
     let expected = expected::expected_of(rt.alloc(), events)?;
     let mut written = Vec::new(rt.alloc());
     run::play::<_, S>(rt.alloc(), seed, events, &mut written)?;
-    let Some((wanted, came)) = expected::first_difference(&expected, &written) else {
+    let Some(first) = expected::first_difference(&expected, &written) else {
         return Ok(true);
     };
+    let number = expected::number_of(events, first.before);
     let mut output = io::writer(rt);
-    write!(output, "{name}, over {store}:\nexpected ")?;
-    output.write_all(wanted)?;
+    write!(output, "{file}:{number}, over {store}:\nexpected ")?;
+    output.write_all(first.wanted)?;
     output.write_all(b"written  ")?;
-    output.write_all(came)?;
+    output.write_all(first.came)?;
     Ok(false)
 }
 
 /// Plays the run with this name, whose file is in the current folder, over a list and over a
-/// recency map. Returns whether both write what is expected.
+/// recency map. Returns whether both write what is expected. Says so if the file says nothing of it.
 fn play(rt: &HostRuntime, name: &str) -> io::Result<bool> {
     let file = files::file_of(rt.alloc(), name)?;
-    let events = fs::read(rt, file.as_str())?;
+    let file = file.as_str();
+    let events = fs::read(rt, file)?;
+    if !expected::is_said(&events) {
+        println!(rt; "{file}: no line says what must be written")?;
+        return Ok(false);
+    }
     let seed = RandomState::new(rt)?;
-    let listed = agrees::<ListStore>(rt, (), name, "a list", &events)?;
-    let mapped = agrees::<LruStore<RandomState>>(rt, seed, name, "a recency map", &events)?;
+    let listed = agrees::<ListStore>(rt, (), file, "a list", &events)?;
+    let mapped = agrees::<LruStore<RandomState>>(rt, seed, file, "a recency map", &events)?;
     Ok(listed && mapped)
 }
 
@@ -64,7 +72,7 @@ fn main(rt: HostRuntime) -> io::Result<ExitCode> {
         }
     }
     println!(rt; "{agreeing} runs agree in both stores")?;
-    Ok(if agreeing == names.len() {
+    Ok(if agreeing > 0 && agreeing == names.len() {
         ExitCode::SUCCESS
     } else {
         ExitCode::FAILURE

@@ -8,13 +8,7 @@ use crate::reading::datagram::read_bytes;
 use crate::reading::endpoint::read_endpoint;
 use crate::reading::number::read_number;
 use coap_endpoint::Endpoint;
-use coap_message::Datagram;
-
-/// The greatest moment, in milliseconds: 2^62.
-const LATEST: u64 = 1 << 62;
-
-/// The greatest draw, in milliseconds.
-const GREATEST_DRAW: u64 = 1_000;
+use coap_message::{Datagram, LAST_MOMENT, MOST_JITTER};
 
 /// What a line gives: a moment, a draw, and the source of the datagram that was put into the
 /// buffer; no source for a tick.
@@ -71,8 +65,8 @@ pub fn read_turn(line: &[u8], last: u64, into: &mut Datagram) -> Option<Turn>
 {
     let (moment, rest) = cut(line, b' ')?;
     let (draw, text) = cut(rest, b' ')?;
-    let now = read_number(moment, LATEST)?;
-    let draw = read_number(draw, GREATEST_DRAW)?;
+    let now = read_number(moment, LAST_MOMENT)?;
+    let draw = read_number(draw, u64::from(MOST_JITTER))?;
     let from = read_event(text, into)?;
     if now < last {
         return None;

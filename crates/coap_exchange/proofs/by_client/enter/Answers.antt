@@ -1,7 +1,9 @@
-use Rattle.std.proofs.Common.{Some, ap, ◌+◌}
-use Rattle.coap_exchange.specs.Tally.{count_or_none}
-use Rattle.coap_exchange.proofs.Lining.{put-more}
+use Rattle.std.proofs.Common.{Some, ap, arith}
+use Rattle.coap_exchange.specs.declared.endpoints.EndpointCounts.{EndpointCounts}
+use Rattle.coap_exchange.specs.Slots.{found}
+use Rattle.coap_exchange.specs.Endpoints.{open_of}
+use Rattle.coap_exchange.proofs.EndpointCounting.{put-more}
 use Rattle.coap_exchange.proofs.by_client.enter.Goals as goal
 
-pub returns-clause-ok : goal.returns-clause-ok
-returns-clause-ok c = put-more count_or_none c.args.clients.now c.insert.new.self c.args.client (Some (c.count_of-count.result + 1)) 1 c.in_ok-insert.ensures.updates.0 (ap (λ n. n + 1) c.count_of-count.ensures.exact)
+pub returns-clause-exact : goal.returns-clause-exact
+returns-clause-exact c = put-more open_of (λ q. found q c.args.clients.now.items) (λ q. found q c.set.new.self.items) c.args.client (Some c.items.result) 1 c.set.ensures.exact (let all = ap (λ (i : EndpointCounts). i.all) c.items.ensures.exact in omega (arith, all, c.count_of-count.ensures.exact))

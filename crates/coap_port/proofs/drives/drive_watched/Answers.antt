@@ -32,16 +32,16 @@ loop-done-preserved g c =
       failures = did.still ∙ i.failures;
     }
 
-pub returns-in-Err : goal.returns-in-Err
-returns-in-Err g c =
+pub returns-in-Err-clause-ends : goal.returns-in-Err-clause-ends
+returns-in-Err-clause-ends g c =
     let i = c.loop-done.invariant in
     rw (c.in-Err.ensures.nothing, c.in-Err.ensures.untold, c.in-Err.ensures.uncounted) (
       (c.loop-done.port, watched-now (g.P.Port.gives (c.args.core.now.setting.limits.datagram + 1)) g.P.Port.takes g.W.Watch.sees g.P.Port.clock g.P.Port.failures _ _ _ _ _ _ _ _ _ i.at),
       c.in-Err.ensures.fails ∙ ap (λ n. n + 1) i.failures,
     )
 
-pub returns : goal.returns
-returns g c =
+pub returns-clause-ends : goal.returns-clause-ends
+returns-clause-ends g c =
     let i = c.loop-done.invariant in (
       watched-now (g.P.Port.gives (c.args.core.now.setting.limits.datagram + 1)) g.P.Port.takes g.W.Watch.sees g.P.Port.clock g.P.Port.failures _ _ _ _ _ _ _ _ _ i.at,
       omega (arith, i.counted, c.loop-done-test.false, c.loop-done.auto.done-end),

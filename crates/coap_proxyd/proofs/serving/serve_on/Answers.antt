@@ -3,7 +3,7 @@ use Rattle.std.specs.Io.KnownBytes.{prepend_known}
 use Rattle.coap_replay.proofs.Telling.{told-none}
 use Rattle.coap_replay.specs.Replays.{IsReplayed}
 use Rattle.coap_replay.specs.declared.error.ReplayError.{ReplayError}
-use Rattle.coap_model.specs.World.{World}
+use Rattle.coap_model.specs.State.{State}
 use Rattle.coap_proxyd.specs.Serving.{IsServed, ended_as}
 use Rattle.coap_proxyd.proofs.serving.serve_on.Goals as goal
 
@@ -13,7 +13,7 @@ none-prepended None = refl
 none-prepended (Some bytes) = refl
 
 -- a replay of what a new buffer over a reader gives is a replay of what the reader gives
-served : (turns : ℕ) (proxy after : World) (input left old new : Option (List ℕ)) (replayed : Result ℕ ReplayError) → IsReplayed proxy after turns (prepend_known [] input) left old new replayed
+served : (turns : ℕ) (proxy after : State) (input left old new : Option (List ℕ)) (replayed : Result ℕ ReplayError) → IsReplayed proxy after turns (prepend_known [] input) left old new replayed
     → IsServed turns proxy input old new (ended_as replayed)
 served turns proxy after input left old new replayed is =
     inr (after, left, replayed, subst (λ (known : Option (List ℕ)). IsReplayed proxy after turns known left old new replayed) (none-prepended input) is, refl)

@@ -1,7 +1,7 @@
 use Rattle.std.proofs.Common.{◌≡◌, ◌+◌, ℕ, Bool, List, Result, inr, refl, subst}
 use Rattle.coap_endpoint.specs.declared.endpoint.Endpoint.{Endpoint}
 use Rattle.coap_model.specs.Runs.{Turn}
-use Rattle.coap_model.specs.World.{World, new_world}
+use Rattle.coap_model.specs.State.{State, new_world}
 use Rattle.coap_watch.specs.Told.{Told}
 use Rattle.coap_port.specs.Driven.{EndsWatched}
 use Rattle.coap_port.specs.declared.error.DriveError.{DriveError}
@@ -11,14 +11,14 @@ use Rattle.coap_proxyd.specs.Serving.{IsWatchedOver, counted_as}
 use Rattle.coap_proxyd.proofs.serving.serve_watched.Goals as goal
 
 -- driving a core is what the program does, if the core is the new one
-driven : {P W : Type 0} (gives : ℕ → P → ℕ → Turn → P → Type 0) (takes : P → Endpoint → List ℕ → Bool → P → Type 0) (sees : W → Told → W → Type 0) (clock failures : P → ℕ) (turns asked : ℕ) (proxy core after : World) (p q : P) (a b : W)
+driven : {P W : Type 0} (gives : ℕ → P → ℕ → Turn → P → Type 0) (takes : P → Endpoint → List ℕ → Bool → P → Type 0) (sees : W → Told → W → Type 0) (clock failures : P → ℕ) (turns asked : ℕ) (proxy core after : State) (p q : P) (a b : W)
     (r : Result Stats DriveError) → core ≡ proxy → turns ≡ asked → EndsWatched (gives (core.setting.limits.datagram + 1)) takes sees clock failures turns core p a after q b r
     → IsWatchedOver (gives (proxy.setting.limits.datagram + 1)) takes sees clock failures asked proxy p a q b (counted_as after r)
 driven gives takes sees clock failures turns asked proxy core after p q a b r new same ends =
     inr (
       after,
       r,
-      subst (λ (w : World). EndsWatched (gives (w.setting.limits.datagram + 1)) takes sees clock failures asked w p a after q b r) new
+      subst (λ (w : State). EndsWatched (gives (w.setting.limits.datagram + 1)) takes sees clock failures asked w p a after q b r) new
           (subst (λ (n : ℕ). EndsWatched (gives (core.setting.limits.datagram + 1)) takes sees clock failures n core p a after q b r) same ends),
       refl,
     )
@@ -27,4 +27,4 @@ pub returns : goal.returns
 returns g c =
     rw c.counted.ensures
     (driven g.P.Port.gives g.P.Port.takes g.W.Watch.sees g.P.Port.clock g.P.Port.failures _ _ (new_world (setting_of c.args.plan c.args.first_id c.args.salt)) c.in-Ok.core _ c.args.port.now c.drive_watched-driven.new.port
-    c.args.watcher.now c.drive_watched-driven.new.watcher c.drive_watched-driven.result c.in-Ok.ensures c.turns_of-turns.ensures c.drive_watched-driven.ensures)
+    c.args.watcher.now c.drive_watched-driven.new.watcher c.drive_watched-driven.result c.in-Ok.ensures c.turns_of-turns.ensures c.drive_watched-driven.ensures.ends)

@@ -1,8 +1,8 @@
 use Rattle.std.proofs.Common.{◌∙◌, sym}
-use Rattle.coap_exchange.specs.Marks.{answered_of, end_of}
+use Rattle.coap_exchange.specs.WaiterIndex.{answered_of, end_of}
 use Rattle.coap_exchange.specs.Waiters.{due_after}
 use Rattle.coap_exchange.proofs.Dues.{first_due-split}
-use Rattle.coap_exchange.proofs.Marking.{due-parts}
+use Rattle.coap_exchange.proofs.WaiterIndexing.{due-parts}
 use Rattle.coap_exchange.proofs.Readying.{ready-first}
 use Rattle.coap_exchange.proofs.under_way.UnderWay.waiter_due.Goals as goal
 

@@ -1,4 +1,4 @@
-use Rattle.coap_exchange.specs.Marks.{answered_of}
+use Rattle.coap_exchange.specs.WaiterIndex.{answered_of}
 use Rattle.coap_exchange.proofs.ByNumber.{first_due-by_number}
 use Rattle.coap_exchange.proofs.waiters.Table+Waiter.first_answered.Goals as goal
 

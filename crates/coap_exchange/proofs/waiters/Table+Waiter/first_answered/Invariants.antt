@@ -1,6 +1,6 @@
 use Rattle.std.proofs.Common.{◌≡◌}
 use Rattle.coap_exchange.specs.Due.{sooner, first_due}
-use Rattle.coap_exchange.specs.Marks.{answered_of}
+use Rattle.coap_exchange.specs.WaiterIndex.{answered_of}
 use Rattle.coap_exchange.proofs.waiters.Table+Waiter.first_answered.Given as goal
 
 abbrev pub invariant-loop-number : goal.invariant-loop-number

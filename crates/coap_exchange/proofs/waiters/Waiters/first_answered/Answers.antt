@@ -1,6 +1,6 @@
 use Rattle.std.proofs.Common.{Some, rules, subst, arith}
 use Rattle.coap_exchange.specs.Answered.{IsGotAt}
-use Rattle.coap_exchange.specs.Roll.{Pair}
+use Rattle.ordered_index.specs.Ordered.{Pair}
 use Rattle.std.specs.Prelude.{Option}
 use Rattle.coap_exchange.proofs.Answering.{got-end, got-first, got-next, got-none, got-start}
 use Rattle.coap_exchange.proofs.Sooner.{IsFirst}

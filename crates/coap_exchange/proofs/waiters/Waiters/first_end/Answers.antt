@@ -1,4 +1,4 @@
-use Rattle.coap_exchange.specs.Marks.{end_of}
+use Rattle.coap_exchange.specs.WaiterIndex.{end_of}
 use Rattle.coap_exchange.proofs.Dues.{roll-first}
 use Rattle.coap_exchange.proofs.waiters.Waiters.first_end.Goals as goal
 

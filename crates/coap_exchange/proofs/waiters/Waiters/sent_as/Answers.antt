@@ -1,10 +1,10 @@
 use Rattle.std.proofs.Common.{◌≡◌, ℕ, Some, None, false, true, rules, subst, sym, arith}
-use Rattle.coap_exchange.specs.Marks.{id_of}
-use Rattle.coap_exchange.specs.Roll.{IsNextOf}
+use Rattle.coap_exchange.specs.WaiterIndex.{id_of}
+use Rattle.ordered_index.specs.Ordered.{IsNextOf}
 use Rattle.coap_exchange.specs.Table.{item_at, passes}
 use Rattle.coap_exchange.specs.Waiters.{was_sent_as}
 use Rattle.coap_exchange.proofs.Firsts.{none-start, none-next, first-found, first-missing}
-use Rattle.coap_exchange.proofs.Marking.{unsent}
+use Rattle.coap_exchange.proofs.WaiterIndexing.{unsent}
 use Rattle.coap_exchange.proofs.waiters.Waiters.sent_as.Goals as goal
 
 pub loop-number-init : goal.loop-number-init

@@ -1,5 +1,5 @@
 use Rattle.std.proofs.Common.{◌-◌, ◌<◌, ◌^◌}
-use Rattle.coap_exchange.proofs.Marking.{NoneSentUpTo}
+use Rattle.coap_exchange.proofs.WaiterIndexing.{NoneSentUpTo}
 use Rattle.coap_exchange.proofs.waiters.Waiters.sent_as.Given as goal
 
 abbrev pub invariant-loop-number : goal.invariant-loop-number

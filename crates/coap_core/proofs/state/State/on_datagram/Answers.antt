@@ -1,0 +1,36 @@
+use Rattle.std.proofs.Common.{rules, ◌≡◌, ◌≤◌, Bool, OnErr, true, length, sym, subst}
+use Rattle.std.proofs.lemmas.Result.{IfOk-weaker}
+use Rattle.coap_model.specs.declared.report.Report.{Report}
+use Rattle.coap_model.specs.History.{grown_of}
+use Rattle.coap_model.specs.Step.{on_message, on_datagram}
+use Rattle.coap_model.specs.State.{Step}
+use Rattle.coap_core.specs.Steps.{Does, wants_memory}
+use Rattle.coap_core.proofs.Read.{on_read-message}
+use Rattle.coap_core.proofs.state.State.on_datagram.Given.{Over}
+use Rattle.coap_core.proofs.state.State.on_datagram.Goals.{In-Some}
+use Rattle.coap_core.proofs.state.State.on_datagram.Goals as goal
+
+-- the step is that of the message that is read
+same : (g : Over) (grown : Bool) (c : In-Some g) → on_datagram c.args.self.now c.args.now grown c.args.source c.args.bytes.now ≡ on_message c.args.self.now c.args.now grown c.args.source c.in-Some.message
+same g grown c = on_read-message c.args.self.now c.args.now grown c.args.source c.args.bytes.now c.in-Some.message (sym c.in-Some.ensures)
+
+pub on_message-requires-clause-fits : goal.on_message-requires-clause-fits
+on_message-requires-clause-fits g c = subst (λ (s : Step). length s.bytes ≤ c.args.out.now.room) (same g true (goal.at.on_message-requires-clause-fits g c).In-Some) c.requires.fits
+
+pub returns-in-Some-clause-done : goal.returns-in-Some-clause-done
+returns-in-Some-clause-done g c =
+    let k = (goal.at.returns-in-Some-clause-done g c).In-Some in
+    let m = c.in-Some.message in
+    let left : Step → Report → Type 0 = λ s report. Does s report c.args.out.now c.on_message.new.out c.on_message.new.self in
+    record {
+      exact = IfOk-weaker c.on_message.result
+          (λ report. left (on_message c.args.self.now c.args.now (grown_of report.outcome) c.args.source m) report)
+          (λ report. left (on_datagram c.args.self.now c.args.now (grown_of report.outcome) c.args.source c.args.bytes.now) report)
+          (λ report does. subst (λ (s : Step). left s report) (sym (same g (grown_of report.outcome) k)) does) c.on_message.ensures.done.exact;
+      err = search rules;
+      kept = search rules;
+    }
+
+pub returns-in-Some-clause-memory : goal.returns-in-Some-clause-memory
+returns-in-Some-clause-memory g c =
+    subst (λ (s : Step). OnErr c.on_message.result (wants_memory s ≡ true)) (sym (same g true (goal.at.returns-in-Some-clause-memory g c).In-Some)) c.on_message.ensures.memory

@@ -1,0 +1,300 @@
+//! What a proxy was made with, and its tables.
+ghost use Rattle.std.specs.Prelude.{◌≡◌, ◌+◌, ◌<◌, ◌≤◌, ◌^◌, None, IfOk};
+ghost use Rattle.coap_exchange.specs.Ids.{called, left_of};
+ghost use Rattle.coap_exchange.specs.Table.{empty_table};
+ghost use Rattle.coap_limits.specs.Limits.{AreLimits};
+ghost use Rattle.coap_model.specs.Setting.{setting_of};
+ghost use Rattle.coap_model.specs.State.{next_id, later, reserved, has_ids, has_exchange_room, has_waiter_room, has_room_to_join, has_room_to_open, new_world, no_con_records, no_non_records, client_counts, counts};
+ghost use Rattle.coap_core.specs.Steps.{CanGoOn, CanStep};
+
+use crate::request_target::CacheQuery;
+use coap_dedup::{EXCHANGE_LIFETIME, NON_LIFETIME, Records};
+use coap_endpoint::Endpoint;
+use coap_exchange::{Exchanges, Ids, UnderWay, Waiters};
+use coap_message::OutOfMemory;
+use coap_model::{ClientCounts, Counts, Limits, Outcome, Report};
+use coap_store::Store;
+use coap_target::Routes;
+use std::alloc::Global;
+use std::marker::Model;
+use std::mem;
+
+/// What a proxy was made with, and what it holds. A contract sees the model's state.
+pub(crate) struct State<S: Store> {
+    pub(crate) alloc: Global,
+    pub(crate) limits: Limits,
+    pub(crate) routes: Routes,
+    pub(crate) salt: u64,
+    /// Exchanges, and the clients that wait for them.
+    pub(crate) under_way: UnderWay,
+    pub(crate) store: S,
+    /// Room for what the next request asks for, which never grows.
+    pub(crate) room: CacheQuery,
+    pub(crate) con_records: Records,
+    pub(crate) non_records: Records,
+    pub(crate) ids: Ids,
+    /// The first Message ID given, or to be given.
+    pub(crate) first_id: u16,
+    pub(crate) last: u64,
+    pub(crate) events: u64,
+}
+
+impl<S: Store + Drop> Drop for State<S> {
+    fn drop(self) {
+        let State {
+            alloc: _,
+            limits: _,
+            routes: _,
+            salt: _,
+            under_way: _,
+            store: _,
+            room: _,
+            con_records: _,
+            non_records: _,
+            ids: _,
+            first_id: _,
+            last: _,
+            events: _,
+        } = self;
+    }
+}
+
+impl<S: Store> Model for State<S> {
+    ghost use Rattle.std.specs.Prelude.{◌≡◌};
+    ghost use Rattle.coap_model.specs.Setting.{setting_of};
+    ghost use Rattle.coap_model.specs.State.{State};
+    ghost use Rattle.coap_core.specs.Storing.{AreStoreLimits};
+
+    ghost Value = { State };
+
+    ghost view = { λ w.
+        record {
+          setting = setting_of w.limits w.routes w.first_id w.salt;
+          exchanges = w.under_way.exchanges.items;
+          waiters = w.under_way.waiters.items;
+          store = S.entries w.store;
+          con_records = w.con_records;
+          non_records = w.non_records;
+          opened = w.under_way.exchanges.admitted;
+          admitted = w.under_way.waiters.admitted;
+          ids = w.ids;
+          last = w.last;
+          events = w.events;
+        } };
+
+    ghost invariant = { λ w.
+        (w.under_way.exchanges.limit ≡ w.limits.exchanges)
+        × (w.under_way.waiters.limit ≡ w.limits.waiters)
+        × (w.under_way.exchanges.per_client ≡ w.limits.client_exchanges)
+        × (w.under_way.waiters.per_client ≡ w.limits.client_waiters)
+        × AreStoreLimits w.limits (S.limits w.store) };
+}
+
+impl<S: Store + Drop> State<S> {
+    /// The state of a proxy that has done nothing yet. Room for exchanges, waiters and records is
+    /// allocated here.
+    pub(crate) fn new(
+        alloc: Global,
+        seed: S::Seed,
+        limits: Limits,
+        routes: Routes,
+        first_id: u16,
+        salt: u64,
+    ) -> Result<State<S>, OutOfMemory>
+        ensures exact { IfOk result (λ state.
+            state ≡ new_world (setting_of limits routes first_id salt)) }
+        ensures limits { AreLimits limits }
+    {
+        let (bytes, entries) = (limits.values().cache_bytes, limits.values().cache_entries);
+        let store = S::with_limits(alloc, seed, bytes, entries as usize)?;
+        let (con_records, non_records) = new_records(alloc, &limits, salt)?;
+        let under_way = new_tables(alloc, &limits, salt)?;
+        let room = new_room(alloc, &limits, &routes)?;
+        Ok(State {
+            alloc,
+            limits,
+            routes,
+            salt,
+            under_way,
+            store,
+            room,
+            con_records,
+            non_records,
+            ids: Ids::new(first_id),
+            first_id,
+            last: 0,
+            events: 0,
+        })
+    }
+
+    /// Takes the room for what a request asks for, until it is given back.
+    pub(crate) fn take_scratch(&mut self) -> CacheQuery
+        ensures { self.new ≡ self.old }
+    {
+        mem::replace(&mut self.room, CacheQuery::new(self.alloc))
+    }
+
+    /// Gives the room back.
+    pub(crate) fn return_scratch(&mut self, room: CacheQuery)
+        ensures { self.new ≡ self.old }
+    {
+        self.room = room;
+    }
+
+    /// Advances the clock by one event.
+    pub(crate) fn advance(&mut self, now: u64)
+        requires { self.old.events < 2 ^ 63 }
+        ensures { self.new ≡ later self.old now }
+    {
+        self.last = now;
+        self.events += 1;
+    }
+
+    /// The Message ID that is given next.
+    pub(crate) fn next_id(&self) -> u16
+        ensures { result ≡ next_id self.now }
+    {
+        self.ids.following
+    }
+
+    /// Gives the next Message ID (RFC 7252, 4.4).
+    pub(crate) fn take_id(&mut self, now: u64) -> u16
+        requires { 0 < left_of now self.old.ids }
+        ensures id { result ≡ next_id self.old }
+        ensures given { self.new ≡ record self.old { ids = called now self.old.ids } }
+    {
+        match self.ids.next(now) {
+            Some(id) => id,
+            None => unreachable!(),
+        }
+    }
+
+    /// The number of Message IDs reserved for requests that are still to be sent, and for clients
+    /// that are still to be served.
+    fn reserved(&self) -> u64
+        requires { CanGoOn self.now }
+        ensures { result ≡ reserved self.now }
+    {
+        self.under_way.waiters().waiting() as u64 + self.under_way.exchanges().queued() as u64
+    }
+
+    /// Whether `count` Message IDs are free at this moment.
+    pub(crate) fn has_ids(&self, count: u64, now: u64) -> bool
+        requires ready { CanStep now self.now }
+        requires few { count < 3 }
+        ensures { result ≡ has_ids count self.now now }
+    {
+        self.reserved() + count <= u64::from(self.ids.left(now))
+    }
+
+    /// Whether there is room for one more exchange that this client opens.
+    fn has_exchange_room(&self, client: Endpoint) -> bool
+        ensures { result ≡ has_exchange_room self.now client }
+    {
+        (self.under_way.exchanges().len() as u64) < self.limits.values().exchanges
+            && (self.under_way.exchanges().count_of(client) as u64)
+                < self.limits.values().client_exchanges
+    }
+
+    /// Whether there is room for one more request of this client to wait.
+    fn has_waiter_room(&self, client: Endpoint) -> bool
+        ensures { result ≡ has_waiter_room self.now client }
+    {
+        (self.under_way.waiters().len() as u64) < self.limits.values().waiters
+            && (self.under_way.waiters().count_of(client) as u64)
+                < self.limits.values().client_waiters
+    }
+
+    /// Whether this client may wait for an exchange that is in progress.
+    pub(crate) fn has_room_to_join(&self, now: u64, client: Endpoint) -> bool
+        requires ready { CanStep now self.now }
+        ensures { result ≡ has_room_to_join self.now now client }
+    {
+        self.has_waiter_room(client) && self.has_ids(1, now)
+    }
+
+    /// Whether there is room for an exchange and this client, which opens it.
+    pub(crate) fn has_room_to_open(&self, now: u64, client: Endpoint) -> bool
+        requires ready { CanStep now self.now }
+        ensures { result ≡ has_room_to_open self.now now client }
+    {
+        self.has_exchange_room(client) && self.has_waiter_room(client) && self.has_ids(2, now)
+    }
+
+    /// How much of what the proxy holds is an endpoint's.
+    pub(crate) fn client_counts(&self, client: Endpoint) -> ClientCounts
+        ensures { result ≡ client_counts self.now client }
+    {
+        ClientCounts {
+            con_records: self.con_records.living_of(client, self.last) as u64,
+            non_records: self.non_records.living_of(client, self.last) as u64,
+            exchanges: self.under_way.exchanges().count_of(client) as u64,
+            waiters: self.under_way.waiters().count_of(client) as u64,
+        }
+    }
+
+    /// How much the proxy holds at present.
+    pub(crate) fn counts(&self) -> Counts
+        ensures { result ≡ counts self.now }
+    {
+        Counts {
+            cached_bytes: self.store.total(),
+            entries: self.store.len() as u64,
+            con_records: self.con_records.living(self.last) as u64,
+            non_records: self.non_records.living(self.last) as u64,
+            exchanges: self.under_way.exchanges().len() as u64,
+            waiters: self.under_way.waiters().len() as u64,
+        }
+    }
+}
+
+/// Room for what any request asks for.
+fn new_room(alloc: Global, limits: &Limits, routes: &Routes) -> Result<CacheQuery, OutOfMemory> {
+    let mut path = 0;
+    for map in routes.maps() {
+        path = path.max(map.origin.path.size());
+    }
+    CacheQuery::with_room(alloc, limits.values().datagram as usize, path)
+}
+
+/// Empty tables of exchanges and of waiters, with room for as many as the limits say.
+fn new_tables(alloc: Global, limits: &Limits, seed: u64) -> Result<UnderWay, OutOfMemory>
+    ensures exchanges { IfOk result (λ made.
+        made.exchanges ≡ empty_table limits.now.exchanges limits.now.client_exchanges) }
+    ensures waiters { IfOk result (λ made.
+        made.waiters ≡ empty_table limits.now.waiters limits.now.client_waiters) }
+{
+    let (all, per_client) = (limits.values().exchanges, limits.values().client_exchanges);
+    let exchanges = Exchanges::seeded(alloc, all as usize, per_client as usize, seed)?;
+    let (all, per_client) = (limits.values().waiters, limits.values().client_waiters);
+    let waiters = Waiters::seeded(alloc, all as usize, per_client as usize, seed)?;
+    UnderWay::new(alloc, exchanges, waiters)
+}
+
+/// Empty records, with room for as many as the limits say.
+fn new_records(alloc: Global, limits: &Limits, seed: u64) -> Result<(Records, Records), OutOfMemory>
+    ensures con { IfOk result (λ made. made.0 ≡ no_con_records limits.now) }
+    ensures non { IfOk result (λ made. made.1 ≡ no_non_records limits.now) }
+{
+    let (all, per_client) = (
+        limits.values().con_records as usize,
+        limits.values().client_con_records as usize,
+    );
+    let con_records = Records::seeded(alloc, all, per_client, EXCHANGE_LIFETIME, seed)?;
+    let (all, per_client) = (
+        limits.values().non_records as usize,
+        limits.values().client_non_records as usize,
+    );
+    let non_records = Records::seeded(alloc, all, per_client, NON_LIFETIME, seed)?;
+    Ok((con_records, non_records))
+}
+
+/// A report of this outcome, with nothing sent.
+pub(crate) fn silent(outcome: Outcome) -> Report
+    ensures { result ≡ record { send = None; outcome = outcome } }
+{
+    Report {
+        send: None,
+        outcome,
+    }
+}

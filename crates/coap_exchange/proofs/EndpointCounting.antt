@@ -1,0 +1,309 @@
+-- How many exchanges there are with each endpoint, as they come, change and go.
+use Rattle.std.proofs.Common.{◌≡◌, ℕ, ◌+◌, ◌-◌, ◌<◌, ◌≤◌, ◌&&◌, List, [], ◌∷◌, ◌++◌, length, Bool, true, false, cond, Option, Some, None, refl, sym, ap, ◌∙◌, arith}
+use Rattle.std.specs.Prelude.{IfSome}
+use Rattle.coap_endpoint.specs.declared.endpoint.Endpoint.{Endpoint}
+use Rattle.coap_endpoint.specs.Endpoint.{same_endpoint}
+use Rattle.coap_endpoint.proofs.Equality.{Tells-endpoint}
+use Rattle.coap_exchange.specs.declared.endpoints.EndpointCounts.{EndpointCounts}
+use Rattle.coap_exchange.specs.declared.exchange.Exchange.{Exchange}
+use Rattle.coap_exchange.specs.declared.exchange.Change.{Change}
+use Rattle.coap_exchange.specs.declared.exchange.Change.TheVariants as change
+use Rattle.coap_exchange.specs.Exchanges.{changed_by, is_queued, is_sent, is_sent_to, tainted_by, is_changed_with}
+use Rattle.coap_exchange.specs.Table.{Numbered, Table, IsTable, item_at, without, withdrawn, changed_at, all_changed, count, passes}
+use Rattle.coap_exchange.specs.Endpoints.{AreCounted, is_queued_to, is_with, sends, is_one, Endpoints, open_in, open_of, queued_in, sent_in, one_if_at}
+use Rattle.coap_endpoint.specs.declared.target.Target.{Target}
+use Rattle.coap_exchange.proofs.Counts.{one_if, count-push, count-changed_at, count-kept, count-less, count-moved, count-all_changed, count-without, count-withdrawn, count-length}
+use Rattle.coap_exchange.proofs.Orders.{one-only, one-same}
+
+-- a number of one endpoint becomes another
+pub moved-at : (at e : Endpoint) (g : Endpoint → ℕ) (new now less more : ℕ) → new ≡ cond (is_one at e) now (g e) → now ≡ (g at - less) + more → new ≡ (g e - cond (is_one at e) less 0) + cond (is_one at e) more 0
+moved-at at e g new now less more is same = go (is_one at e) refl is
+  where
+    go : (b : Bool) → is_one at e ≡ b → new ≡ cond b now (g e) → new ≡ (g e - cond b less 0) + cond b more 0
+    go true f h = let there : g at ≡ g e = ap g (one-only at e f) in omega arith
+    go false f h = omega arith
+
+-- it counts at one endpoint alone
+pub one_if_at-split : (counts : Bool) (at e : Endpoint) → one_if_at counts at e ≡ cond (is_one at e) (one_if counts) 0
+one_if_at-split true at e = refl
+one_if_at-split false at e = go (is_one at e)
+  where
+    go : (b : Bool) → one_if (false && b) ≡ cond b (one_if false) (one_if false)
+    go true = refl
+    go false = refl
+
+-- a function of a choice is a choice
+pub cond-of : {V : Type 0} (f : Option V → ℕ) (b : Bool) (x y : Option V) → f (cond b x y) ≡ cond b (f x) (f y)
+cond-of f true x y = refl
+cond-of f false x y = refl
+
+-- what is put in the place of an endpoint
+pub put-at : {V : Type 0} (f : Option V → ℕ) (old new : Endpoint → Option V) (at : Endpoint) (w : Option V) (less more : ℕ) → ((q : Endpoint) → new q ≡ cond (is_one at q) w (old q)) → f w ≡ (f (old at) - less) + more
+    → (e : Endpoint) → f (new e) ≡ (f (old e) - cond (is_one at e) less 0) + cond (is_one at e) more 0
+put-at f old new at w less more puts same e =
+    moved-at at e (λ q. f (old q)) (f (new e)) (f w) less more (ap f (puts e) ∙ cond-of f (is_one at e) w (old e)) same
+
+-- adding nothing
+no-more : (b : Bool) (n : ℕ) → n + cond b 0 0 ≡ n
+no-more true n = omega arith
+no-more false n = omega arith
+
+-- taking nothing away
+no-less : (b : Bool) (n : ℕ) → n - cond b 0 0 ≡ n
+no-less true n = omega arith
+no-less false n = omega arith
+
+-- it is raised, lowered or stays
+pub put-more : {V : Type 0} (f : Option V → ℕ) (old new : Endpoint → Option V) (at : Endpoint) (w : Option V) (more : ℕ) → ((q : Endpoint) → new q ≡ cond (is_one at q) w (old q)) → f w ≡ f (old at) + more
+    → (e : Endpoint) → f (new e) ≡ f (old e) + cond (is_one at e) more 0
+put-more f old new at w more puts same e = put-at f old new at w 0 more puts (omega arith) e ∙ ap (λ (n : ℕ). n + cond (is_one at e) more 0) (no-less (is_one at e) (f (old e)))
+
+-- it is lowered
+pub put-less : {V : Type 0} (f : Option V → ℕ) (old new : Endpoint → Option V) (at : Endpoint) (w : Option V) (less : ℕ) → ((q : Endpoint) → new q ≡ cond (is_one at q) w (old q)) → f w ≡ f (old at) - less
+    → (e : Endpoint) → f (new e) ≡ f (old e) - cond (is_one at e) less 0
+put-less f old new at w less puts same e = put-at f old new at w less 0 puts (omega arith) e ∙ no-more (is_one at e) (f (old e) - cond (is_one at e) less 0)
+
+-- it stays
+pub put-same : {V : Type 0} (f : Option V → ℕ) (old new : Endpoint → Option V) (at : Endpoint) (w : Option V) → ((q : Endpoint) → new q ≡ cond (is_one at q) w (old q)) → f w ≡ f (old at)
+    → (e : Endpoint) → f (new e) ≡ f (old e)
+put-same f old new at w puts same e = put-less f old new at w 0 puts (omega arith) e ∙ no-less (is_one at e) (f (old e))
+
+-- the same, of a number alone
+pub set-less : (g h : Endpoint → ℕ) (at : Endpoint) (now less : ℕ) → ((e : Endpoint) → h e ≡ cond (is_one at e) now (g e)) → now ≡ g at - less → (e : Endpoint) → h e ≡ g e - cond (is_one at e) less 0
+set-less g h at now less sets same e = moved-at at e g (h e) now less 0 (sets e) (omega arith) ∙ no-more (is_one at e) (g e - cond (is_one at e) less 0)
+
+-- the same where it stays
+pub set-same : (g h : Endpoint → ℕ) (at : Endpoint) (now : ℕ) → ((e : Endpoint) → h e ≡ cond (is_one at e) now (g e)) → now ≡ g at → (e : Endpoint) → h e ≡ g e
+set-same g h at now sets same e = set-less g h at now 0 sets (omega arith) e ∙ no-less (is_one at e) (g e)
+
+-- of what is counted there is something
+pub some-counted : (o : Option EndpointCounts) → 0 < open_of o → o ≡ None → ⊥
+some-counted o some none = let zero : open_of o ≡ 0 = ap open_of none in omega arith
+
+-- ---- exchanges come, change and go
+
+-- what is counted for an endpoint of an exchange, whatever its stage
+at-with : (x : Exchange) (e : Endpoint) → one_if_at true x.key.target.at e ≡ one_if (is_with e x)
+at-with x e = ap one_if (one-same x.key.target.at e)
+
+-- of one that is sent
+at-sent : (x : Exchange) (e : Endpoint) → one_if_at (is_sent x) x.key.target.at e ≡ one_if (is_sent_to e x)
+at-sent x e = ap (λ (b : Bool). one_if (is_sent x && b)) (one-same x.key.target.at e)
+
+-- of one that waits for its turn
+at-queued : (x : Exchange) (e : Endpoint) → one_if_at (is_queued x) x.key.target.at e ≡ one_if (is_queued_to e x)
+at-queued x e = ap (λ (b : Bool). one_if (is_queued x && b)) (one-same x.key.target.at e)
+
+-- one comes that waits for its turn
+pub counted-push : (xs : List (Numbered Exchange)) (old new : Endpoints) (n : ℕ) (x : Exchange) → is_sent x ≡ false → is_queued x ≡ true → AreCounted xs old
+    → ((e : Endpoint) → open_in new e ≡ open_in old e + one_if_at true x.key.target.at e) → ((e : Endpoint) → sent_in new e ≡ sent_in old e) → ((e : Endpoint) → queued_in new e ≡ queued_in old e + one_if_at true x.key.target.at e) → AreCounted (xs ++ (n, x) ∷ []) new
+counted-push xs old new n x off on are all sent queued = record {
+  all = λ e. (let counted = count-push (is_with e) xs (n, x) in let one = at-with x e in let was = are.all e in let now = all e in omega arith);
+  sent = λ e. (let counted = count-push (is_sent_to e) xs (n, x) in let none : one_if (is_sent x && same_endpoint x.key.target.at e) ≡ one_if false = ap (λ (b : Bool). one_if (b && same_endpoint x.key.target.at e)) off in let was = are.sent e in let now = sent e in omega arith);
+  queued = λ e. (let counted = count-push (is_queued_to e) xs (n, x) in let one : one_if_at true x.key.target.at e ≡ one_if (is_queued_to e x) = ap (λ (b : Bool). one_if_at b x.key.target.at e) (sym on) ∙ at-queued x e in let was = are.queued e in let now = queued e in omega arith);
+}
+
+-- one that was counted is taken back
+pub counted-undone : (xs : List (Numbered Exchange)) (old more new : Endpoints) (at : Endpoint) → AreCounted xs old
+    → ((e : Endpoint) → open_in more e ≡ open_in old e + one_if_at true at e) → ((e : Endpoint) → sent_in more e ≡ sent_in old e) → ((e : Endpoint) → queued_in more e ≡ queued_in old e + one_if_at true at e)
+    → ((e : Endpoint) → open_in new e ≡ open_in more e - one_if_at true at e) → ((e : Endpoint) → sent_in new e ≡ sent_in more e - one_if_at false at e) → ((e : Endpoint) → queued_in new e ≡ queued_in more e - one_if_at true at e) → AreCounted xs new
+counted-undone xs old more new at are all sent queued closed unsent unqueued = record {
+  all = λ e. omega (arith, all e, closed e, are.all e);
+  sent = λ e. omega (arith, sent e, unsent e, are.sent e, one_if_at-split false at e, none e (is_one at e));
+  queued = λ e. omega (arith, queued e, unqueued e, are.queued e);
+}
+  where
+    none : (e : Endpoint) (b : Bool) → cond b (one_if false) 0 ≡ 0
+    none e true = refl
+    none e false = refl
+
+-- it was counted
+pub counted-there : (n : ℕ) (t : Table Exchange) (endpoints : Endpoints) (x : Exchange) → IsTable t → AreCounted t.items endpoints → item_at n t.items ≡ Some x → 0 < open_in endpoints x.key.target.at
+counted-there n t endpoints x is are there =
+    let counted = count-without (is_with x.key.target.at) n 0 t.items is.rising in
+    let one : one_if (passes (is_with x.key.target.at) (item_at n t.items)) ≡ 1 = ap (λ (o : Option Exchange). one_if (passes (is_with x.key.target.at) o)) there ∙ ap one_if (Tells-endpoint.itself x.key.target.at) in
+    let was = are.all x.key.target.at in
+    omega arith
+
+-- of those that pass a test there are no more than of all
+with-less : (test : Exchange → Bool) (e : Endpoint) (x : Exchange) → (test x && same_endpoint x.key.target.at e) ≡ true → is_with e x ≡ true
+with-less test e x s = go (test x) s
+  where
+    go : (b : Bool) → (b && same_endpoint x.key.target.at e) ≡ true → same_endpoint x.key.target.at e ≡ true
+    go true f = f
+    go false f = absurd cc
+
+-- and of the others no more pass than there are
+few-that : (test : Exchange → Bool) (counted : Endpoint → ℕ) (n : ℕ) (t : Table Exchange) (endpoints : Endpoints) (x : Exchange) → IsTable t → AreCounted t.items endpoints → ((e : Endpoint) → counted e ≡ count (λ y. test y && same_endpoint y.key.target.at e) t.items) → item_at n t.items ≡ Some x
+    → counted x.key.target.at ≤ (open_in endpoints x.key.target.at - 1) + one_if (test x)
+few-that test counted n t endpoints x is are counts there =
+    let e = x.key.target.at in
+    let passing = λ (y : Exchange). test y && same_endpoint y.key.target.at x.key.target.at in
+    let with = count-without (is_with x.key.target.at) n 0 t.items is.rising in
+    let some = count-without passing n 0 t.items is.rising in
+    let one : one_if (passes (is_with x.key.target.at) (item_at n t.items)) ≡ 1 = ap (λ (o : Option Exchange). one_if (passes (is_with x.key.target.at) o)) there ∙ ap one_if (Tells-endpoint.itself x.key.target.at) in
+    let other : one_if (passes passing (item_at n t.items)) ≡ one_if (test x && true) = ap (λ (o : Option Exchange). one_if (passes passing o)) there ∙ ap (λ (b : Bool). one_if (test x && b)) (Tells-endpoint.itself x.key.target.at) in
+    let plain : one_if (test x && true) ≡ one_if (test x) = both (test x) in
+    let less = count-less passing (is_with x.key.target.at) (with-less test x.key.target.at) (without n t.items) in
+    let a = are.all x.key.target.at in
+    let s = counts x.key.target.at in
+    omega arith
+  where
+    both : (b : Bool) → one_if (b && true) ≡ one_if b
+    both true = refl
+    both false = refl
+
+-- of the others no more are sent than there are
+pub few-sent : (n : ℕ) (t : Table Exchange) (endpoints : Endpoints) (x : Exchange) → IsTable t → AreCounted t.items endpoints → item_at n t.items ≡ Some x → sent_in endpoints x.key.target.at ≤ (open_in endpoints x.key.target.at - 1) + one_if (is_sent x)
+few-sent n t endpoints x is are there = few-that is_sent (sent_in endpoints) n t endpoints x is are are.sent there
+
+-- nor wait more
+pub few-queued : (n : ℕ) (t : Table Exchange) (endpoints : Endpoints) (x : Exchange) → IsTable t → AreCounted t.items endpoints → item_at n t.items ≡ Some x → queued_in endpoints x.key.target.at ≤ (open_in endpoints x.key.target.at - 1) + one_if (is_queued x)
+few-queued n t endpoints x is are there = few-that is_queued (queued_in endpoints) n t endpoints x is are are.queued there
+
+-- no more wait than there are exchanges
+pub queued-few : (endpoints : Endpoints) (xs : List (Numbered Exchange)) (e : Endpoint) → AreCounted xs endpoints → queued_in endpoints e ≤ length xs
+queued-few endpoints xs e are = let few = count-length (is_queued_to e) xs in let s = are.queued e in omega arith
+
+-- no more are sent than there are exchanges
+pub sent-few : (endpoints : Endpoints) (xs : List (Numbered Exchange)) (e : Endpoint) → AreCounted xs endpoints → sent_in endpoints e ≤ length xs
+sent-few endpoints xs e are = let few = count-length (is_sent_to e) xs in let s = are.sent e in omega arith
+
+-- one goes
+pub counted-without : (n : ℕ) (t : Table Exchange) (old new : Endpoints) → IsTable t → AreCounted t.items old
+    → ((e : Endpoint) → open_in new e + one_if (passes (is_with e) (item_at n t.items)) ≡ open_in old e) → ((e : Endpoint) → sent_in new e + one_if (passes (is_sent_to e) (item_at n t.items)) ≡ sent_in old e) → ((e : Endpoint) → queued_in new e + one_if (passes (is_queued_to e) (item_at n t.items)) ≡ queued_in old e) → AreCounted (without n t.items) new
+counted-without n t old new is are all sent queued = record {
+  all = λ e. (let counted = count-without (is_with e) n 0 t.items is.rising in let was = are.all e in let now = all e in omega arith);
+  sent = λ e. (let counted = count-without (is_sent_to e) n 0 t.items is.rising in let was = are.sent e in let now = sent e in omega arith);
+  queued = λ e. (let counted = count-without (is_queued_to e) n 0 t.items is.rising in let was = are.queued e in let now = queued e in omega arith);
+}
+
+-- the last is withdrawn
+pub counted-withdrawn : (t : Table Exchange) (old new : Endpoints) → IsTable t → AreCounted t.items old
+    → ((e : Endpoint) → open_in new e + one_if (passes (is_with e) (item_at t.admitted t.items)) ≡ open_in old e) → ((e : Endpoint) → sent_in new e + one_if (passes (is_sent_to e) (item_at t.admitted t.items)) ≡ sent_in old e) → ((e : Endpoint) → queued_in new e + one_if (passes (is_queued_to e) (item_at t.admitted t.items)) ≡ queued_in old e) → AreCounted (withdrawn t).items new
+counted-withdrawn t old new is are all sent queued = record {
+  all = λ e. (let counted = count-withdrawn (is_with e) t is in let was = are.all e in let now = all e in omega arith);
+  sent = λ e. (let counted = count-withdrawn (is_sent_to e) t is in let was = are.sent e in let now = sent e in omega arith);
+  queued = λ e. (let counted = count-withdrawn (is_queued_to e) t is in let was = are.queued e in let now = queued e in omega arith);
+}
+
+-- what is closed for an item leaves the counts of the others
+pub left : (x : Exchange) (o : Option Exchange) (old new : Endpoint → ℕ) (test : Endpoint → Exchange → Bool) (one : Endpoint → ℕ) → o ≡ Some x → ((e : Endpoint) → one e ≡ one_if (test e x)) → ((e : Endpoint) → new e ≡ old e - one e) → ((e : Endpoint) → one_if (passes (test e) o) ≤ old e)
+    → (e : Endpoint) → new e + one_if (passes (test e) o) ≡ old e
+left x o old new test one there same less some e =
+    let at : one_if (passes (test e) o) ≡ one_if (test e x) = ap (λ (p : Option Exchange). one_if (passes (test e) p)) there in
+    let a = same e in
+    let b = less e in
+    let c = some e in
+    omega arith
+
+-- an item is counted
+pub counted-some : (test : Endpoint → Exchange → Bool) (n : ℕ) (t : Table Exchange) (old : Endpoint → ℕ) → IsTable t → ((e : Endpoint) → old e ≡ count (test e) t.items) → (e : Endpoint) → one_if (passes (test e) (item_at n t.items)) ≤ old e
+counted-some test n t old is are e = let counted = count-without (test e) n 0 t.items is.rising in let was = are e in omega arith
+
+-- the same for all endpoints
+pub at-with-of : (x : Exchange) → (e : Endpoint) → one_if_at true x.key.target.at e ≡ one_if (is_with e x)
+at-with-of = at-with
+
+-- of one that waits for its turn
+pub at-queued-of : (x : Exchange) → (e : Endpoint) → one_if_at (is_queued x) x.key.target.at e ≡ one_if (is_queued_to e x)
+at-queued-of = at-queued
+
+-- of one that is sent
+pub at-sent-of : (x : Exchange) → (e : Endpoint) → one_if_at (is_sent x) x.key.target.at e ≡ one_if (is_sent_to e x)
+at-sent-of = at-sent
+
+-- what a change makes of whether it is sent
+pub sends-is : (ch : Change) (x : Exchange) → is_sent (changed_by ch x) ≡ sends ch (is_sent x)
+sends-is (change.Send s) x = refl
+sends-is (change.Fire now) x = refl
+sends-is change.Acknowledge x = refl
+sends-is (change.Answer a) x = refl
+
+-- a change leaves the endpoint
+same-with : (ch : Change) (e : Endpoint) (x : Exchange) → is_with e (changed_by ch x) ≡ is_with e x
+same-with (change.Send s) e x = refl
+same-with (change.Fire now) e x = refl
+same-with change.Acknowledge e x = refl
+same-with (change.Answer a) e x = refl
+
+-- what is counted after a change
+pub sent-after : (ch : Change) (e : Endpoint) (x : Exchange) → one_if_at (sends ch (is_sent x)) x.key.target.at e ≡ one_if (is_sent_to e (changed_by ch x))
+sent-after ch e x =
+    ap (λ (b : Bool). one_if (sends ch (is_sent x) && b)) (one-same x.key.target.at e)
+    ∙ ap (λ (b : Bool). one_if (b && same_endpoint x.key.target.at e)) (sym (sends-is ch x))
+    ∙ ap (λ (b : Bool). one_if (is_sent (changed_by ch x) && b)) (sym (same-with ch e x))
+
+-- one changes
+pub counted-changed : (n : ℕ) (ch : Change) (t : Table Exchange) (old new : Endpoints) → IsTable t → AreCounted t.items old
+    → ((e : Endpoint) → open_in new e ≡ open_in old e)
+    → ((e : Endpoint) → sent_in new e + one_if (passes (is_sent_to e) (item_at n t.items)) ≡ sent_in old e + one_if (passes (λ x. is_sent_to e (changed_by ch x)) (item_at n t.items)))
+    → IfSome (item_at n t.items) (λ x. is_queued (changed_by ch x) ≡ false)
+    → ((e : Endpoint) → queued_in new e + one_if (passes (is_queued_to e) (item_at n t.items)) ≡ queued_in old e)
+    → AreCounted (changed_at n (changed_by ch) t.items) new
+counted-changed n ch t old new is are all sent off queued = record {
+  all = λ e. all e ∙ are.all e ∙ sym (count-kept (is_with e) n (changed_by ch) t.items (same-with ch e));
+  sent = λ e. (let counted = count-moved (is_sent_to e) n 0 (changed_by ch) t.items is.rising in let was = are.sent e in let now = sent e in omega arith);
+  queued = λ e. (let counted = count-changed_at (is_queued_to e) n 0 (changed_by ch) t.items is.rising (no-more-queued e (item_at n t.items) off) in let was = are.queued e in let now = queued e in omega arith);
+}
+  where
+    no-more-queued : (e : Endpoint) (o : Option Exchange) → IfSome o (λ x. is_queued (changed_by ch x) ≡ false) → IfSome o (λ x. is_queued_to e (changed_by ch x) ≡ false)
+    no-more-queued e None f = tt
+    no-more-queued e (Some x) f = ap (λ (b : Bool). b && same_endpoint (changed_by ch x).key.target.at e) f
+
+-- a taint leaves the endpoint
+same-taint : (target : Target) (e : Endpoint) (x : Exchange) → is_with e (tainted_by target x) ≡ is_with e x
+same-taint target e x = go (is_changed_with target x)
+  where
+    go : (b : Bool) → is_with e (cond b (record x { tainted = true }) x) ≡ is_with e x
+    go true = refl
+    go false = refl
+
+-- and what is sent
+pub sent-taint : (target : Target) (e : Endpoint) (x : Exchange) → is_sent_to e (tainted_by target x) ≡ is_sent_to e x
+sent-taint target e x = go (is_changed_with target x)
+  where
+    go : (b : Bool) → is_sent_to e (cond b (record x { tainted = true }) x) ≡ is_sent_to e x
+    go true = refl
+    go false = refl
+
+-- and what waits
+pub queued-taint : (target : Target) (e : Endpoint) (x : Exchange) → is_queued_to e (tainted_by target x) ≡ is_queued_to e x
+queued-taint target e x = go (is_changed_with target x)
+  where
+    go : (b : Bool) → is_queued_to e (cond b (record x { tainted = true }) x) ≡ is_queued_to e x
+    go true = refl
+    go false = refl
+
+-- all are tainted
+pub counted-tainted : (target : Target) (xs : List (Numbered Exchange)) (endpoints : Endpoints) → AreCounted xs endpoints → AreCounted (all_changed (tainted_by target) xs) endpoints
+counted-tainted target xs endpoints are = record {
+  all = λ e. are.all e ∙ sym (count-all_changed (is_with e) (tainted_by target) xs (same-taint target e));
+  sent = λ e. are.sent e ∙ sym (count-all_changed (is_sent_to e) (tainted_by target) xs (sent-taint target e));
+  queued = λ e. are.queued e ∙ sym (count-all_changed (is_queued_to e) (tainted_by target) xs (queued-taint target e));
+}
+
+-- what is counted of the exchange that changes
+pub recounted : (n : ℕ) (ch : Change) (t : Table Exchange) (endpoints : Endpoints) (x : Exchange) (new : Endpoint → ℕ) → IsTable t → AreCounted t.items endpoints → item_at n t.items ≡ Some x
+    → ((e : Endpoint) → new e ≡ (sent_in endpoints e - one_if_at (is_sent x) x.key.target.at e) + one_if_at (sends ch (is_sent x)) x.key.target.at e)
+    → (e : Endpoint) → new e + one_if (passes (is_sent_to e) (item_at n t.items)) ≡ sent_in endpoints e + one_if (passes (λ y. is_sent_to e (changed_by ch y)) (item_at n t.items))
+recounted n ch t endpoints x new is are there moves e =
+    let some = counted-some is_sent_to n t (sent_in endpoints) is are.sent e in
+    let was = at-sent x e in
+    let now = sent-after ch e x in
+    let before : one_if (passes (is_sent_to e) (item_at n t.items)) ≡ one_if (is_sent_to e x) = ap (λ (o : Option Exchange). one_if (passes (is_sent_to e) o)) there in
+    let after : one_if (passes (λ y. is_sent_to e (changed_by ch y)) (item_at n t.items)) ≡ one_if (is_sent_to e (changed_by ch x)) = ap (λ (o : Option Exchange). one_if (passes (λ y. is_sent_to e (changed_by ch y)) o)) there in
+    let step = moves e in
+    omega (arith, some, was, now, before, after, step)
+
+-- an endpoint is itself
+pub one-itself : (at : Endpoint) → one_if_at true at at ≡ 1
+one-itself at = ap one_if (one-same at at ∙ Tells-endpoint.itself at)
+
+-- no more wait than there are
+pub queued-less : (endpoints : Endpoints) (xs : List (Numbered Exchange)) (e : Endpoint) → AreCounted xs endpoints → queued_in endpoints e ≤ open_in endpoints e
+queued-less endpoints xs e are = let less = count-less (is_queued_to e) (is_with e) (with-less is_queued e) xs in let a = are.all e in let s = are.queued e in omega arith
+
+-- no more are sent than there are
+pub sent-less : (endpoints : Endpoints) (xs : List (Numbered Exchange)) (e : Endpoint) → AreCounted xs endpoints → sent_in endpoints e ≤ open_in endpoints e
+sent-less endpoints xs e are = let less = count-less (is_sent_to e) (is_with e) (with-less is_sent e) xs in let a = are.all e in let s = are.sent e in omega arith

@@ -1,0 +1,26 @@
+use Rattle.std.proofs.Common.{refl, sym, subst}
+use Rattle.std.specs.Prelude.{IfSome, Option}
+use Rattle.coap_exchange.specs.declared.exchange.Exchange.{Exchange}
+use Rattle.coap_exchange.specs.Exchanges.{changed_by, CanChange}
+use Rattle.coap_exchange.specs.Table.{Table, by_number, item_at}
+use Rattle.coap_exchange.proofs.Changes.{changed_at-is, written-is}
+use Rattle.coap_exchange.proofs.ByNumber.{item_at-by_number}
+use Rattle.coap_exchange.proofs.exchanges.Table+IndexedExchange.change.Goals as goal
+
+pub change_under-requires : goal.change_under-requires
+change_under-requires c =
+    let there : IfSome (item_at c.args.number (by_number c.self.inside.items.entries)) (CanChange c.args.change) = subst (λ (t : Table Exchange). IfSome (item_at c.args.number t.items) (CanChange c.args.change)) (sym c.self.view_is) c.requires in
+    subst (λ (o : Option Exchange). IfSome o (CanChange c.args.change)) (item_at-by_number c.args.number c.self.inside.items.entries) there
+
+pub invariant_of-self : goal.invariant_of-self
+invariant_of-self c =
+    rw (written-is c.args.number (changed_by c.args.change) 0 c.self.inside.items.entries c.change_under.new.exchanges.entries c.self.invariant.rising c.change_under.ensures.found c.change_under.ensures.missing)
+    (changed_at-is c.args.number (changed_by c.args.change) (record { items = by_number c.self.inside.items.entries; limit = c.self.inside.limit; per_client = c.self.inside.per_client; admitted = c.self.inside.admitted }) c.self.invariant)
+
+pub returns-clause-changed : goal.returns-clause-changed
+returns-clause-changed c =
+    rw (← c.self.view_is, written-is c.args.number (changed_by c.args.change) 0 c.self.inside.items.entries c.change_under.new.exchanges.entries c.self.invariant.rising c.change_under.ensures.found c.change_under.ensures.missing) refl
+
+pub returns-clause-keys : goal.returns-clause-keys
+returns-clause-keys c =
+    rw (← c.self.view_is, item_at-by_number c.args.number c.self.inside.items.entries) c.change_under.ensures.keys

@@ -1,0 +1,14 @@
+use Rattle.std.proofs.Common.{refl}
+use Rattle.coap_exchange.specs.Exchanges.{tainted_by}
+use Rattle.coap_exchange.specs.Table.{by_number}
+use Rattle.coap_exchange.proofs.Changes.{changed_at-is, written-is}
+use Rattle.coap_exchange.proofs.exchanges.Table+IndexedExchange.taint.Goals as goal
+
+pub invariant_of-self : goal.invariant_of-self
+invariant_of-self c =
+    rw (written-is c.args.number (tainted_by c.args.target.now) 0 c.self.inside.items.entries c.taint_under.new.exchanges.entries c.self.invariant.rising c.taint_under.ensures.found c.taint_under.ensures.missing)
+    (changed_at-is c.args.number (tainted_by c.args.target.now) (record { items = by_number c.self.inside.items.entries; limit = c.self.inside.limit; per_client = c.self.inside.per_client; admitted = c.self.inside.admitted }) c.self.invariant)
+
+pub returns : goal.returns
+returns c =
+    rw (← c.self.view_is, written-is c.args.number (tainted_by c.args.target.now) 0 c.self.inside.items.entries c.taint_under.new.exchanges.entries c.self.invariant.rising c.taint_under.ensures.found c.taint_under.ensures.missing) refl

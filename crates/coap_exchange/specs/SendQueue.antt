@@ -1,0 +1,66 @@
+-- Whose turn it is to be sent: for each endpoint its first queued exchange, keyed by how many are
+-- sent to the endpoint.
+use Rattle.std.specs.Prelude.{◌≡◌, ℕ, ◌<◌, ◌≤◌, ◌&&◌, max, true, if◌then◌else◌, nat_le, nat_lt, List, length, Option, Some, None}
+use Rattle.std.specs.Option.{option_map}
+use Rattle.coap_endpoint.specs.declared.endpoint.Endpoint.{Endpoint}
+use Rattle.coap_exchange.specs.declared.exchange.Exchange.{Exchange}
+use Rattle.coap_exchange.specs.declared.send_queue.SendQueue.{SendQueue}
+use Rattle.coap_exchange.specs.Exchanges.{is_sent_to}
+use Rattle.coap_exchange.specs.Endpoints.{is_queued_to}
+use Rattle.ordered_index.specs.Ordered.{Pair, OrderedIndex, is_in}
+use Rattle.coap_exchange.specs.Table.{Numbered, count, first_that, item_at}
+
+-- the number of exchanges sent to an endpoint, and its first queued exchange, if it has one
+abbrev pub head_at : List (Numbered Exchange) → Endpoint → Option Pair
+head_at items at =
+    option_map (λ n. (count (is_sent_to at) items, n)) (first_that (is_queued_to at) items)
+
+-- the same, if there is an endpoint
+abbrev pub head_in : List (Numbered Exchange) → Option Endpoint → Option Pair
+head_in items None = None
+head_in items (Some at) = head_at items at
+
+-- the endpoint of an exchange
+abbrev pub endpoint_in : Option Exchange → Option Endpoint
+endpoint_in found = option_map (λ x. x.key.target.at) found
+
+-- the roll holds the heads of all endpoints, and nothing else
+pub record AreHeads (items : List (Numbered Exchange)) (heads : OrderedIndex) : Type 0 where
+  pub only : (p : Pair) → is_in p heads.pairs ≡ true → (at : Endpoint) × (head_at items at ≡ Some p)
+  pub all : (at : Endpoint) (p : Pair) → head_at items at ≡ Some p → is_in p heads.pairs ≡ true
+  pub room : length heads.pairs ≤ heads.limit
+
+-- none was admitted after `latest`, and each was admitted no earlier than those with lower numbers
+pub record AreInOrder (items : List (Numbered Exchange)) (latest : ℕ) : Type 0 where
+  pub early : (n : ℕ) (x : Exchange) → item_at n items ≡ Some x → x.admitted ≤ latest
+  pub order :
+      (n m : ℕ) (x y : Exchange)
+      → item_at n items ≡ Some x
+      → item_at m items ≡ Some y
+      → n < m
+      → x.admitted ≤ y.admitted
+
+-- the state that decides whose turn it is
+pub record IsSendQueue (items : List (Numbered Exchange)) (send_queue : SendQueue) : Type 0 where
+  pub heads : AreHeads items send_queue.heads
+  pub order : send_queue.in_order ≡ true → AreInOrder items send_queue.latest
+
+-- an exchange was admitted at this moment
+abbrev pub noted : ℕ → SendQueue → SendQueue
+noted now send_queue =
+    record send_queue {
+      latest = max send_queue.latest now;
+      in_order = send_queue.in_order && nat_le send_queue.latest now;
+    }
+
+-- the lower of two numbers, or the second if there is no first
+abbrev pub lower : Option ℕ → ℕ → Option ℕ
+lower None m = Some m
+lower (Some n) m = if nat_lt n m then Some n else Some m
+
+-- the least number among the pairs whose key is less than `most`
+abbrev pub IsLowestUnder : ℕ → List Pair → Option ℕ → Type 0
+IsLowestUnder most pairs None = (p : Pair) → is_in p pairs ≡ true → most ≤ p.0
+IsLowestUnder most pairs (Some n) =
+    ((c : ℕ) × (c < most) × (is_in (c, n) pairs ≡ true))
+    × ((p : Pair) → is_in p pairs ≡ true → p.0 < most → n ≤ p.1)

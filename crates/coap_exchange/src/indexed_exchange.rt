@@ -1,0 +1,141 @@
+//! Exchanges with the digests that they are looked up by.
+ghost use Rattle.std.specs.Prelude.{◌≡◌};
+ghost use Rattle.std.specs.Option.{option_copied, option_map};
+ghost use Rattle.coap_exchange.specs.Digests.{digest_of_key, digest_of_target};
+ghost use Rattle.coap_exchange.specs.Exchanges.{changed_by, is_queued, is_sent, tainted_by, CanChange};
+ghost use Rattle.coap_exchange.specs.Table.{item_at, IsTable};
+
+use crate::digests::{digest_of_key, digest_of_target};
+use crate::endpoints::Stage;
+use crate::exchange::{Change, Exchange};
+use crate::peer::Peer;
+use crate::table::Table;
+use coap_endpoint::Target;
+use std::marker::Model;
+
+/// An exchange, and the digests that it is looked up by, which are computed once, when it is
+/// opened. A contract sees the exchange.
+#[derive(Drop)]
+pub(crate) struct IndexedExchange {
+    exchange: Exchange,
+    client: Peer,
+    peer: Peer,
+    key: u64,
+    target: u64,
+}
+
+impl Model for IndexedExchange {
+    ghost use Rattle.std.specs.Prelude.{◌≡◌};
+    ghost use Rattle.coap_exchange.specs.declared.exchange.Exchange.{Exchange};
+    ghost use Rattle.coap_exchange.specs.Digests.{digest_of_key, digest_of_target};
+
+    ghost Value = { Exchange };
+
+    ghost view = { λ l. l.exchange };
+
+    ghost invariant = { λ l.
+        (l.client ≡ l.exchange.client)
+        × (l.peer ≡ l.exchange.key.target.at)
+        × (l.key ≡ digest_of_key l.exchange.key)
+        × (l.target ≡ digest_of_target l.exchange.key.target) };
+}
+
+impl IndexedExchange {
+    /// Computes the digests of a new exchange, which this client opened.
+    pub(crate) fn new(exchange: Exchange, client: Peer) -> IndexedExchange
+        requires { client ≡ exchange.client }
+        ensures exact { result ≡ exchange }
+    {
+        let peer = Peer::new(exchange.key.target.at);
+        let key = digest_of_key(&exchange.key);
+        let target = digest_of_target(&exchange.key.target);
+        IndexedExchange {
+            exchange,
+            client,
+            peer,
+            key,
+            target,
+        }
+    }
+
+    /// The exchange.
+    pub(crate) fn exchange(&self) -> &Exchange
+        ensures exact { result.now ≡ self.now }
+    {
+        &self.exchange
+    }
+
+    /// The client that opened it.
+    pub(crate) fn client(&self) -> Peer
+        ensures exact { result ≡ self.now.client }
+    {
+        self.client
+    }
+
+    /// Its endpoint.
+    pub(crate) fn peer(&self) -> Peer
+        ensures exact { result ≡ self.now.key.target.at }
+    {
+        self.peer
+    }
+
+    /// What of it is counted for its endpoint.
+    pub(crate) fn stage(&self) -> Stage
+        ensures sent { result.sent ≡ is_sent self.now }
+        ensures queued { result.queued ≡ is_queued self.now }
+    {
+        self.exchange.stage()
+    }
+
+    /// The digest of its cache key.
+    pub(crate) fn key(&self) -> u64
+        ensures exact { result ≡ digest_of_key self.now.key }
+    {
+        self.key
+    }
+
+    /// The digest of its target.
+    pub(crate) fn target(&self) -> u64
+        ensures exact { result ≡ digest_of_target self.now.key.target }
+    {
+        self.target
+    }
+
+    /// Applies a change to the exchange.
+    pub(crate) fn change(&mut self, change: Change)
+        requires { CanChange change self.old }
+        ensures exact { self.new ≡ changed_by change self.old }
+    {
+        self.exchange.change(change);
+    }
+
+    /// Taints it if a change of this target affects its answer.
+    pub(crate) fn taint(&mut self, target: &Target)
+        ensures exact { self.new ≡ tainted_by target.now self.old }
+    {
+        self.exchange.taint(target);
+    }
+}
+
+/// The client that opened an exchange, if there is one.
+pub(crate) fn client_of(found: Option<&IndexedExchange>) -> Option<Peer>
+    ensures exact { result ≡ option_map (λ x. x.client) (option_copied found.entry) }
+{
+    match found {
+        Some(listed) => Some(listed.client()),
+        None => None,
+    }
+}
+
+impl Table<IndexedExchange> {
+    /// The exchange numbered `number`.
+    pub(crate) fn exchange(&self, number: u64) -> Option<&Exchange>
+        ensures exact { option_copied result ≡ item_at number self.now.items }
+        ensures sound { IsTable self.now }
+    {
+        match self.get(number) {
+            Some(listed) => Some(listed.exchange()),
+            None => None,
+        }
+    }
+}

@@ -1,0 +1,107 @@
+//! Whose turn it is to be sent.
+ghost use Rattle.std.specs.Prelude.{◌≡◌, ◌+◌, ◌<◌, ◌≤◌, [], true, length, IfOk, IfSome, OnOk, OnErr};
+ghost use Rattle.std.specs.Option.{option_copied};
+ghost use Rattle.coap_exchange.specs.Index.{AreIndexed};
+ghost use Rattle.coap_exchange.specs.Endpoints.{AreCounted};
+ghost use Rattle.coap_exchange.specs.SendQueue.{endpoint_in, head_in, lower, noted, IsSendQueue, IsLowestUnder};
+
+use crate::endpoint_map::EndpointMap;
+use crate::endpoints::counts_at;
+use crate::index::{Index, Sought, first_sought};
+use crate::indexed_exchange::IndexedExchange;
+use crate::peer::Peer;
+use crate::table::Table;
+use coap_message::OutOfMemory;
+use ordered_index::OrderedIndex;
+use std::alloc::Global;
+
+/// What decides whose turn it is, so that neither exchanges nor endpoints are scanned.
+#[derive(Drop)]
+pub(crate) struct SendQueue {
+    /// The first queued exchange of each endpoint, by the number of exchanges sent to that
+    /// endpoint.
+    pub(crate) heads: OrderedIndex,
+    /// The latest moment of an admission, in milliseconds.
+    pub(crate) latest: u64,
+    /// Whether exchanges were admitted in order of time, so that the lower of two numbers comes
+    /// first.
+    pub(crate) in_order: bool,
+}
+
+impl SendQueue {
+    /// The queue of an empty table, with room for `limit` exchanges.
+    pub(crate) fn new(alloc: Global, limit: usize) -> Result<SendQueue, OutOfMemory>
+        ensures empty { IfOk result (λ send_queue. IsSendQueue [] send_queue) }
+        ensures limit { IfOk result (λ send_queue. send_queue.heads.limit ≡ limit) }
+    {
+        Ok(SendQueue {
+            heads: OrderedIndex::new(alloc, limit)?,
+            latest: 0,
+            in_order: true,
+        })
+    }
+
+    /// Notes that an exchange is admitted now, after all others.
+    pub(crate) fn note(&mut self, now: u64)
+        ensures exact { self.new ≡ noted now self.old }
+    {
+        self.in_order = self.in_order && self.latest <= now;
+        self.latest = self.latest.max(now);
+    }
+
+    /// The least number of the exchanges that can be sent, if they were admitted in order: those
+    /// with fewer than `nstart` exchanges sent to their endpoint.
+    pub(crate) fn first(&self, nstart: usize) -> Option<u64>
+        ensures exact { IsLowestUnder nstart self.now.heads.pairs result }
+    {
+        let mut first = None;
+        let mut next = self.heads.first();
+        while let Some((sent, number)) = next {
+            if sent >= nstart as u64 {
+                return first;
+            }
+            first = lower(first, number);
+            next = self.heads.after((sent, u64::MAX));
+        }
+        first
+    }
+}
+
+/// The lower of two numbers, or the second if there is no first.
+fn lower(first: Option<u64>, number: u64) -> Option<u64>
+    ensures { result ≡ lower first number }
+{
+    match first {
+        Some(least) if least < number => first,
+        _ => Some(number),
+    }
+}
+
+/// The endpoint of an exchange, if there is one.
+pub(crate) fn peer_of(found: Option<&IndexedExchange>) -> Option<Peer>
+    ensures exact { result ≡ endpoint_in (option_copied found.entry) }
+{
+    match found {
+        Some(listed) => Some(listed.peer()),
+        None => None,
+    }
+}
+
+/// The number of exchanges sent to an endpoint, and its first queued exchange, if it has one.
+pub(crate) fn head_of(
+    exchanges: &Table<IndexedExchange>,
+    index: &Index,
+    endpoints: &EndpointMap,
+    at: &Option<Peer>,
+) -> Option<(u64, u64)>
+    requires indexed { AreIndexed exchanges.now.items exchanges.now.limit index.now }
+    requires counted { AreCounted exchanges.now.items endpoints.now }
+    ensures exact { result ≡ head_in exchanges.now.items at.now }
+{
+    let Some(at) = at else {
+        return None;
+    };
+    let sought = Sought::Queued(at.endpoint());
+    let number = first_sought(exchanges, &index.queues, at.digest(), &sought)?;
+    Some((counts_at(endpoints, *at).sent as u64, number))
+}

@@ -1,0 +1,19 @@
+use Rattle.std.proofs.Common.{◌≡◌, ◌++◌, [], ap, arith}
+use Rattle.ordered_index.specs.Ordered.{OrderedIndex, empty_index}
+use Rattle.ordered_index.specs.Hashed.{pairs_of}
+use Rattle.ordered_index.proofs.Hashing.{apart-empty, empty-buckets, empty-pairs}
+use Rattle.ordered_index.proofs.hashed.HashedIndex.new.Goals as goal
+
+pub invariant_of-result : goal.invariant_of-result
+invariant_of-result c =
+    let buckets = c.in_ok-buckets.buckets.items in (
+      omega (arith, c.in_ok-buckets.ensures.many),
+      rw c.in_ok-buckets.ensures.many (empty-buckets _ 0 buckets c.in_ok-buckets.ensures.empty),
+      apart-empty (pairs_of buckets) c.in_ok-rest.rest.pairs (ap (λ (r : OrderedIndex). r.pairs) c.in_ok-rest.ensures.empty),
+    )
+
+pub returns : goal.returns
+returns c =
+    let none : pairs_of c.in_ok-buckets.buckets.items ≡ [] = empty-pairs c.in_ok-buckets.buckets.items c.in_ok-buckets.ensures.empty in
+    let rest : c.in_ok-rest.rest ≡ empty_index c.args.limit = c.in_ok-rest.ensures.empty in
+    record { empty = λ i. record { pairs = none i ++ (rest i).pairs; limit = (rest i).limit } }

@@ -1,0 +1,204 @@
+//! Indexes that are split by key, which nobody asks for their first pair.
+ghost use Rattle.std.specs.Prelude.{◌≡◌, ◌+◌, ◌<◌, ◌≤◌, ◌||◌, ◌&&◌, ◌%◌, [], length, if◌then◌else◌, true, false, not, None, IfOk};
+ghost use Rattle.std.specs.List.{AllByRecursion};
+ghost use Rattle.ordered_index.specs.Hashed.{lower, pairs_of, AreBuckets};
+ghost use Rattle.ordered_index.specs.Ordered.{empty_index, is_in, is_pair, one_of, IsNextOf, IsKeyIn, IsRekeyed, Pair};
+
+use crate::ordered::OrderedIndex;
+use std::alloc::{AllocError, Global};
+use std::marker::Model;
+
+/// The average number of pairs in a bucket when there are as many as there may be.
+const PAIRS_A_BUCKET: usize = 32;
+
+/// The most pairs in a bucket.
+const BUCKET_ROOM: usize = 36;
+
+/// An index that is split, so that a change moves few pairs: the pairs of a key are in the bucket
+/// that the key belongs to, or, where that had no room, among the rest. If keys are random, few are;
+/// if all pairs have one key, nearly all are. Only `new` allocates. A contract sees all pairs: those
+/// of the buckets, one after the other, and then the rest.
+#[derive(Drop)]
+pub struct HashedIndex {
+    buckets: Vec<OrderedIndex>,
+    rest: OrderedIndex,
+}
+
+impl Model for HashedIndex {
+    ghost use Rattle.std.specs.Prelude.{◌≡◌, ◌<◌, ◌++◌, length, vec_len};
+    ghost use Rattle.ordered_index.specs.Hashed.{pairs_of, AreApart, AreBuckets};
+    ghost use Rattle.ordered_index.specs.Ordered.{OrderedIndex};
+
+    ghost Value = { OrderedIndex };
+
+    ghost view = { λ h.
+        record { pairs = pairs_of h.buckets.items ++ h.rest.pairs; limit = h.rest.limit } };
+
+    ghost invariant = { λ h.
+        (0 < length h.buckets.items)
+        × AreBuckets (length h.buckets.items) 0 h.buckets.items
+        × AreApart (pairs_of h.buckets.items) h.rest.pairs };
+}
+
+impl HashedIndex {
+    /// An empty index with room for `limit` pairs.
+    ///
+    /// # Errors
+    /// If allocation fails.
+    pub fn new(alloc: Global, limit: usize) -> Result<HashedIndex, AllocError>
+        ensures empty { IfOk result (λ index. index ≡ empty_index limit) }
+    {
+        let buckets = empty_buckets(alloc, limit / PAIRS_A_BUCKET + 1)?;
+        let rest = OrderedIndex::new(alloc, limit)?;
+        Ok(HashedIndex { buckets, rest })
+    }
+
+    /// The least number greater than `after` that has this key.
+    pub fn next_of(&self, key: u64, after: u64) -> Option<u64>
+        ensures exact { IsNextOf key after self.now.pairs result }
+    {
+        let bucket = bucket_of(key, self.buckets.len());
+        let own = self.buckets[bucket].next_of(key, after);
+        let other = self.rest.next_of(key, after);
+        lower(own, other)
+    }
+
+    /// Moves the number from the key `was` to the key `is`: either may be absent. There is room for
+    /// that.
+    pub fn rekey(&mut self, number: u64, was: Option<u64>, is: Option<u64>)
+        requires was { IsKeyIn self.old.pairs number was }
+        requires room { length self.old.pairs + one_of is ≤ self.old.limit + one_of was }
+        ensures limit { self.new.limit ≡ self.old.limit }
+        ensures length { length self.new.pairs + one_of was ≡ length self.old.pairs + one_of is }
+        ensures rekeyed { IsRekeyed self.old.pairs self.new.pairs number is }
+    {
+        if was != is {
+            self.leave(number, was);
+            self.enter(number, is);
+        }
+    }
+
+    fn leave(&mut self, number: u64, was: Option<u64>)
+        requires was { IsKeyIn self.old.pairs number was }
+        ensures limit { self.new.limit ≡ self.old.limit }
+        ensures length { length self.new.pairs + one_of was ≡ length self.old.pairs }
+        ensures rekeyed { IsRekeyed self.old.pairs self.new.pairs number None }
+    {
+        if let Some(key) = was {
+            self.take(key, number);
+        }
+    }
+
+    fn enter(&mut self, number: u64, is: Option<u64>)
+        requires free { IsKeyIn self.old.pairs number None }
+        requires room { length self.old.pairs + one_of is ≤ self.old.limit }
+        ensures limit { self.new.limit ≡ self.old.limit }
+        ensures length { length self.new.pairs ≡ length self.old.pairs + one_of is }
+        ensures rekeyed { IsRekeyed self.old.pairs self.new.pairs number is }
+    {
+        if let Some(key) = is {
+            self.put(key, number);
+        }
+    }
+
+    /// Adds the pair of this key and number, which isn't there. There is room for it.
+    pub fn put(&mut self, key: u64, number: u64)
+        requires room { length self.old.pairs < self.old.limit }
+        requires absent { is_in (key, number) self.old.pairs ≡ false }
+        ensures limit { self.new.limit ≡ self.old.limit }
+        ensures length { length self.new.pairs ≡ length self.old.pairs + 1 }
+        ensures more { (p : Pair)
+            → is_in p self.new.pairs ≡ (is_pair p (key, number) || is_in p self.old.pairs) }
+    {
+        let bucket = bucket_of(key, self.buckets.len());
+        if !put_in(&mut self.buckets, bucket, key, number) {
+            self.rest.put(key, number);
+        }
+    }
+
+    /// Removes the pair of this key and number, which is there.
+    pub fn take(&mut self, key: u64, number: u64)
+        requires there { is_in (key, number) self.old.pairs ≡ true }
+        ensures limit { self.new.limit ≡ self.old.limit }
+        ensures length { length self.new.pairs + 1 ≡ length self.old.pairs }
+        ensures less { (p : Pair)
+            → is_in p self.new.pairs
+            ≡ (not (is_pair p (key, number)) && is_in p self.old.pairs) }
+    {
+        let bucket = bucket_of(key, self.buckets.len());
+        if !take_from(&mut self.buckets, bucket, key, number) {
+            self.rest.take(key, number);
+        }
+    }
+}
+
+/// Adds the pair of this key and number, which isn't there, to its bucket, unless that is full.
+/// Returns whether it did.
+fn put_in(buckets: &mut Vec<OrderedIndex>, bucket: usize, key: u64, number: u64) -> bool
+    requires within { bucket < length buckets.old.items }
+    requires own { key % length buckets.old.items ≡ bucket }
+    requires are { AreBuckets (length buckets.old.items) 0 buckets.old.items }
+    requires absent { is_in (key, number) (pairs_of buckets.old.items) ≡ false }
+    ensures len { length buckets.new.items ≡ length buckets.old.items }
+    ensures are { AreBuckets (length buckets.new.items) 0 buckets.new.items }
+    ensures length { length (pairs_of buckets.new.items)
+        ≡ length (pairs_of buckets.old.items) + (if result then 1 else 0) }
+    ensures more { (p : Pair)
+        → is_in p (pairs_of buckets.new.items)
+        ≡ ((result && is_pair p (key, number)) || is_in p (pairs_of buckets.old.items)) }
+{
+    if buckets[bucket].is_full() {
+        return false;
+    }
+    buckets[bucket].put(key, number);
+    true
+}
+
+/// Removes the pair of this key and number from its bucket, if it is there. Returns whether it was.
+fn take_from(buckets: &mut Vec<OrderedIndex>, bucket: usize, key: u64, number: u64) -> bool
+    requires within { bucket < length buckets.old.items }
+    requires own { key % length buckets.old.items ≡ bucket }
+    requires are { AreBuckets (length buckets.old.items) 0 buckets.old.items }
+    ensures exact { result ≡ is_in (key, number) (pairs_of buckets.old.items) }
+    ensures len { length buckets.new.items ≡ length buckets.old.items }
+    ensures are { AreBuckets (length buckets.new.items) 0 buckets.new.items }
+    ensures length { length (pairs_of buckets.new.items) + (if result then 1 else 0)
+        ≡ length (pairs_of buckets.old.items) }
+    ensures less { (p : Pair)
+        → is_in p (pairs_of buckets.new.items)
+        ≡ (not (is_pair p (key, number)) && is_in p (pairs_of buckets.old.items)) }
+{
+    buckets[bucket].take_if_there(key, number)
+}
+
+/// The lower of two numbers, if there is one.
+fn lower(a: Option<u64>, b: Option<u64>) -> Option<u64>
+    ensures exact { result ≡ lower a b }
+{
+    match (a, b) {
+        (Some(first), Some(second)) => Some(first.min(second)),
+        (Some(_), None) => a,
+        (None, _) => b,
+    }
+}
+
+/// The number of the bucket, of `buckets`, that has the pairs of a key.
+fn bucket_of(key: u64, buckets: usize) -> usize
+    requires { 0 < buckets }
+    ensures { result ≡ key % buckets }
+{
+    (key % buckets as u64) as usize
+}
+
+/// `many` empty buckets.
+fn empty_buckets(alloc: Global, many: usize) -> Result<Vec<OrderedIndex>, AllocError>
+    ensures many { IfOk result (λ buckets. length buckets.items ≡ many) }
+    ensures empty { IfOk result
+        (λ buckets. AllByRecursion (λ bucket. bucket.pairs ≡ []) buckets.items) }
+{
+    let mut buckets = Vec::with_capacity(alloc, many)?;
+    for _ in 0..many {
+        buckets.push(OrderedIndex::small(alloc, BUCKET_ROOM)?)?;
+    }
+    Ok(buckets)
+}

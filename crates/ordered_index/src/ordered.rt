@@ -1,0 +1,286 @@
+//! Indexes: which key has which numbers. The first pair, and the numbers of one key, are found
+//! without a scan.
+ghost use Rattle.std.specs.Prelude.{◌≡◌, ◌+◌, ◌==◌, ◌<◌, ◌≤◌, ◌||◌, ◌&&◌, ℕ, length, nat_le, if◌then◌else◌, take, drop, true, false, not, None, Some, IfOk, IfNone, IfSome};
+ghost use Rattle.std.specs.List.{slice_get, AllByRecursion};
+ghost use Rattle.ordered_index.specs.Ordered.{empty_index, is_before, is_in, is_key, is_left, is_pair, many_of, one_if, one_of, AreRising, is_some_pair, IsFirstAfter, IsLeast, IsNextOf, IsKeyIn, IsRekeyed, IsReplaced, Pair};
+
+use crate::order::is_before;
+use crate::pair_buffer::PairBuffer;
+use std::alloc::{AllocError, Global};
+use std::marker::Model;
+
+/// By how much of its limit, as a fraction, an index has more room than that.
+const SPARE: usize = 16;
+
+/// Pairs of a key and a number, each at most once, in increasing order. Only `new` allocates.
+#[derive(Drop)]
+pub struct OrderedIndex {
+    buffer: PairBuffer,
+}
+
+impl Model for OrderedIndex {
+    ghost use Rattle.ordered_index.specs.Ordered.{AreRising, OrderedIndex};
+
+    ghost Value = { OrderedIndex };
+
+    ghost view = { λ r. r.buffer };
+
+    ghost invariant = { λ r. AreRising r.buffer.pairs };
+}
+
+impl OrderedIndex {
+    /// An empty index with room for `limit` pairs.
+    ///
+    /// # Errors
+    /// If allocation fails.
+    pub fn new(alloc: Global, limit: usize) -> Result<OrderedIndex, AllocError>
+        ensures empty { IfOk result (λ index. index ≡ empty_index limit) }
+    {
+        Ok(OrderedIndex {
+            buffer: PairBuffer::new(alloc, limit, limit / SPARE)?,
+        })
+    }
+
+    /// An empty index with room for `limit` pairs, which are so few that moving all of them costs
+    /// little.
+    ///
+    /// # Errors
+    /// If allocation fails.
+    pub(crate) fn small(alloc: Global, limit: usize) -> Result<OrderedIndex, AllocError>
+        ensures empty { IfOk result (λ index. index ≡ empty_index limit) }
+    {
+        Ok(OrderedIndex {
+            buffer: PairBuffer::new(alloc, limit, 0)?,
+        })
+    }
+
+    /// Whether there is no room for another pair.
+    pub(crate) fn is_full(&self) -> bool
+        ensures exact { result ≡ nat_le self.now.limit (length self.now.pairs) }
+    {
+        self.buffer.is_full()
+    }
+
+    /// The first pair: the least key, and the least of its numbers.
+    pub fn first(&self) -> Option<(u64, u64)>
+        ensures exact { IsLeast self.now.pairs result }
+    {
+        match self.buffer.pairs().first() {
+            Some(pair) => Some(*pair),
+            None => None,
+        }
+    }
+
+    // Does nothing: it lets a proof conclude that no pair is there twice.
+    pub fn rises(&self)
+        ensures { AreRising self.now.pairs }
+    {
+        let _ = &self.buffer;
+    }
+
+    /// The least number of this key that is greater than `after`.
+    pub fn next_of(&self, key: u64, after: u64) -> Option<u64>
+        ensures exact { IsNextOf key after self.now.pairs result }
+    {
+        let pair = self.after((key, after))?;
+        if pair.0 == key { Some(pair.1) } else { None }
+    }
+
+    /// The number of pairs with this key.
+    pub fn count_of(&self, key: u64) -> usize
+        ensures exact { result ≡ many_of key self.now.pairs }
+    {
+        let pairs = self.buffer.pairs();
+        let first = place_of_key(pairs, key, false);
+        let past = place_of_key(pairs, key, true);
+        past - first
+    }
+
+    /// The first pair after this one.
+    pub fn after(&self, pair: (u64, u64)) -> Option<(u64, u64)>
+        ensures exact { IsFirstAfter pair self.now.pairs result }
+    {
+        let pairs = self.buffer.pairs();
+        let place = place_after(pairs, pair);
+        if place == pairs.len() {
+            return None;
+        }
+        Some(pairs[place])
+    }
+
+    /// Replaces the pair `was` by the pair `is`: either may be absent. There is room for that.
+    pub fn replace(&mut self, was: Option<(u64, u64)>, is: Option<(u64, u64)>)
+        requires there { IfSome was (λ p. is_in p self.old.pairs ≡ true) }
+        requires free { IfSome is (λ p. is_in p self.old.pairs ≡ true → was ≡ Some p) }
+        requires room { length self.old.pairs + one_of is ≤ self.old.limit + one_of was }
+        ensures limit { self.new.limit ≡ self.old.limit }
+        ensures length { length self.new.pairs + one_of was ≡ length self.old.pairs + one_of is }
+        ensures replaced { IsReplaced self.old.pairs self.new.pairs was is }
+    {
+        if was == is {
+            return;
+        }
+        if let Some((key, number)) = was {
+            self.take(key, number);
+        }
+        if let Some((key, number)) = is {
+            self.put(key, number);
+        }
+    }
+
+    /// Moves the number from the key `was` to the key `is`: either may be absent. There is room for
+    /// that.
+    pub fn rekey(&mut self, number: u64, was: Option<u64>, is: Option<u64>)
+        requires was { IsKeyIn self.old.pairs number was }
+        requires room { length self.old.pairs + one_of is ≤ self.old.limit + one_of was }
+        ensures limit { self.new.limit ≡ self.old.limit }
+        ensures length { length self.new.pairs + one_of was ≡ length self.old.pairs + one_of is }
+        ensures rekeyed { IsRekeyed self.old.pairs self.new.pairs number is }
+        ensures counts { (k : ℕ)
+            → many_of k self.new.pairs + one_if (is_key k was)
+            ≡ many_of k self.old.pairs + one_if (is_key k is) }
+    {
+        if was != is {
+            self.leave(number, was);
+            self.enter(number, is);
+        }
+    }
+
+    fn leave(&mut self, number: u64, was: Option<u64>)
+        requires was { IsKeyIn self.old.pairs number was }
+        ensures limit { self.new.limit ≡ self.old.limit }
+        ensures length { length self.new.pairs + one_of was ≡ length self.old.pairs }
+        ensures rekeyed { IsRekeyed self.old.pairs self.new.pairs number None }
+        ensures counts { (k : ℕ)
+            → many_of k self.new.pairs + one_if (is_key k was) ≡ many_of k self.old.pairs }
+    {
+        if let Some(key) = was {
+            self.take(key, number);
+        }
+    }
+
+    fn enter(&mut self, number: u64, is: Option<u64>)
+        requires free { IsKeyIn self.old.pairs number None }
+        requires room { length self.old.pairs + one_of is ≤ self.old.limit }
+        ensures limit { self.new.limit ≡ self.old.limit }
+        ensures length { length self.new.pairs ≡ length self.old.pairs + one_of is }
+        ensures rekeyed { IsRekeyed self.old.pairs self.new.pairs number is }
+        ensures counts { (k : ℕ)
+            → many_of k self.new.pairs ≡ many_of k self.old.pairs + one_if (is_key k is) }
+    {
+        if let Some(key) = is {
+            self.put(key, number);
+        }
+    }
+
+    /// Adds the pair of this key and number, which isn't there. There is room for it.
+    pub fn put(&mut self, key: u64, number: u64)
+        requires room { length self.old.pairs < self.old.limit }
+        requires absent { is_in (key, number) self.old.pairs ≡ false }
+        ensures limit { self.new.limit ≡ self.old.limit }
+        ensures length { length self.new.pairs ≡ length self.old.pairs + 1 }
+        ensures more { (p : Pair)
+            → is_in p self.new.pairs ≡ (is_pair p (key, number) || is_in p self.old.pairs) }
+        ensures counts { (k : ℕ)
+            → many_of k self.new.pairs ≡ many_of k self.old.pairs + one_if (key == k) }
+    {
+        let place = place_after(self.buffer.pairs(), (key, number));
+        self.buffer.insert(place, (key, number));
+    }
+
+    /// Removes the pair of this key and number, if it is there, and returns whether it was.
+    pub(crate) fn take_if_there(&mut self, key: u64, number: u64) -> bool
+        ensures exact { result ≡ is_in (key, number) self.old.pairs }
+        ensures limit { self.new.limit ≡ self.old.limit }
+        ensures length { length self.new.pairs + (if result then 1 else 0)
+            ≡ length self.old.pairs }
+        ensures less { (p : Pair)
+            → is_in p self.new.pairs
+            ≡ (not (is_pair p (key, number)) && is_in p self.old.pairs) }
+    {
+        let Some(place) = place_of(self.buffer.pairs(), (key, number)) else {
+            return false;
+        };
+        self.buffer.remove(place);
+        true
+    }
+
+    /// Removes the pair of this key and number, which is there.
+    pub fn take(&mut self, key: u64, number: u64)
+        requires there { is_in (key, number) self.old.pairs ≡ true }
+        ensures limit { self.new.limit ≡ self.old.limit }
+        ensures length { length self.new.pairs + 1 ≡ length self.old.pairs }
+        ensures less { (p : Pair)
+            → is_in p self.new.pairs
+            ≡ (not (is_pair p (key, number)) && is_in p self.old.pairs) }
+        ensures counts { (k : ℕ)
+            → many_of k self.new.pairs + one_if (key == k) ≡ many_of k self.old.pairs }
+    {
+        let place = place_after(self.buffer.pairs(), (key, number));
+        self.buffer.remove(place - 1);
+    }
+}
+
+/// The place of the first pair with this key or a greater one, or, if `past`, of the first with a
+/// greater one.
+fn place_of_key(pairs: &[(u64, u64)], key: u64, past: bool) -> usize
+    requires { AreRising pairs.now }
+    ensures within { result ≤ length pairs.now }
+    ensures below { AllByRecursion (λ p. is_left past key p ≡ true) (take result pairs.now) }
+    ensures above { AllByRecursion (λ p. is_left past key p ≡ false) (drop result pairs.now) }
+{
+    let mut low = 0;
+    let mut high = pairs.len();
+    while low < high {
+        let middle = low + (high - low) / 2;
+        if is_left(past, key, pairs[middle]) {
+            low = middle + 1;
+        } else {
+            high = middle;
+        }
+    }
+    low
+}
+
+/// Whether a pair comes before those of a key, or, if `past`, no later than they do.
+fn is_left(past: bool, key: u64, pair: (u64, u64)) -> bool
+    ensures exact { result ≡ is_left past key pair }
+{
+    pair.0 < key || (past && pair.0 == key)
+}
+
+/// The place of this pair, if it is there.
+fn place_of(pairs: &[(u64, u64)], pair: (u64, u64)) -> Option<usize>
+    requires { AreRising pairs.now }
+    ensures some { IfSome result (λ place. slice_get pairs.now place ≡ Some pair) }
+    ensures none { IfNone result (is_in pair pairs.now ≡ false) }
+{
+    let after = place_after(pairs, pair);
+    if after == 0 {
+        return None;
+    }
+    if is_before(pairs[after - 1], pair) {
+        return None;
+    }
+    Some(after - 1)
+}
+
+/// The place of the first pair after this one.
+fn place_after(pairs: &[(u64, u64)], pair: (u64, u64)) -> usize
+    requires { AreRising pairs.now }
+    ensures within { result ≤ length pairs.now }
+    ensures below { AllByRecursion (λ p. is_before pair p ≡ false) (take result pairs.now) }
+    ensures above { AllByRecursion (λ p. is_before pair p ≡ true) (drop result pairs.now) }
+{
+    let mut low = 0;
+    let mut high = pairs.len();
+    while low < high {
+        let middle = low + (high - low) / 2;
+        if is_before(pair, pairs[middle]) {
+            high = middle;
+        } else {
+            low = middle + 1;
+        }
+    }
+    low
+}
