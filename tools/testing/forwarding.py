@@ -1,5 +1,6 @@
 """What must hold of requests that are forwarded or refused, and of the program as it begins and ends."""
 
+import os
 import subprocess
 import time
 
@@ -8,7 +9,7 @@ from testing.coap import (
     NON, NOT_ALLOWED, NOT_FOUND, NOT_SUPPORTED, OBSERVE, POST, PROXY_SCHEME, PROXY_URI, RST, URI_HOST, URI_PATH,
     URI_PORT, URI_QUERY, message, number_bytes,
 )
-from testing.network import Life, Skipped, case_list, expect, has_ipv6
+from testing.network import Life, Skipped, case_list, expect, expect_between, has_ipv6
 from testing.steps import T, TEMP, expect_hit, fetch, max_age, path
 
 CASES, case = case_list()
@@ -157,6 +158,17 @@ def one_socket_serves_both_families(stage):
     expect_hit(other, life)
 
 
+@case("ServesAllAddresses")
+def another_address_of_the_host_is_not_served(stage):
+    client = stage.peer(to=stage.proxy())
+    host, port = client.to
+    front, last = host.rsplit(".", 1)
+    client.send(message(CON, EMPTY, 1), (f"{front}.{int(last) ^ 1}", port))
+    client.expect_silence("from another address")
+    client.send(message(CON, EMPTY, 2))
+    client.expect_bytes("the reply", message(RST, EMPTY, 2))
+
+
 # What the proxy answers itself.
 
 
@@ -228,6 +240,25 @@ def a_signal_ends_it(stage):
     process = stage.programs[-1]
     process.terminate()
     expect("status", -15, process.wait(5))
+
+
+def work_of(process):
+    """How many seconds of the processor a process has taken, and how often it began to wait."""
+    with open(f"/proc/{process.pid}/stat", encoding="ascii", errors="replace") as file:
+        fields = file.read().rsplit(")", 1)[1].split()
+    with open(f"/proc/{process.pid}/status", encoding="ascii", errors="replace") as file:
+        waits = next(line for line in file if line.startswith("voluntary_ctxt_switches:"))
+    return (int(fields[11]) + int(fields[12])) / os.sysconf("SC_CLK_TCK"), int(waits.split()[1])
+
+
+@case("Spins", "WakesOften")
+def it_rests_while_nothing_comes(stage):
+    stage.proxy()
+    seconds, waits = work_of(stage.programs[-1])
+    time.sleep(1)
+    more_seconds, more_waits = work_of(stage.programs[-1])
+    expect_between("seconds of the processor", 0, 0.1, more_seconds - seconds)
+    expect_between("how often it began to wait", 0, 60, more_waits - waits)
 
 
 @case("StatusIsOne")

@@ -6,7 +6,7 @@ from testing.coap import (
     ACK, BAD_GATEWAY, CHANGED, CON, CONTENT, EMPTY, GET, NON, NOT_FOUND, PUT, RST, TOO_LARGE, UNAVAILABLE, message,
     read, told,
 )
-from testing.network import Failed, Life, case_list
+from testing.network import Failed, Life, case_list, expect_between
 from testing.steps import T, TEMP, expect_hit, fetch, max_age, path
 
 CASES, case = case_list()
@@ -23,6 +23,17 @@ def ten_clients_share_one_request(stage):
     for it, request in zip(clients, requests):
         it.expect_late(request, CONTENT, [], b"21", life=Life(60, answer.at))
     origin.expect_silence("at the origin")
+
+
+@case("AnswersLate")
+def a_hundred_answers_that_are_due_go_at_once(stage):
+    _, client, origin = stage.mapped()
+    for _ in range(100):
+        client.request(GET, [T], kind=NON)
+    origin.answer(origin.expect_request(GET, [TEMP]), CONTENT, payload=b"21")
+    came = [client.receive("a response").at for _ in range(100)]
+    # Each would wait for four milliseconds if a read waited though something is due.
+    expect_between("seconds from the first to the last", 0, 0.25, max(came) - min(came))
 
 
 def second_waits(stage, nstart):

@@ -4,7 +4,7 @@ import time
 
 from testing.coap import ACK, CHANGED, CON, CONTENT, EMPTY, GATEWAY_TIMEOUT, GET, NON, POST, RST, message
 from testing.network import Life, case_list, expect_between
-from testing.steps import T, TEMP, expect_hit, expect_wait, fetch
+from testing.steps import FIRST_TIMEOUT, T, TEMP, expect_hit, expect_wait, fetch, path
 
 CASES, case = case_list()
 
@@ -30,6 +30,20 @@ def a_response_is_sent_again_until_it_is_acknowledged(stage):
     first = client.receive("the response")
     expect_wait(first, client.expect_separate(request, CHANGED))
     client.expect_silence("after its acknowledgement", 4.6)
+
+
+@case("SendsAgainAtTwo")
+def first_timeouts_differ(stage):
+    _, client, origin = stage.mapped("nstart = 8")
+    for n in range(8):
+        client.request(GET, path("t", f"{n}"), kind=NON)
+    first = [origin.receive("a request") for _ in range(8)]
+    sent, waits = {it.message.message_id: it.at for it in first}, []
+    for _ in range(8):
+        again = origin.receive("a request that is sent again")
+        waits.append(again.at - sent.pop(again.message.message_id))
+    expect_between("seconds until the first one was sent again", *FIRST_TIMEOUT, min(waits))
+    expect_between("how far apart they are", 0.05, 1.5, max(waits) - min(waits))
 
 
 @case("SendsAgainSoon")

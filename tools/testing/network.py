@@ -1,5 +1,7 @@
 """Endpoints on the loopback, and programs that serve them for as long as a case needs them."""
 
+import errno
+import itertools
 import math
 import os
 import random
@@ -299,11 +301,24 @@ def udp(host):
     return socket.socket(socket.AF_INET6 if ":" in host else socket.AF_INET, socket.SOCK_DGRAM)
 
 
+# Ports for programs, each of which is named once in a round. Linux has none of them for a socket that asks for any port,
+# so that no client or origin takes it before the program that is told of it does. Each process begins somewhere else.
+PORTS = range(18000, 32000)
+NEXT_PORT = itertools.cycle(random.sample(PORTS, len(PORTS)))
+
+
 def free_port(host):
     """A port that was free a moment ago."""
-    with udp(host) as probe:
-        probe.bind((host, 0))
-        return probe.getsockname()[1]
+    for _ in PORTS:
+        port = next(NEXT_PORT)
+        with udp(host) as probe:
+            try:
+                probe.bind((host, port))
+                return port
+            except OSError as fault:
+                if fault.errno != errno.EADDRINUSE:
+                    raise
+    raise Broken("no port is free")
 
 
 def has_ipv6():

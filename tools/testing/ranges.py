@@ -241,6 +241,35 @@ def to_sent(number, origins):
 
 
 @case
+def of_300_origins_two_come_at_a_time_while_others_have_requests_that_wait():
+    script, origins, exchanges, asked = Script(), 300, {}, {}
+
+    def ask(moment, n):
+        _, origin, there = to_origin(n, origins)
+        asked[n] = script.ask(moment, origin, exchanges[n], GET, there)
+
+    for first in range(0, origins, 2):
+        # Two requests for each of two origins: the first ones are sent, and the others wait.
+        for n in (first, first + 1, first + origins, first + origins + 1):
+            uri = to_origin(n, origins)[0]
+            script.come(0, endpoint(n), message(NON, GET, n, b"\xaa", [uri]))
+            exchanges[n] = script.new_exchange()
+        ask(0, first)
+        ask(0, first + 1)
+    script.tick(0)
+    for n in range(2 * origins):
+        script.answer(1, to_origin(n, origins)[1], asked[n], CONTENT, [max_age(9)], b"%d" % n)
+        # The other request to this origin was due before the answer came.
+        if n < origins:
+            ask(1, n + origins)
+        script.deliver(1, endpoint(n), NON, CONTENT, b"\xaa", [max_age(9)], b"%d" % n)
+    script.tick(1)
+    name = "of_300_origins_two_come_at_a_time_while_others_have_requests_that_wait"
+    limits = "exchanges = 600\nwaiters = 600\nnon_records = 600"
+    return script.run(name, limits, "names = ['proxy.test']\n", ())
+
+
+@case
 def of_16384_clients_each_is_served_and_sent_its_answer_until_it_acknowledges_it():
     script, count = Script(), 16_384
     for n in range(count):

@@ -1,13 +1,34 @@
 """The worked runs: what the program writes for the words, the configuration and the events of each (docs/REPLAY.md)."""
 
+import itertools
 import os
 import subprocess
 import tempfile
 from collections import namedtuple
 
-from testing.network import Failed
+from testing.network import Broken, Failed, expect
 
 Run = namedtuple("Run", "name words config events output")
+
+# Lines of worked runs: what an origin is asked, what its client is told, and a tick.
+ASKED, TOLD = b"# > 127.0.0.1:5690 480100010000000000000001B474656D70\n", b"# > 127.0.0.1:40001 50450002D1010AFF3231\n"
+ALSO, TICK = b"# > 127.0.0.1:5690 480100020000000000000002B474656D700178\n", b"0 0 tick\n"
+HIT, NOTHING = b"9001 0 127.0.0.1:40001 50010008B174\n", b"# > nothing\n"
+# What a file may say wrongly: the change, its run, what stands in the file, and what does in its place.
+CHANGES = (
+    ("another_byte", "first_answer", TOLD, TOLD[:-2] + b"0\n"),
+    ("another_address", "first_answer", TOLD, TOLD.replace(b":40001", b":40002")),
+    ("another_moment", "hit_aged", TOLD + HIT, HIT + TOLD),
+    ("another_event", "first_answer", TICK + TOLD, TOLD + TICK),
+    ("another_order", "order_at_one_moment", ASKED + b"3 0 tick\n" + ALSO, ALSO + b"3 0 tick\n" + ASKED),
+    ("another_status", "bad_bytes", b"# > status 2: ", b"# > status 1: "),
+    ("another_text", "words_bad_key", b": key colour\n", b": key color\n"),
+    ("a_line_more", "first_answer", TOLD, TOLD + TOLD),
+    ("a_line_less", "first_answer", TOLD, b""),
+    ("nothing_in_place_of_a_line", "no_last_line_feed", TOLD, NOTHING),
+    ("a_line_in_place_of_nothing", "ignored_messages", NOTHING, TOLD),
+    ("no_line_and_not_nothing", "no_events", NOTHING, b""),
+)
 
 
 def after(lines, mark):
@@ -17,16 +38,34 @@ def after(lines, mark):
 
 def output_of(lines):
     """What a run's lines `# > ..` say that is written: the datagrams, each at the moment of the event above it, and
-    then `status N: TEXT` if it stops with a fault."""
-    text, moment, stops = b"", b"", False
+    then `status N: TEXT` if it stops with a fault. `# > nothing` says that nothing is. None if there is no such line.
+    """
+    text, moment, stops, is_said = b"", b"", False, False
     for line in lines:
         if line.startswith(b"# >"):
-            said = line[len(b"# > ") :]
+            said, is_said = line[len(b"# > ") :], True
             stops = stops or said.startswith(b"status ")
-            text += (b"" if stops else moment + b" ") + said + b"\n"
+            if stops or said != b"nothing":
+                text += (b"" if stops else moment + b" ") + said + b"\n"
         elif line and not line.startswith(b"#"):
             moment = line.split(b" ")[0]
-    return text
+    return text if is_said else None
+
+
+def run_of(name, events):
+    """The worked run of a file's name and bytes."""
+    lines = events.split(b"\n")
+    words = after(lines, b"# words:")[0].decode().split()
+    config = b"".join(line + b"\n" for line in after(lines, b"# config: "))
+    return Run(name, words, config, events, output_of(lines))
+
+
+def changed(runs):
+    """Worked runs, by their names, with the changes that must be found: the name of each, and the run."""
+    for change, name, old, new in CHANGES:
+        if runs[name].events.count(old) != 1:
+            raise Broken(f"{name} can't be changed to {change}")
+        yield f"{name} with {change}", run_of(name, runs[name].events.replace(old, new))
 
 
 def runs(folder):
@@ -34,11 +73,7 @@ def runs(folder):
     data = os.path.join(folder, "data")
     for name in sorted(file[:-7] for file in os.listdir(data) if file.endswith(".events")):
         with open(os.path.join(data, f"{name}.events"), "rb") as file:
-            events = file.read()
-        lines = events.split(b"\n")
-        words = after(lines, b"# words:")[0].decode().split()
-        config = b"".join(line + b"\n" for line in after(lines, b"# config: "))
-        yield Run(name, words, config, events, output_of(lines))
+            yield run_of(name, file.read())
 
 
 def expected(output):
@@ -77,10 +112,49 @@ def first_difference(wanted, came):
 
 
 def check(run, came):
-    """Fails where what came isn't what a worked run says."""
+    """Fails where what came isn't what a worked run says, or where that says nothing of it."""
+    if run.output is None:
+        raise Failed("no line says what must be written")
     wanted = expected(run.output)
     if wanted[0] != came[0]:
         raise Failed(f"status: expected {wanted[0]}, got {came[0]} ({came[2][:200]!r})")
     for stream, one, other in zip(("standard output", "standard error"), wanted[1:], came[1:]):
         if one != other:
             raise Failed(f"{stream}, {first_difference(one, other)}")
+
+
+def places(events):
+    """After which event each datagram stands in the file of a run: the event's number, and the line."""
+    number, found = 0, []
+    for line in itertools.takewhile(lambda it: not it.startswith(b"# > status "), events.split(b"\n")):
+        if line.startswith(b"# > ") and line + b"\n" != NOTHING:
+            found.append((number, line[len(b"# > ") :]))
+        elif line and not line.startswith(b"#"):
+            number += 1
+    return found
+
+
+def check_places(program, run):
+    """Fails where a datagram isn't sent at the event after which it stands in the file of a run, if it has events. What
+    is said of each event with --explain shows at which one it is sent."""
+    if "--replay" not in run.words:
+        return
+    number, came = 0, []
+    for line in play(program, run._replace(words=[*run.words, "--explain"]))[1].splitlines():
+        words = line.split(b" ", 2)
+        if words[0] == b"#":
+            number = int(words[1])
+        else:
+            came.append((number, b" ".join(words[1:])))
+    found = places(run.events)
+    # What stands right before a last line that lacks its line feed may belong to that.
+    if found and found != came and not run.events.endswith(b"\n"):
+        found[-1] = found[-1][0] + 1, found[-1][1]
+    expect("the events at which datagrams are sent", found, came)
+
+
+def check_count(folder):
+    """Fails where there are not as many runs as the program that plays them must say."""
+    count = len(list(runs(folder)))
+    with open(os.path.join(folder, "stdout"), "rb") as file:
+        expect("what must be said of all runs", b"%d runs agree in both stores\n" % count, file.read())
