@@ -1,6 +1,7 @@
 //! Tests of ports: a core over one in memory, which ends and refuses, and whose turns are recorded;
-//! and a port over a socket and over a system in memory. Also how long a port is asked to wait and
-//! what is counted, computed on the definitions.
+//! and a port over a socket and over a system in memory. Neither takes a datagram that is too long
+//! for a shorter one. Also how long a port is asked to wait and what is counted, computed on the
+//! definitions.
 #![tactic(auto)]
 
 #[cfg(test)]
@@ -8,6 +9,8 @@ mod asked;
 pub mod computed;
 #[cfg(test)]
 mod failing;
+#[cfg(test)]
+mod lengths;
 #[cfg(test)]
 mod loopback;
 #[cfg(test)]

@@ -31,24 +31,26 @@ fn core_to(alloc: Global, origin: &str) -> Result<Core<ListStore>, Fail> {
 }
 
 /// A socket of a peer at a free port of this address, which waits five seconds for a datagram.
-fn peer(rt: &impl Net, address: &str) -> Result<UdpSocket, Fail> {
+pub(crate) fn peer(rt: &impl Net, address: &str) -> Result<UdpSocket, Fail> {
     let socket = UdpSocket::bind(rt, address)?;
     socket.set_read_timeout(Some(Duration::from_secs(5)))?;
     Ok(socket)
 }
 
-/// Drives a core for two turns: a datagram comes, and what it leads to is sent.
-fn drive_two<P: Port>(
+/// Drives a core for `turns` turns.
+pub(crate) fn drive_for<P: Port>(
     rt: &impl Abort,
     alloc: Global,
     core: &mut Core<ListStore>,
     port: &mut P,
+    turns: u64,
 ) -> Result<Stats, DriveError>
     requires { P.failures port.old < 2 ^ 63 }
     ensures { OnOk result (P.failures port.new ≡ P.failures port.old) }
 {
-    assert!(rt; core.events() < 1_000 && core.last() <= port.last());
-    drive(alloc, core, port, 2)
+    assert!(rt; turns < 1_000 && core.events() < 1_000);
+    assert!(rt; core.last() <= port.last());
+    drive(alloc, core, port, turns)
 }
 
 /// Has a client ask for what an origin server at the same address has.
@@ -71,11 +73,12 @@ fn check(
     let (_, proxy) = client.recv_from(&mut bytes)?;
 
     client.send_to(GET, proxy)?;
-    assert_eq!(rt; drive_two(rt, alloc, &mut core, &mut port)?.sent, 1);
+    // a datagram comes, and what it leads to is sent
+    assert_eq!(rt; drive_for(rt, alloc, &mut core, &mut port, 2)?.sent, 1);
     let (count, from) = origin.recv_from(&mut bytes)?;
     assert_eq!(rt; &bytes[..count], SENT_ON);
     origin.send_to(ANSWER, from)?;
-    assert_eq!(rt; drive_two(rt, alloc, &mut core, &mut port)?.sent, 1);
+    assert_eq!(rt; drive_for(rt, alloc, &mut core, &mut port, 2)?.sent, 1);
     let (count, from) = client.recv_from(&mut bytes)?;
     assert!(rt; from == proxy);
     assert_eq!(rt;

@@ -1,0 +1,151 @@
+//! Datagrams that are as long as the limit, or longer. All of them begin with a request, so one that
+//! was cut would be taken for another request.
+ghost use Rattle.std.specs.Prelude.{◌≡◌, IfOk};
+
+use crate::loopback::{drive_for, peer};
+use crate::ports::drive_on;
+use coap_cache::ListStore;
+use coap_core::{Core, LimitValues, Limits};
+use coap_message::{OutOfMemory, Seq};
+use coap_proxyd::{Handed, MemoryPort, Port, Scripted};
+use coap_target::{Endpoint, Ip, Routes};
+use coap_udp::UdpPort;
+use std::alloc::{AllocError, Global};
+use std::net::UdpSocket;
+use std::process::Abort;
+use std::test::*;
+
+/// The limit, in bytes.
+const LIMIT: usize = 128;
+
+/// A Confirmable POST of `/temp` up to its payload, which follows.
+const POST: [u8; 18] = *b"\x48\x02\x12\x34TokenABC\xB4temp\xFF";
+
+/// Its acknowledgement, and its rejection.
+const ACKNOWLEDGEMENT: &[u8] = b"\x60\x00\x12\x34";
+
+const RESET: &[u8] = b"\x70\x00\x12\x34";
+
+/// The request that is sent on for it, up to its payload.
+const SENT_ON: [u8; 15] = *b"\x48\x02\x00\x01\0\0\0\0\0\0\0\x01\xB1t\xFF";
+
+/// An address of this host.
+const LOCALHOST: Ip = Ip::V4([127, 0, 0, 1]);
+
+/// A datagram that is longer than the limit.
+fn long_datagram() -> [u8; 200] {
+    let mut bytes = [b'x'; 200];
+    bytes[..18].copy_from_slice(&POST);
+    bytes
+}
+
+/// A core with this limit that maps `/temp` to `/t` at an origin server. So what it sends on is
+/// shorter than what it reads.
+fn core_to(alloc: Global, origin: &str) -> Result<Core<ListStore>, Fail> {
+    let limits = Limits::new(LimitValues {
+        datagram: LIMIT as u64,
+        ..LimitValues::default()
+    })?;
+    let prefix = String::from_str(alloc, "/temp")?;
+    let target = format!(in alloc; "coap://{origin}/t")?;
+    let routes = Routes::new(alloc, &[], &[], &[(prefix, target)], None)?;
+    Ok(Core::new(alloc, (), limits, routes, 1, 0)?)
+}
+
+// ---- in memory
+
+/// A port that gives a datagram of a client.
+fn port(alloc: Global, bytes: &[u8]) -> Result<MemoryPort, OutOfMemory>
+    ensures { IfOk result (λ port. port.failures ≡ 0) }
+{
+    let mut port = MemoryPort::new(alloc, None);
+    let client = Endpoint {
+        ip: LOCALHOST,
+        port: 40001,
+    };
+    port.add(Scripted {
+        now: 5,
+        draw: 0,
+        datagram: Some((client, Seq::from_slice(alloc, bytes)?)),
+    })?;
+    Ok(port)
+}
+
+/// What was handed over: of each datagram the port, the first four bytes and the length.
+fn heads(alloc: Global, handed: &[Handed]) -> Result<String, AllocError> {
+    let mut out = String::new(alloc);
+    for datagram in handed {
+        write!(out, "{} ", datagram.to.port)?;
+        for byte in datagram.bytes.as_slice().iter().take(4) {
+            write!(out, "{byte:02X}")?;
+        }
+        write!(out, " {}, ", datagram.bytes.len())?;
+    }
+    Ok(out)
+}
+
+/// Hands a datagram to a core, which does so many turns, and checks what it sends.
+fn check(
+    rt: &impl Abort,
+    alloc: Global,
+    (bytes, turns): (&[u8], u64),
+    expected: &str,
+) -> Result<(), Fail> {
+    let mut core = core_to(alloc, "127.0.0.1:5690")?;
+    let mut port = port(alloc, bytes)?;
+    drive_on(rt, alloc, &mut core, &mut port, turns)?;
+    let written = heads(alloc, port.handed())?;
+    assert_eq!(rt; written.as_str(), expected);
+    Ok(())
+}
+
+#[test]
+fn no_datagram_in_memory_is_cut(rt: HostRuntime) -> Result<(), Fail> {
+    let alloc = rt.alloc();
+    let bytes = long_datagram();
+    // with a payload of 110 bytes, all of which are sent on
+    let whole = "40001 60001234 4, 5690 48020001 125, ";
+    check(&rt, alloc, (&bytes[..LIMIT], 2), whole)?;
+    let rejected = "40001 70001234 4, ";
+    check(&rt, alloc, (&bytes[..LIMIT + 1], 1), rejected)?;
+    check(&rt, alloc, (&bytes, 1), rejected)
+}
+
+// ---- over a socket
+
+/// Checks what a peer got.
+fn check_got(rt: &impl Abort, peer: &UdpSocket, expected: &[u8]) -> Result<(), Fail> {
+    let mut bytes = [0; LIMIT];
+    let (count, _) = peer.recv_from(&mut bytes)?;
+    assert_eq!(rt; &bytes[..count], expected);
+    Ok(())
+}
+
+#[test]
+fn no_datagram_over_a_socket_is_cut(rt: HostRuntime) -> Result<(), Fail> {
+    let alloc = rt.alloc();
+    let ip = LOCALHOST;
+    let mut port = UdpPort::bind(&rt, alloc, Endpoint { ip, port: 0 })?;
+    let (client, origin) = (peer(&rt, "127.0.0.1:0")?, peer(&rt, "127.0.0.1:0")?);
+    let address = format!(in alloc; "{}", origin.local_addr()?)?;
+    let mut core = core_to(alloc, address.as_str())?;
+    // the client learns the address of the proxy
+    let to = client.local_addr()?.port();
+    assert!(rt; port.send(Endpoint { ip, port: to }, b"?"));
+    let (_, proxy) = client.recv_from(&mut [0; 1])?;
+
+    let bytes = long_datagram();
+    client.send_to(&bytes, proxy)?;
+    assert_eq!(rt; drive_for(&rt, alloc, &mut core, &mut port, 1)?.sent, 1);
+    check_got(&rt, &client, RESET)?;
+    client.send_to(&bytes[..LIMIT + 1], proxy)?;
+    assert_eq!(rt; drive_for(&rt, alloc, &mut core, &mut port, 1)?.sent, 1);
+    check_got(&rt, &client, RESET)?;
+    client.send_to(&bytes[..LIMIT], proxy)?;
+    assert_eq!(rt; drive_for(&rt, alloc, &mut core, &mut port, 2)?.sent, 2);
+    check_got(&rt, &client, ACKNOWLEDGEMENT)?;
+    // the payload is whole
+    let mut sent_on = [b'x'; 125];
+    sent_on[..15].copy_from_slice(&SENT_ON);
+    check_got(&rt, &origin, &sent_on)
+}
