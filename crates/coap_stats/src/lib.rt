@@ -6,7 +6,7 @@
 //! let mut tally = Tally::new();
 //! drive_watched(alloc, &mut core, &mut port, &mut tally, 1)?;
 //! let mut text = Vec::new(alloc);
-//! put_line(&mut text, &tally, &core.counts(), &fixtures::limits())?;
+//! put_line(&mut text, &tally, &core.counts(), limits.values())?;
 //! assert!(rt; text.starts_with(b"seconds=2 received=0 sent=0 "));
 //! ```
 #![tactic(auto)]
