@@ -5,12 +5,12 @@ import subprocess
 import tempfile
 
 from testing.coap import (
-    ACK, BLOCK2, CON, CONTENT, EMPTY, ETAG, GET, MAX_AGE, NON, NOT_FOUND, POST, PROXY_URI, RST, URI_PATH, URI_QUERY,
-    message, number_bytes,
+    ACK, BLOCK2, CON, CONTENT, DELETE, EMPTY, ETAG, GET, MAX_AGE, NON, NOT_FOUND, POST, PROXY_URI, PUT, RST, URI_PATH,
+    URI_QUERY, VALID, message, number_bytes,
 )
 from testing.network import expect
 
-T, MAP = (URI_PATH, b"t"), "/t=coap://127.0.0.1:5690/temp"
+T, MAP = (URI_PATH, b"t"), ("--map", "/t=coap://127.0.0.1:5690/temp")
 HERE, THERE = "coap://127.0.0.1:5690/temp", "127.0.0.1:5690"
 TAG, AGE = (ETAG, b"\xab"), (MAX_AGE, number_bytes(60))
 
@@ -25,7 +25,7 @@ def token(number):
     return number.to_bytes(8, "big")
 
 
-def explained(program, events, config):
+def explained(program, events, config, words):
     """The comments that a program writes for events: moments, and datagrams with their sources or None for ticks."""
     lines = []
     for now, event in events:
@@ -34,16 +34,16 @@ def explained(program, events, config):
         file.write(config)
         file.flush()
         done = subprocess.run(
-            [*program, "--replay", "--explain", "--map", MAP, "--config", file.name],
+            [*program, "--replay", "--explain", *words, "--config", file.name],
             input="\n".join(lines).encode() + b"\n", stdout=subprocess.PIPE, stderr=subprocess.PIPE, timeout=50,
         )
     expect("the status and standard error", (0, b""), (done.returncode, done.stderr))
     return [line for line in done.stdout.decode().splitlines() if line.startswith("#")]
 
 
-def check(program, script, config="version = 1\n"):
+def check(program, script, config="version = 1\n", words=MAP):
     """Has a program say this of these events."""
-    comments = explained(program, [(now, event) for now, event, _ in script], config)
+    comments = explained(program, [(now, event) for now, event, _ in script], config, words)
     for at, (now, event, text) in enumerate(script):
         source = "tick" if event is None else event[0]
         wanted = f"# {at + 1} {now} {source} {text}"
@@ -83,6 +83,89 @@ def refusals(program):
         (0, (client(1), message(NON, CONTENT, 6, b"x")), "NON 2.05 ignored no exchange awaits it"),
         (0, (client(1), message(CON, 0x21, 7)), "CON 1.01 rejected code"),
         (0, (client(1), message(NON, GET, 8, b"", [T], bytes(1500))), "NON GET " + HERE + " ignored length"),
+    ])
+
+
+def other_refusals(program):
+    part = (URI_QUERY, b"a" * 255)
+    check(program, [
+        (0, (client(1), message(NON, GET, 1, b"", [(PROXY_URI, b"coap://a/#f")])), "NON GET refused 4.00 uri"),
+        (0, (client(1), message(NON, PUT, 2, b"", [T, part], bytes(1230))),
+         f"NON PUT {HERE}?{'a' * 255} refused 4.13 length"),
+        (0, (client(1), message(NON, EMPTY, 3)), "NON 0.00 ignored code"),
+        (0, (client(1), message(RST, EMPTY, 4)), "RST 0.00 ignored nothing awaits it"),
+        (0, (client(1), message(ACK, GET, 5, b"", [T])), f"ACK GET {HERE} ignored code"),
+        (0, (client(1), message(CON, 0xE0, 6)), "CON 7.00 rejected code"),
+        (0, (client(1), message(NON, CONTENT, 7, b"", [], bytes(1495))), "NON 2.05 ignored no exchange awaits it"),
+        (0, (client(1), message(NON, CONTENT, 8, b"", [], bytes(1496))), "NON 2.05 ignored length"),
+    ], "version = 1\nnames = ['proxy.test']\n")
+
+
+def targets(program):
+    six, plain, odd = "[1:2:3:4:5:6:7:8a]", "-._~!$'()*+,;=:@09AZaz", b" \"#%&/<>?[\\]^`{|}\x7f\xc3"
+    escaped = "".join(f"%{byte:02X}" for byte in odd)
+    parts = [(number, value) for number in (URI_PATH, URI_QUERY) for value in (plain.encode(), odd)]
+    script = [
+        (0, (f"{six}:40001", message(NON, GET, 1, b"", [(PROXY_URI, f"coap://{six}:5684".encode())])),
+         f"NON GET coap://{six}:5684/ opened"),
+        (0, None, f"sent GET to {six}:5684"),
+        (0, (client(1), message(NON, GET, 1, b"", [T, *parts])),
+         f"NON GET {HERE}/{plain}/{escaped}?{plain}&{escaped} opened"),
+        (0, (client(1), message(NON, PUT, 2, b"", [T, (URI_PATH, b""), (URI_PATH, b"a")])),
+         f"NON PUT {HERE}//a opened"),
+        (0, (client(1), message(NON, DELETE, 3, b"", [T])), f"NON DELETE {HERE} opened"),
+    ]
+    for number, (uri, shown) in enumerate((
+        ("coap://192.0.2.7:5683/a", "coap://192.0.2.7/a"),
+        ("coap://192.0.2.7:5682/a", "coap://192.0.2.7:5682/a"),
+        ("coap://sensor.test:7/x?a&b&", "coap://sensor.test:7/x?a&b&"),
+        ("coap://sensor.test", "coap://sensor.test/"),
+    )):
+        request = message(NON, GET, number, b"", [(PROXY_URI, uri.encode())])
+        script.append((0, (client(2), request), f"NON GET {shown} opened"))
+    check(program, script, "version = 1\nnames = ['proxy.test']\n[hosts]\n'sensor.test' = '192.0.2.7'\n")
+
+
+def targets_behind_a_next_proxy(program):
+    check(program, [
+        (0, (client(1), message(NON, GET, 1, b"", [(PROXY_URI, b"coap://nowhere:81/x")])),
+         "NON GET coap://nowhere:81/x opened"),
+        (0, None, "sent GET to 127.0.0.1:5700"),
+        (0, (client(1), message(NON, GET, 2, b"", [(PROXY_URI, b"coap://[::1]/x")])),
+         "NON GET coap://[0:0:0:0:0:0:0:1]/x opened"),
+    ], words=("-P", "coap://127.0.0.1:5700,proxy.test"))
+
+
+def answers_that_are_validated(program):
+    tag, again = (ETAG, b"\x0a\x01"), (MAX_AGE, number_bytes(20))
+    check(program, [
+        (0, (client(1), message(NON, GET, 1, b"a", [T])), f"NON GET {HERE} opened"),
+        (0, None, f"sent GET to {THERE}"),
+        (0, (THERE, message(ACK, CONTENT, 1, token(1), [tag, AGE], b"21")), "ACK 2.05 answered 2.05 kept"),
+        (0, None, f"delivered 2.05 ETag 0a01 Max-Age 60 to {client(1)}"),
+        (60_001, (client(1), message(NON, GET, 2, b"b", [T])), f"NON GET {HERE} opened"),
+        (60_001, None, f"sent GET ETag 0a01 to {THERE}"),
+        (60_001, (THERE, message(ACK, VALID, 3, token(2), [tag, again])), "ACK 2.03 answered 2.03 kept"),
+        (60_001, None, f"delivered 2.05 ETag 0a01 Max-Age 20 to {client(1)}"),
+        # what is valid without a tag of the proxy's is no answer
+        (60_001, (client(1), message(NON, GET, 3, b"c", [T, (URI_PATH, b"x")])), f"NON GET {HERE}/x opened"),
+        (60_001, None, f"sent GET to {THERE}"),
+        (60_001, (THERE, message(ACK, VALID, 5, token(3), [tag])), "ACK 2.03 answered 2.03 not stored"),
+        (60_001, None, f"delivered 5.02 to {client(1)}"),
+    ])
+
+
+def a_confirmable_client(program):
+    tags = [(ETAG, b"\x00"), (ETAG, b"\xff\x10")]
+    check(program, [
+        (0, (client(1), message(CON, POST, 1, b"a", [T, *tags])), f"CON POST {HERE} opened 0.00"),
+        (0, None, f"sent POST ETag 00 ETag ff10 to {THERE}"),
+        (5, (THERE, message(CON, CONTENT, 1, token(1), [TAG], b"21")), "CON 2.05 answered 2.05 not stored"),
+        (5, None, f"delivered 2.05 ETag ab to {client(1)}"),
+        (2005, None, f"resent 2.05 ETag ab to {client(1)}"),
+        (2006, (THERE, message(CON, CONTENT, 1, token(1), [TAG], b"21")), "CON 2.05 again 0.00"),
+        (2007, (client(1), message(RST, EMPTY, 2)), "RST 0.00 acked"),
+        (9000, None, "idle"),
     ])
 
 
@@ -132,6 +215,30 @@ def full_tables(program):
     ], f"version = 2\n[limits]\n{limits}")
 
 
+def full_tables_of_waiters_and_records(program):
+    a, b = ([T, (URI_PATH, name)] for name in (b"a", b"b"))
+    limits = "exchanges = 4\nclient_exchanges = 4\nwaiters = 2\nclient_waiters = 1\n"
+    check(program, [
+        (0, (client(1), message(NON, GET, 1, b"", a)), f"NON GET {HERE}/a opened"),
+        (0, (client(1), message(NON, GET, 2, b"", b)), f"NON GET {HERE}/b overloaded 5.03 client waiters 1/1"),
+        (0, (client(2), message(NON, GET, 1, b"", a)), f"NON GET {HERE}/a joined"),
+        (0, (client(3), message(CON, GET, 1, b"", b)), f"CON GET {HERE}/b overloaded 5.03 waiters 2/2"),
+        (0, (client(3), message(CON, GET, 2, b"", b)), f"CON GET {HERE}/b no record room client con 1/1"),
+        (0, (client(2), message(CON, GET, 2, b"", b)),
+         f"CON GET {HERE}/b overloaded 5.03 waiters 2/2 client waiters 1/1"),
+        (0, (client(2), message(CON, GET, 3, b"", b)), f"CON GET {HERE}/b no record room con 2/2 client con 1/1"),
+    ], f"version = 2\n[limits]\n{limits}con_records = 2\nclient_con_records = 1\n")
+
+
+def an_answer_that_is_too_large(program):
+    check(program, [
+        (0, (client(1), message(NON, GET, 1, b"a", [T])), f"NON GET {HERE} opened"),
+        (0, None, f"sent GET to {THERE}"),
+        (0, (THERE, message(ACK, CONTENT, 1, token(1), [AGE], bytes(64))), "ACK 2.05 answered 2.05 too large"),
+        (0, None, f"delivered 2.05 Max-Age 60 to {client(1)}"),
+    ], "version = 1\nlimits = { cache_bytes = 64 }\n")
+
+
 def ids_that_run_out(program):
     script = [
         (0, (client(1), message(NON, GET, 1, b"a", [T])), f"NON GET {HERE} opened"),
@@ -153,4 +260,8 @@ def ids_that_run_out(program):
     check(program, script, "version = 1\n[limits]\nnon_records = 65536\n")
 
 
-CASES = (an_exchange_and_hits, refusals, answers_that_are_not_kept, a_silent_origin, full_tables, ids_that_run_out)
+CASES = (
+    an_exchange_and_hits, refusals, other_refusals, targets, targets_behind_a_next_proxy, answers_that_are_validated,
+    a_confirmable_client, answers_that_are_not_kept, a_silent_origin, full_tables, full_tables_of_waiters_and_records,
+    an_answer_that_is_too_large, ids_that_run_out,
+)
