@@ -266,7 +266,7 @@ class Stage:
         STARTED.add(process)
         return process
 
-    def proxy(self, *words, config=None, host=None, version=1):
+    def proxy(self, *words, config=None, host=None, version=1, output=subprocess.DEVNULL):
         """Starts the program at a free port, with a configuration of this version if there is one. Returns its address
         once it is ready."""
         host = host or self.host
@@ -274,7 +274,7 @@ class Stage:
             words += ("--config", self.file(f"proxy-{len(self.programs)}.toml", f"version = {version}\n{config}"))
         for _ in range(5):
             port = free_port(host)
-            process = self.start([*self.program, "-A", host, "-p", str(port), *words])
+            process = self.start([*self.program, "-A", host, "-p", str(port), *words], output)
             if self.is_ready(process, (host, port)):
                 return host, port
         raise Broken("the program didn't serve any of five ports")

@@ -3,10 +3,11 @@
 import os
 import re
 import subprocess
+import tempfile
 import time
 
-from testing.coap import BLOCK2, GET, NON
-from testing.network import PATIENCE, Failed, case_list, expect, free_port
+from testing.coap import ACK, BLOCK2, CON, EMPTY, GATEWAY_TIMEOUT, GET, NON, message
+from testing.network import PATIENCE, Failed, case_list, expect, expect_between, free_port
 from testing.steps import T, expect_hit, fetch
 
 CASES, case = case_list()
@@ -21,13 +22,15 @@ LINE = re.compile(" ".join(re.escape(key) + "=[0-9]+" + ("/[0-9]+" if key in KEY
 
 def metrics(path):
     """The numbers of a file of counts, by the names of their metrics and their labels. Each metric must have a help and
-    a type above it."""
+    a type above it: that of a counter if its name is one's."""
     numbers, said = {}, set()
     with open(path, encoding="ascii") as file:
         for line in file:
             words = line.split()
             if line.startswith("# "):
                 said.add((words[1], words[2]))
+                kind = "counter" if words[2].endswith("_total") else "gauge"
+                expect("the type of a metric", True, words[1] != "TYPE" or words[3:] == [kind])
                 continue
             name = words[0].split("{")[0]
             expect("the help and the type of a metric", True, {("HELP", name), ("TYPE", name)} <= said)
@@ -68,6 +71,76 @@ def the_file_has_what_was_sent(stage):
     expect("files beside it", ["counts.prom"], [name for name in os.listdir(stage.folder) if "counts" in name])
 
 
+# Limits of which no two are the same, by their keys in a configuration and in the counts.
+LIMITS = {
+    "cache_bytes": ("cached_bytes", 20_000), "cache_entries": ("entries", 30), "con_records": ("con_records", 31),
+    "non_records": ("non_records", 32), "exchanges": ("exchanges", 33), "waiters": ("waiters", 34),
+}
+# What came and what was sent when one origin was silent and three clients asked, by the keys of a line: the names of
+# metrics, and how often.
+TRAFFIC = {
+    "received": ("datagrams_received", 8), "sent": ("datagrams_sent", 11), "send_faults": ("send_faults", 0),
+    "lost": ("lost_turns", 0), "resent": ("retransmissions", 2), "gave_up": ("given_up", 1),
+}
+
+
+def await_line(path, key, wanted):
+    """The numbers of the last line of counts in a file, by their keys, once one of them is as wanted."""
+    until, numbers = time.monotonic() + PATIENCE, {}
+    while time.monotonic() < until:
+        with open(path, encoding="ascii") as file:
+            lines = [line for line in file if line.endswith("\n")]
+        numbers = dict(word.split("=") for word in lines[-1].split()) if lines else {}
+        if numbers.get(key) == str(wanted):
+            return numbers
+        time.sleep(0.05)
+    raise Failed(f"{key}: expected {wanted}, got {numbers.get(key)}")
+
+
+@case("SendsOnce", "NotCounted")
+def each_number_stands_behind_its_name(stage):
+    started = time.monotonic()
+    origin, path, said = stage.peer(), os.path.join(stage.folder, "counts.prom"), stage.file("said.txt", "")
+    words = ("--map", f"/t=coap://{origin.authority}/temp", "--stats", "1", "--stats-file", path)
+    limits = "".join(f"{key} = {limit}\n" for key, (_, limit) in LIMITS.items())
+    with open(said, "wb") as output:
+        proxy = stage.proxy(*words, config=f"[limits]\n{limits}exchange_ms = 5500\n", output=output)
+    # It was asked whether it is ready, nobody knows how often.
+    before = await_metric(path, "coap_proxyd_lost_turns_total", 0)
+    first, second, third = (stage.peer(to=proxy) for _ in range(3))
+    requests = [first.request(GET, [T], kind=NON), second.request(GET, [T]), third.request(GET, [T])]
+    second.expect_acknowledgement(requests[1])
+    third.expect_acknowledgement(requests[2])
+    for _ in range(3):
+        first.request(GET, [T, (BLOCK2, b"")], kind=NON)
+        first.receive("a refusal")
+    asked = origin.receive("a request")
+    numbers = await_metric(path, 'coap_proxyd_requests_total{outcome="refused_4.02"}', 3)
+    held = {"cached_bytes": 0, "entries": 0, "con_records": 2, "non_records": 4, "exchanges": 1, "waiters": 3}
+    for key, limit in LIMITS.values():
+        expect(f"what is held of {key}", held[key], numbers[f'coap_proxyd_held{{what="{key}"}}'])
+        expect(f"the limit of {key}", limit, numbers[f'coap_proxyd_limit{{what="{key}"}}'])
+    expect("what is sent again", asked.data, origin.receive("the request again").data)
+    # All are told that no answer came, and the last one acknowledges it when it comes again.
+    first.expect_response(requests[0], GATEWAY_TIMEOUT)
+    second.expect_separate(requests[1], GATEWAY_TIMEOUT)
+    told = third.receive("an answer")
+    expect("the answer", (CON, GATEWAY_TIMEOUT), (told.message.kind, told.message.code))
+    expect("the answer again", told.data, third.receive("the answer again").data)
+    third.send(message(ACK, EMPTY, told.message.message_id))
+    names = {key: f"coap_proxyd_{name}_total" for key, (name, _) in TRAFFIC.items()}
+    numbers = await_metric(path, names["received"], before[names["received"]] + 8)
+    line = await_line(said, "received", numbers[names["received"]])
+    for key, (_, more) in TRAFFIC.items():
+        expect(key, before[names[key]] + more, numbers[names[key]])
+        expect(f"{key} of the line", str(numbers[names[key]]), line[key])
+    held = {**held, "exchanges": 0, "waiters": 0}
+    for key, limit in LIMITS.values():
+        expect(f"{key} of the line", f"{held[key]}/{limit}", line[key])
+    for seconds in (numbers["coap_proxyd_uptime_seconds"], int(line["seconds"])):
+        expect_between("seconds since the start", 5, time.monotonic() - started + 1, seconds)
+
+
 def run_a_turn(program, *words):
     """What a program with these words writes to standard error for a few turns of a socket."""
     usual = [*program, "-A", "127.0.0.1", "-p", str(free_port("127.0.0.1")), "--turns", "2", *words]
@@ -90,4 +163,14 @@ def what_cannot_be_written_is_said_once(program):
     expect("the lines of counts", True, len([line for line in lines if LINE.fullmatch(line)]) >= 2)
 
 
-ENDS = (a_line_is_written_at_the_end_of_the_turns, what_cannot_be_written_is_said_once)
+def a_file_alone_brings_no_lines(program):
+    with tempfile.TemporaryDirectory(prefix="coap-proxyd-test-") as folder:
+        path = os.path.join(folder, "counts.prom")
+        expect("the lines", [], run_a_turn(program, "--stats-file", path))
+        expect("the files", ["counts.prom"], os.listdir(folder))
+        expect("what came", 0, metrics(path)["coap_proxyd_datagrams_received_total"])
+
+
+ENDS = (
+    a_line_is_written_at_the_end_of_the_turns, what_cannot_be_written_is_said_once, a_file_alone_brings_no_lines,
+)
