@@ -36,6 +36,15 @@ def what_cannot_be_written_is_a_fault(program):
 
 
 @case
+def what_is_said_of_an_event_and_cannot_be_written_is_a_fault(program):
+    with open("/dev/full", "wb") as full, tempfile.TemporaryFile() as events:
+        # It sends nothing, so that this alone is to be written.
+        events.write(b"0 0 tick\n")
+        events.seek(0)
+        expect_end(program, ["--replay", "--explain"], 1, FILE, stdin=events, stdout=full)
+
+
+@case
 def a_fault_that_cannot_be_written_keeps_its_status(program):
     with open("/dev/full", "wb") as full:
         expect_end(program, ["--id", "65536"], 2, b"", stderr=full)

@@ -132,6 +132,7 @@ def the_first_id_and_the_salt_are_drawn(stage):
     expect("whether first Message IDs differ", True, len(set(ids)) > 1)
     expect("how many salts differ", 3, len(set(salts)))
     expect("whether a salt has 33 bits or more", True, min(salts) >= 1 << 32)
+    expect("whether --salt takes each", True, max(salts) < 1 << 63)
 
 
 @case("PayloadChanged")

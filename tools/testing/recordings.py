@@ -7,20 +7,31 @@ import subprocess
 import tempfile
 import time
 
-from testing.coap import CONTENT, GET
+from testing.coap import CON, CONTENT, GET, NON, NOT_SUPPORTED, PROXY_URI, message
 from testing.network import PATIENCE, Life, case_list, expect, free_port
+from testing.statistics import await_metric
 from testing.steps import T, TEMP, expect_hit, max_age
 
 CASES, case = case_list()
 
 
-def replayed(program, path):
-    """The datagrams that a replay of a recording sends, in hexadecimal digits, but for the Resets of what it was asked
-    to see that it is ready."""
-    with open(path, encoding="utf-8") as file:
-        first, rest = file.readline(), file.read()
+# What stands after a backslash in a word of a shell, and what stands for itself.
+ODD, PLAIN = " !\"#$&'()*;<>?[\\]^`{|}~\x7f", "%+,-./:=@_059AMZamz\u00e9"
+
+
+def words_of(first):
+    """The words behind the version in the first line of a recording."""
     version, *words = shlex.split(first.removeprefix("# coap-proxyd "))
     expect("whether a version comes first", True, version[0].isdigit())
+    return words
+
+
+def replayed(program, path, words=None):
+    """The datagrams that a replay of a recording sends, in hexadecimal digits, but for the Resets of what it was asked
+    to see that it is ready. The words are those that it says, if no others are given."""
+    with open(path, encoding="utf-8") as file:
+        first, rest = file.readline(), file.read()
+    words = words or words_of(first)
     done = subprocess.run([*program, *words], input=first + rest, stdout=subprocess.PIPE, text=True, timeout=20)
     expect("the status of the replay", 0, done.returncode)
     sent = [line.split(" ")[2] for line in done.stdout.splitlines()]
@@ -44,6 +55,45 @@ def a_replay_of_a_recording_sends_the_same(stage):
     while replayed(stage.program, path) != seen and time.monotonic() < until:
         time.sleep(0.2)
     expect("what the replay sends", seen, replayed(stage.program, path))
+
+
+@case("OtherFirstId")
+def a_recording_says_how_its_run_was_started(stage):
+    origin, path = stage.peer(), os.path.join(stage.folder, "run.events")
+    counts = os.path.join(stage.folder, "counts.prom")
+    text = (
+        f"version = 1\nnames = ['old.test'] # \"$a\" 'b'\n\n[hosts]\n\t'h.test' = '192.0.2.7'\n"
+        f"[[map]]\nprefix = '/t'\norigin = 'coap://{origin.authority}/temp'"
+    )
+    name = (ODD + "\n" + PLAIN).replace("/", "") + ".toml"
+    shown = ("".join(f"\\{byte}" for byte in ODD) + "$'\\n'" + PLAIN).replace("/", "") + ".toml"
+    started = ["--id", "257", "--salt", "258"]
+    others = ["--map=/u=coap://192.0.2.7/x", "-P,proxy.test"]
+    words = ("--config", stage.file(name, text), *started, *others, "--record", path)
+    client = stage.peer(to=stage.proxy(*words, "--stats", "1", "--stats-file", counts))
+    request = client.request(GET, [T], kind=NON)
+    asked = origin.expect_bytes("the request", message(CON, GET, 257, (259).to_bytes(8, "big"), [TEMP]))
+    origin.answer(asked, CONTENT, [max_age(60)], b"21")
+    told = client.receive("an answer")
+    refused = client.request(GET, [(PROXY_URI, b"coap://old.test/t")], kind=NON)
+    seen = [it.data.hex().upper() for it in (asked, told, client.expect_response(refused, NOT_SUPPORTED))]
+    # The configuration that it had: a stand-in gives it one with another origin.
+    config = max((os.path.join(stage.folder, it) for it in os.listdir(stage.folder) if it.startswith(ODD)), key=len)
+    again = ["--replay", *started, "--config", config, *others]
+    until = time.monotonic() + PATIENCE
+    while replayed(stage.program, path, again) != seen and time.monotonic() < until:
+        time.sleep(0.2)
+    expect("what the replay sends", seen, replayed(stage.program, path, again))
+    with open(path, encoding="utf-8") as file:
+        first, *lines = file.read().split("\n")
+    at = f" --config={stage.folder}/{shown}{'.inner' if config.endswith('.inner') else ''}"
+    expect("how often the configuration is named", 1, first.count(at))
+    expect("the other words", ["--replay", *started, *others], words_of(first.replace(at, "")))
+    with open(config, encoding="utf-8") as file:
+        wanted = [f"# config: {line}" for line in file.read().split("\n")]
+    expect("the configuration", wanted, lines[: len(wanted)])
+    expect("whether events follow", True, lines[len(wanted)][:1].isdigit())
+    await_metric(counts, 'coap_proxyd_requests_total{outcome="refused_5.05"}', 1)
 
 
 def run_a_turn(program, path):
