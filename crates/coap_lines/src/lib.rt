@@ -18,13 +18,14 @@
 #![tactic(auto)]
 
 pub mod examples;
+mod failing;
 pub mod laws;
 mod reading;
 mod room;
 mod writing;
 
-pub use reading::input::{LONGEST, Next, is_skipped, next_line};
+pub use reading::input::{Input, LONGEST, Next, is_skipped};
 pub use reading::turn::{Turn, read_turn};
 pub use writing::line::{line_buffer, put_line};
-pub use writing::output::write_bytes;
+pub use writing::output::Output;
 pub use writing::turn::{put_arrival, put_tick};

@@ -1,5 +1,5 @@
 -- Recordings of the program.
-use Rattle.std.specs.Prelude.{◌≡◌, ℕ, List, [], ◌∷◌, ◌++◌, codes, Option, Some, None, option_map, string_bytes}
+use Rattle.std.specs.Prelude.{List, [], ◌∷◌, ◌++◌, codes, Option, Some, None, option_map, string_bytes}
 use Rattle.coap_words.specs.Texts.{Text}
 use Rattle.coap_words.specs.declared.settings.Settings.{Settings}
 

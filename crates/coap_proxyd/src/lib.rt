@@ -32,7 +32,7 @@ pub use coap_port::{
     drive, drive_watched,
 };
 pub use coap_record::{HeaderError, Recording, Start, header_of};
-pub use coap_replay::{ReplayError, replay};
+pub use coap_replay::{Input, Output, ReplayError, replay};
 pub use coap_store_list::ListStore;
 pub use coap_store_lru::LruStore;
 pub use coap_udp::UdpPort;

@@ -8,7 +8,7 @@ use crate::fault::Fault;
 use crate::planning::{Plan, core_of};
 use coap_core::{Core, Counts};
 use coap_port::{DriveError, Port, Stats, Unwatched, Watch, drive, drive_watched};
-use coap_replay::{ReplayError, replay_watched};
+use coap_replay::{Input, Output, ReplayError, replay_watched};
 use coap_store::Store;
 use std::alloc::Global;
 use std::io::{BufReader, Read, Write};
@@ -35,10 +35,10 @@ pub fn serve_events<R: Read + Drop, W: Write, S: Store + Drop>(
     seed: S::Seed,
     plan: Plan,
     input: R,
-    output: &mut W,
+    output: &mut Output<W>,
 ) -> Result<(), Fault>
     ensures { spec.IsServed (spec.turns_of plan) (new_world (setting_of plan 1 0))
-        (R.remaining input) (W.contents output.old) (W.contents output.new) result }
+        (R.remaining input) (W.contents output.old.writer) (W.contents output.new.writer) result }
 {
     serve_events_watched::<_, _, S, _>(alloc, seed, plan, input, output, &mut Unwatched)
 }
@@ -53,11 +53,11 @@ pub fn serve_events_watched<R: Read + Drop, W: Write, S: Store + Drop, V: Watch>
     seed: S::Seed,
     plan: Plan,
     input: R,
-    output: &mut W,
+    output: &mut Output<W>,
     watcher: &mut V,
 ) -> Result<(), Fault>
     ensures served { spec.IsServed (spec.turns_of plan) (new_world (setting_of plan 1 0))
-        (R.remaining input) (W.contents output.old) (W.contents output.new) result }
+        (R.remaining input) (W.contents output.old.writer) (W.contents output.new.writer) result }
     ensures told { spec.IsTold V.sees (new_world (setting_of plan 1 0)) watcher.old watcher.new }
 {
     let turns = turns_of(&plan);
@@ -73,18 +73,19 @@ fn serve_on<R: Read + Drop, W: Write, S: Store + Drop, V: Watch>(
     alloc: Global,
     core: &mut Core<S>,
     input: R,
-    output: &mut W,
+    output: &mut Output<W>,
     watcher: &mut V,
     turns: u64,
 ) -> Result<(), Fault>
     ensures served { spec.IsServed turns core.old (R.remaining input)
-        (W.contents output.old) (W.contents output.new) result }
+        (W.contents output.old.writer) (W.contents output.new.writer) result }
     ensures told { spec.IsTold V.sees core.old watcher.old watcher.new }
 {
-    let Ok(mut reader) = BufReader::new(alloc, input) else {
+    let Ok(reader) = BufReader::new(alloc, input) else {
         return Err(Fault::OutOfMemory);
     };
-    ended(replay_watched(alloc, &mut reader, output, core, watcher, turns))
+    let mut input = Input::new(reader);
+    ended(replay_watched(alloc, &mut input, output, core, watcher, turns))
 }
 
 /// How the program ends after a replay.

@@ -51,7 +51,7 @@ module _ {P W : Type 0} (contents : W → Option (List ℕ)) where
   -- a write leaves the port
   port-written : (b : Bool) (r s : Recorder P W) → WritesIf contents b r s → s.port ≡ r.port
   port-written true r s (inl (wrote, is)) = ap (λ (x : Recorder P W). x.port) is
-  port-written true r s (inr (done, rest, split, some, wrote, is)) = ap (λ (x : Recorder P W). x.port) is
+  port-written true r s (inr (done, rest, split, some, wrote, failed, is)) = ap (λ (x : Recorder P W). x.port) is
   port-written false r s is = ap (λ (x : Recorder P W). x.port) is
 
   port-kept : (m : Recorder P W) (line : List ℕ) (ended : Bool) → (with_line m ended line).port ≡ m.port

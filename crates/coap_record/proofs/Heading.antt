@@ -54,6 +54,7 @@ long-more (x ∷ xs) ys short = go (is_too_long (config_line x)) short (long-mor
     go true bad further = absurd cc
     go false short further = further short
 
+-- one that is too long stays one with others behind it
 long-first : (xs ys : List (List ℕ)) → is_one_long xs ≡ true → is_one_long (xs ++ ys) ≡ true
 long-first [] ys long = absurd cc
 long-first (x ∷ xs) ys long = go (is_too_long (config_line x)) long (long-first xs ys)
@@ -106,6 +107,7 @@ one-of : (f : ℕ → List ℕ) → ((b : ℕ) → has 10 (f b) ≡ false) → (
 one-of f none [] = refl
 one-of f none (b ∷ bytes) = rw (list_any-append, none b, one-of f none bytes) refl
 
+-- nor does what a byte is shown as
 one-byte : (b : ℕ) → has 10 (byte_shown b) ≡ false
 one-byte b = go (is_plain b) refl (b == 10) refl
   where
@@ -115,18 +117,21 @@ one-byte b = go (is_plain b) refl (b == 10) refl
     go false plain true feed = refl
     go false plain false feed = rw feed refl
 
+-- nor a word
 one-word : (word : List ℕ) → has 10 (word_shown word) ≡ false
 one-word [] = refl
 one-word (b ∷ word) = one-of byte_shown one-byte (b ∷ word)
 
+-- nor words
 one-words : (words : List (List ℕ)) → has 10 (words_shown words) ≡ false
 one-words [] = refl
 one-words (word ∷ words) = rw (list_any-append, one-word word, one-words words) refl
 
+-- nor a number
 one-number : (n : ℕ) → n < 2 ^ 64 → has 10 (decimal n) ≡ false
 one-number = has-decimal 10 (λ x low high. ne_eqb x 10 (λ same. omega arith))
 
--- the first line has no line feed, and is a comment
+-- nor does how it starts
 one-start : (start : Start) → start.first_id < 2 ^ 64 → start.salt < 2 ^ 64 → has 10 (start_shown start) ≡ false
 unfolding start_shown
 one-start start id salt =
@@ -134,6 +139,7 @@ one-start start id salt =
     let second = one-number start.salt salt in
     rw (list_any-append, list_any-append, list_any-append, first, second) refl
 
+-- nor does the whole first line
 one-first : (version : List ℕ) (start : Start) (words : List (List ℕ)) → start.first_id < 2 ^ 64 → start.salt < 2 ^ 64 → has 10 (first_line version start words) ≡ false
 unfolding first_line
 one-first version start words id salt =
@@ -142,6 +148,7 @@ one-first version start words id salt =
     let rest = one-words words in
     rw (list_any-append, list_any-append, list_any-append, name, begun, rest) refl
 
+-- the first line is a comment
 skipped-first : (version : List ℕ) (start : Start) (words : List (List ℕ)) → is_skipped (first_line version start words) ≡ true
 unfolding first_line
 skipped-first version start words = refl
@@ -151,10 +158,12 @@ skipped-each : (lines : List (List ℕ)) → AllByRecursion (λ line. is_skipped
 skipped-each [] = tt
 skipped-each (line ∷ lines) = (refl, skipped-each lines)
 
+-- the others have no line feed either
 one-each : (lines : List (List ℕ)) → AllByRecursion (λ line. has 10 line ≡ false) lines → AllByRecursion (λ line. has 10 line ≡ false) (map config_line lines)
 one-each [] all = tt
 one-each (line ∷ lines) all = (all.0, one-each lines all.1)
 
+-- if none is too long, each is short enough
 short-each : (lines : List (List ℕ)) → is_one_long lines ≡ false → AllByRecursion (λ line. is_too_long line ≡ false) (map config_line lines)
 short-each [] none = tt
 short-each (line ∷ lines) none =
@@ -176,6 +185,7 @@ pub long-any : (lines : List (List ℕ)) → list_any is_too_long (map config_li
 long-any [] = refl
 long-any (line ∷ lines) = ap (λ (b : Bool). is_too_long (config_line line) || b) (long-any lines)
 
+-- so the header has a line that is too long if a line of the configuration is
 pub long-rest : (version : List ℕ) (start : Start) (words : List (List ℕ)) (config : List ℕ) → is_one_long (lines_of config) ≡ true → list_any is_too_long (header_lines version start words config) ≡ true
 long-rest version start words config long = go (is_too_long (first_line version start words)) (long-any (lines_of config) ∙ long)
   where

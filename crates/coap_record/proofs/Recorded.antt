@@ -43,7 +43,7 @@ module _ {P W : Type 0} (contents : W → Option (List ℕ)) where
   written : (r s : Recorder P W) → Writes contents r s → s.ended ≡ false → (r.ended ≡ false) × Appends (recorded contents r) (recorded contents s) []
   written r s (inl (a, is)) on =
       (ap (λ (x : Recorder P W). x.ended) (sym is) ∙ on, rw (ap (λ (x : Recorder P W). x.pending) is) (moved (contents r.writer) (contents s.writer) r.pending a))
-  written r s (inr (done, rest, split, some, a, is)) on = absurd (false≢true (sym on ∙ ap (λ (x : Recorder P W). x.ended) is))
+  written r s (inr (done, rest, split, some, a, failed, is)) on = absurd (false≢true (sym on ∙ ap (λ (x : Recorder P W). x.ended) is))
 
   written-if : (b : Bool) (r s : Recorder P W) → WritesIf contents b r s → s.ended ≡ false → (r.ended ≡ false) × Appends (recorded contents r) (recorded contents s) []
   written-if true r s writes on = written r s writes on

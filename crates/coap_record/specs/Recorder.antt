@@ -8,18 +8,27 @@ use Rattle.coap_lines.specs.Room.{longest_turn}
 use Rattle.coap_lines.specs.Turns.{IsReadAs, IsSourced, turn_line, turn_text}
 use Rattle.coap_port.specs.Driven.{is_arrival}
 
--- Its port; what the lines are written to; the lines that are kept and not yet written; whether the
--- recording has ended, so that nothing more is recorded; whether nothing came in the last wait.
+-- Its port; what the lines are written to, and whether that failed when it was last asked; the lines
+-- that are kept and not yet written; whether the recording has ended, so that nothing more is
+-- recorded; whether nothing came in the last wait.
 pub record Recorder (P W : Type 0) : Type 0 where
   pub port : P
   pub writer : W
+  pub failed : Bool
   pub pending : List ℕ
   pub ended : Bool
   pub idle : Bool
 
 abbrev pub new_recorder : {P W : Type 0} → P → W → Recorder P W
 new_recorder port writer =
-    record { port = port; writer = writer; pending = []; ended = false; idle = false }
+    record {
+      port = port;
+      writer = writer;
+      failed = false;
+      pending = [];
+      ended = false;
+      idle = false;
+    }
 
 -- how many bytes the datagram of an event has
 abbrev pub size_of : Event → ℕ
@@ -41,15 +50,15 @@ module _ {P W : Type 0} (contents : W → Option (List ℕ)) where
   abbrev pub recorded : Recorder P W → Option (List ℕ)
   recorded r = append_known (contents r.writer) r.pending
 
-  -- The lines that are kept are written; or the writer doesn't take all of them, and the recording
-  -- ends. It isn't stated that the writer failed.
+  -- The lines that are kept are written; or the writer fails before it took all of them, and the
+  -- recording ends.
   abbrev pub Writes : Recorder P W → Recorder P W → Type 0
   Writes r s =
       (Appends (contents r.writer) (contents s.writer) r.pending
-      × (s ≡ record r { writer = s.writer; pending = [] }))
+      × (s ≡ record r { writer = s.writer; failed = s.failed; pending = [] }))
       ⊎ ((done rest : List ℕ) × (r.pending ≡ done ++ rest) × (rest ≢ [])
-      × Appends (contents r.writer) (contents s.writer) done
-      × (s ≡ record r { writer = s.writer; pending = []; ended = true }))
+      × Appends (contents r.writer) (contents s.writer) done × (s.failed ≡ true)
+      × (s ≡ record r { writer = s.writer; failed = true; pending = []; ended = true }))
 
   abbrev pub WritesIf : Bool → Recorder P W → Recorder P W → Type 0
   WritesIf true r s = Writes r s

@@ -6,7 +6,7 @@ ghost use Rattle.coap_record.specs.Recorder as spec;
 
 use crate::turns::{put_turn, size_of};
 use coap_endpoint::Endpoint;
-use coap_lines::write_bytes;
+use coap_lines::Output;
 use coap_message::{Datagram, OutOfMemory};
 use coap_port::{Port, PortFault, Turn};
 use std::alloc::Global;
@@ -42,7 +42,7 @@ fn is_silent(wait: u64, from: Option<Endpoint>) -> bool
 #[derive(Drop)]
 pub struct Recording<P, W> {
     port: P,
-    writer: W,
+    output: Output<W>,
     buffer: Vec<u8>,
     ended: bool,
     idle: bool,
@@ -57,7 +57,8 @@ impl<P, W> Model for Recording<P, W> {
     ghost view = { λ r.
         record {
           port = r.port;
-          writer = r.writer;
+          writer = r.output.writer;
+          failed = r.output.failed;
           pending = r.buffer.items;
           ended = r.ended;
           idle = r.idle;
@@ -76,7 +77,7 @@ impl<P: Drop, W: Drop> Recording<P, W> {
     {
         Ok(Recording {
             port,
-            writer,
+            output: Output::new(writer),
             buffer: Vec::with_capacity(alloc, ROOM)?,
             ended: false,
             idle: false,
@@ -96,7 +97,7 @@ impl<P: Port, W: Write> Recording<P, W> {
     pub fn writer(&self) -> &W
         ensures { result.now ≡ self.now.writer }
     {
-        &self.writer
+        self.output.writer()
     }
 
     /// Whether the recording ended before its port did: the writer failed, or a datagram was too
@@ -118,7 +119,7 @@ impl<P: Port, W: Write> Recording<P, W> {
     fn write(&mut self)
         ensures { spec.Writes W.contents self.old self.new }
     {
-        if write_bytes(&mut self.writer, &self.buffer).is_err() {
+        if self.output.write_all(&self.buffer).is_err() {
             self.ended = true;
         }
         self.buffer.clear();

@@ -1,4 +1,5 @@
 pub mod Asking
+pub mod Causes
 pub mod Replaying
 pub mod AllLines
 pub mod Telling

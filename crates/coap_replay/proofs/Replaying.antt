@@ -168,15 +168,6 @@ module _ (w v : State) (input left left' old new : Option (List ℕ)) (held : Li
   at-event i rest line turn s is asks lacks =
       rw is (lines_of rest, turn, up-to i rest s, subst (λ (u : State). AsksFor (lines + 1) u.last u.events (lines_of rest) turn) at.done.state asks, subst (λ (u : State). takes_some u turn ≡ true) at.done.state lacks)
 
-  -- nothing was read of a line
-  pub ends-unread : IsReplayed w v most input left old new (Err Read)
-  ends-unread = record { turns = at.turns; done = at.done; ends = (fewer, at.written, go input left at.asked) }
-    where
-      go : (o l : Option (List ℕ)) → IfSome o (λ i. StillAsks w i l at.turns lines v) → IfSome o (λ i. IsBroken w i l at.turns)
-      go None l s = tt
-      go (Some i) None s = absurd s
-      go (Some i) (Some rest) s = broken w v i rest (Some rest) at.turns lines at.done.state s ([], refl, refl)
-
   -- no line is left
   ends-done : IfSome left (λ rest. AsksNext (lines + 1) v.last v.events rest left' held (Ok End)) → IsReplayed w v most input left' old new (Ok count)
   ends-done asks =

@@ -136,9 +136,9 @@ IsThrough w most input left turns = ((length turns < most)
 --   was not done, and its step may run out of memory; or nothing was read at all, and the number is
 --   1.
 --   `Read`: some lines were done, perhaps none, and their lines were written. At most the bytes of
---   the next one before its line feed were read. It isn't stated that the reader failed.
+--   the next one before its line feed were read.
 --   `Write`: some lines were done, at least one, and their lines were written, except for a suffix
---   of the last one, of at least one byte. It isn't stated that the writer failed.
+--   of the last one, of at least one byte.
 -- A line that is bad, that runs out of memory or that can't be read comes before `most` turns are
 -- done.
 abbrev pub Ends : State → ℕ → Option (List ℕ) → Option (List ℕ) → Option (List ℕ)
@@ -156,6 +156,14 @@ Ends w most input left old new turns (Err Read) = (length turns < most)
 Ends w most input left old new turns (Err Write) = (length turns ≤ most)
     × IsWrittenInPart w old new turns
     × IfSome input (λ i. (line : ℕ) × (lines : List (List ℕ)) × IsUpTo w i turns line lines)
+
+-- A fault of the reader or the writer comes only if that one failed when it was last asked.
+abbrev pub HasCause : {A : Type 0} → Bool → Bool → Result A ReplayError → Type 0
+HasCause reader writer (Ok a) = Unit {0}
+HasCause reader writer (Err (BadEvent line)) = Unit {0}
+HasCause reader writer (Err (OutOfMemory line)) = Unit {0}
+HasCause reader writer (Err Read) = reader ≡ true
+HasCause reader writer (Err Write) = writer ≡ true
 
 pub record IsReplayed (w v : State) (most : ℕ) (input left old new : Option (List ℕ))
     (result : Result ℕ ReplayError) : Type 0 where
@@ -211,6 +219,13 @@ IfDo P bytes (Err (BadEvent line)) = Unit {0}
 IfDo P bytes (Err (OutOfMemory line)) = ⊥
 IfDo P bytes (Err Read) = Unit {0}
 IfDo P bytes (Err Write) = ⊥
+
+-- what holds if a line was read, so that more may follow
+abbrev pub IfMore : Result Asked ReplayError → Type 0 → Type 0
+IfMore (Ok End) P = Unit {0}
+IfMore (Ok Skip) P = P
+IfMore (Ok (Do turn)) P = P
+IfMore (Err e) P = Unit {0}
 
 -- a turn, and whether there was memory for one more entry of the store
 abbrev pub taken : Turn → Bool → Taken

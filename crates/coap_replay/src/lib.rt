@@ -3,11 +3,11 @@
 //! # First use
 //!
 //! ```rust
-//! let mut input = b"0 0 192.0.2.7:40001 50010007B174\n0 0 tick\n".as_slice();
-//! let mut output = Vec::new(alloc);
+//! let mut input = Input::new(b"0 0 192.0.2.7:40001 50010007B174\n0 0 tick\n".as_slice());
+//! let mut output = Output::new(Vec::new(alloc));
 //! assert_eq!(rt; replay(alloc, &mut input, &mut output, &mut core)?, 2);
 //! let line = b"0 127.0.0.1:5690 480100010000000000000001B474656D70\n";
-//! assert_eq!(rt; output.as_slice(), line.as_slice());
+//! assert_eq!(rt; output.writer().as_slice(), line.as_slice());
 //! ```
 #![tactic(auto)]
 
@@ -16,6 +16,7 @@ mod error;
 mod replays;
 mod whole;
 
+pub use coap_lines::{Input, Output};
 pub use coap_watch::{Seen, Unwatched, Watch};
 pub use error::ReplayError;
 pub use replays::{replay_turns, replay_watched};

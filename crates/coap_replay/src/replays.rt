@@ -1,12 +1,12 @@
 //! Replays: a core handles the events of an input one after the other, and what it sends is
 //! written.
-ghost use Rattle.std.specs.Prelude.{◌≡◌, ◌≤◌, ℕ, true, Some, IfSome, length, vec_capacity};
+ghost use Rattle.std.specs.Prelude.{◌≡◌, ◌≤◌, ◌^◌, ℕ, true, false, Some, IfSome, length, vec_capacity};
 ghost use Rattle.coap_model.specs.State.{State};
 ghost use Rattle.coap_core.specs.Events.{seen};
 ghost use Rattle.coap_replay.specs.Buffers.{HaveRoom};
 ghost use Rattle.coap_watch.specs.Told.{told};
 ghost use Rattle.coap_replay.specs.Watched.{IsTold, TellsTurn};
-ghost use Rattle.coap_replay.specs.Replays.{AsksNext, DoesTurn, IfDo, IsReplayed, MayBeDone, line_for};
+ghost use Rattle.coap_replay.specs.Replays.{AsksNext, DoesTurn, HasCause, IfDo, IfMore, IsReplayed, MayBeDone, line_for};
 ghost use Rattle.coap_lines.specs.Room.{longest_line};
 ghost use Rattle.coap_lines.specs.Turns.{turn_seen, event_seen};
 
@@ -14,7 +14,7 @@ use crate::buffers::Buffers;
 use crate::error::ReplayError;
 use coap_core::{Core, Event, Report};
 use coap_endpoint::Endpoint;
-use coap_lines::{Next, Turn, is_skipped, next_line, put_line, read_turn, write_bytes};
+use coap_lines::{Input, Next, Output, Turn, is_skipped, put_line, read_turn};
 use coap_message::Datagram;
 use coap_store::Store;
 use coap_watch::{Seen, Unwatched, Watch};
@@ -41,7 +41,7 @@ pub(crate) enum Asked {
 /// Reads the line numbered `number`, and its turn, which follows the moment `last`, in
 /// milliseconds, and `events` events. It takes no memory.
 fn next_asked<R: BufRead>(
-    reader: &mut R,
+    input: &mut Input<R>,
     buffers: &mut Buffers,
     number: u64,
     last: u64,
@@ -49,12 +49,14 @@ fn next_asked<R: BufRead>(
 ) -> Result<Asked, ReplayError>
     requires line { 16385 ≤ vec_capacity buffers.old.line }
     requires input { 8192 ≤ buffers.old.input.room }
-    ensures asked { IfSome (R.remaining reader.old) (λ input. AsksNext number last events input
-        (R.remaining reader.new) buffers.new.input.bytes result) }
+    ensures asked { IfSome (R.remaining input.old.reader) (λ text. AsksNext number last events text
+        (R.remaining input.new.reader) buffers.new.input.bytes result) }
+    ensures cause { HasCause input.new.failed false result }
+    ensures few { IfMore result (number ≤ 2 ^ 62) }
     ensures may { IfDo (MayBeDone last events) buffers.new.input.bytes result }
     ensures room { (most : ℕ) → HaveRoom most buffers.old → HaveRoom most buffers.new }
 {
-    match next_line(reader, &mut buffers.line) {
+    match input.next_line(&mut buffers.line) {
         Ok(Next::End) => return Ok(Asked::End),
         Ok(Next::TooLong) => return Err(ReplayError::BadEvent { line: number }),
         Ok(Next::Line) => {}
@@ -121,7 +123,7 @@ fn done<'a>(turn: Turn, event: Event<'a>, report: Report, sent: &'a [u8]) -> See
 /// Does a turn, tells the watcher, and writes the line of what it sends. If it runs out of memory,
 /// nothing was done, and the watcher isn't told.
 fn do_turn<W: Write, S: Store + Drop, V: Watch>(
-    writer: &mut W,
+    output: &mut Output<W>,
     core: &mut Core<S>,
     watcher: &mut V,
     turn: Turn,
@@ -132,7 +134,8 @@ fn do_turn<W: Write, S: Store + Drop, V: Watch>(
         (turn_seen turn buffers.old.input.bytes) }
     requires room { HaveRoom core.old.setting.limits.datagram buffers.old }
     ensures does { DoesTurn core.old core.new (turn_seen turn buffers.old.input.bytes)
-        (W.contents writer.old) (W.contents writer.new) number result }
+        (W.contents output.old.writer) (W.contents output.new.writer) number result }
+    ensures cause { HasCause false output.new.failed result }
     ensures told { TellsTurn V.sees core.old watcher.old core.new watcher.new
         (turn_seen turn buffers.old.input.bytes) result }
     ensures room { HaveRoom core.new.setting.limits.datagram buffers.new }
@@ -143,7 +146,7 @@ fn do_turn<W: Write, S: Store + Drop, V: Watch>(
     };
     line_for(&mut buffers.text, turn.now, report, &buffers.output);
     watcher.see(done(turn, event, report, buffers.output.bytes()), core);
-    if write_bytes(writer, &buffers.text).is_err() {
+    if output.write_all(&buffers.text).is_err() {
         return Err(ReplayError::Write);
     }
     Ok(())
@@ -159,19 +162,22 @@ fn do_turn<W: Write, S: Store + Drop, V: Watch>(
 /// # Errors
 /// `BadEvent` with the number of the first bad line; `OutOfMemory` with the number of the line
 /// whose event ran out of memory, or 1 if memory ran out before the first line; `Read` or `Write`
-/// if the reader or the writer failed. The events of the lines before were done, and what they sent
-/// was written; the event of the line itself wasn't done, except for `Write`.
+/// if the reader or the writer failed, which its `has_failed` then says. The events of the lines
+/// before were done, and what they sent was written; the event of the line itself wasn't done,
+/// except for `Write`.
 pub fn replay_turns<R: BufRead, W: Write, S: Store + Drop>(
     alloc: Global,
-    reader: &mut R,
-    writer: &mut W,
+    input: &mut Input<R>,
+    output: &mut Output<W>,
     core: &mut Core<S>,
     turns: u64,
 ) -> Result<u64, ReplayError>
-    ensures replayed { IsReplayed core.old core.new turns (R.remaining reader.old)
-        (R.remaining reader.new) (W.contents writer.old) (W.contents writer.new) result }
+    ensures replayed { IsReplayed core.old core.new turns (R.remaining input.old.reader)
+        (R.remaining input.new.reader) (W.contents output.old.writer)
+        (W.contents output.new.writer) result }
+    ensures cause { HasCause input.new.failed output.new.failed result }
 {
-    replay_watched(alloc, reader, writer, core, &mut Unwatched, turns)
+    replay_watched(alloc, input, output, core, &mut Unwatched, turns)
 }
 
 /// Does the same as `replay_turns`, and tells a watcher each turn that was done, before the line of
@@ -182,14 +188,16 @@ pub fn replay_turns<R: BufRead, W: Write, S: Store + Drop>(
 /// couldn't be written.
 pub fn replay_watched<R: BufRead, W: Write, S: Store + Drop, V: Watch>(
     alloc: Global,
-    reader: &mut R,
-    writer: &mut W,
+    input: &mut Input<R>,
+    output: &mut Output<W>,
     core: &mut Core<S>,
     watcher: &mut V,
     turns: u64,
 ) -> Result<u64, ReplayError>
-    ensures replayed { IsReplayed core.old core.new turns (R.remaining reader.old)
-        (R.remaining reader.new) (W.contents writer.old) (W.contents writer.new) result }
+    ensures replayed { IsReplayed core.old core.new turns (R.remaining input.old.reader)
+        (R.remaining input.new.reader) (W.contents output.old.writer)
+        (W.contents output.new.writer) result }
+    ensures cause { HasCause input.new.failed output.new.failed result }
     ensures told { IsTold V.sees core.old watcher.old core.new watcher.new }
 {
     if turns == 0 {
@@ -201,11 +209,11 @@ pub fn replay_watched<R: BufRead, W: Write, S: Store + Drop, V: Watch>(
     let mut count = 0;
     for read in 0..u64::MAX {
         let number = read + 1;
-        match next_asked(reader, &mut buffers, number, core.last(), core.events())? {
+        match next_asked(input, &mut buffers, number, core.last(), core.events())? {
             Asked::End => return Ok(count),
             Asked::Skip => {}
             Asked::Do(turn) => {
-                do_turn(writer, core, watcher, turn, number, &mut buffers)?;
+                do_turn(output, core, watcher, turn, number, &mut buffers)?;
                 count += 1;
                 if count == turns {
                     return Ok(count);

@@ -1,9 +1,10 @@
 //! Replays of whole inputs.
-ghost use Rattle.coap_replay.specs.Replays.{IsWhollyReplayed};
+ghost use Rattle.coap_replay.specs.Replays.{HasCause, IsWhollyReplayed};
 
 use crate::error::ReplayError;
 use crate::replays::replay_turns;
 use coap_core::Core;
+use coap_lines::{Input, Output};
 use coap_store::Store;
 use std::alloc::Global;
 use std::io::{BufRead, Write};
@@ -21,17 +22,22 @@ use std::io::{BufRead, Write};
 /// 3. `Read`: the reader failed, or was interrupted.
 /// 4. `Write`: the writer failed.
 ///
+/// `Read` and `Write` come only with a failure of the reader or the writer: `has_failed` is true
+/// then.
+///
 /// The events of the lines before were done, and what they sent was written; the event of the line
 /// itself wasn't done, except for `Write`.
 pub fn replay<R: BufRead, W: Write, S: Store + Drop>(
     alloc: Global,
-    reader: &mut R,
-    writer: &mut W,
+    input: &mut Input<R>,
+    output: &mut Output<W>,
     core: &mut Core<S>,
 ) -> Result<u64, ReplayError>
-    ensures replayed { IsWhollyReplayed core.old core.new (R.remaining reader.old)
-        (R.remaining reader.new) (W.contents writer.old) (W.contents writer.new) result }
+    ensures replayed { IsWhollyReplayed core.old core.new (R.remaining input.old.reader)
+        (R.remaining input.new.reader) (W.contents output.old.writer)
+        (W.contents output.new.writer) result }
+    ensures cause { HasCause input.new.failed output.new.failed result }
 {
     // No input has this many turns: a core handles 2^63 events.
-    replay_turns(alloc, reader, writer, core, u64::MAX)
+    replay_turns(alloc, input, output, core, u64::MAX)
 }

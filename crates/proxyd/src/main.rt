@@ -9,8 +9,9 @@ use crate::reporter::Reporter;
 use coap_account::Explainer;
 use coap_cache::LruStore;
 use coap_proxyd::{
-    Fault, HeaderError, Plan, Port, RecordFile, Recording, Start, VERSION, header_of, read_plan,
-    read_wanted, serve_events, serve_events_watched, serve_port, serve_watched, words_again,
+    Fault, HeaderError, Output, Plan, Port, RecordFile, Recording, Start, VERSION, header_of,
+    read_plan, read_wanted, serve_events, serve_events_watched, serve_port, serve_watched,
+    words_again,
 };
 use coap_udp::UdpPort;
 use std::hash::RandomState;
@@ -159,7 +160,8 @@ fn serve<P: Port>(
 /// Replays standard input.
 fn replay(rt: &HostRuntime, plan: Plan) -> Result<(), Fault> {
     let (alloc, seed) = (rt.alloc(), seed(rt)?);
-    serve_events::<_, _, Cache>(alloc, seed, plan, rt.reader(), &mut io::writer(rt))
+    let mut output = Output::new(io::writer(rt));
+    serve_events::<_, _, Cache>(alloc, seed, plan, rt.reader(), &mut output)
 }
 
 /// Replays standard input, and says after each event what it did. The routes are read once more for
@@ -168,8 +170,8 @@ fn explain(rt: &HostRuntime, plan: Plan) -> Result<(), Fault> {
     let (alloc, seed) = (rt.alloc(), seed(rt)?);
     let Plan { limits, routes, .. } = self::plan(rt)?;
     let mut explainer = Explainer::new(alloc, limits, routes, io::writer(rt));
-    let (input, output) = (rt.reader(), &mut io::writer(rt));
-    serve_events_watched::<_, _, Cache, _>(alloc, seed, plan, input, output, &mut explainer)?;
+    let (input, mut output) = (rt.reader(), Output::new(io::writer(rt)));
+    serve_events_watched::<_, _, Cache, _>(alloc, seed, plan, input, &mut output, &mut explainer)?;
     if explainer.failed() {
         return Err(Fault::File);
     }

@@ -3,7 +3,7 @@ use crate::ports::{ANSWER, BOTH, GET, core_of, shown, stats};
 use coap_cache::ListStore;
 use coap_core::{Core, LimitValues, Limits};
 use coap_message::{OutOfMemory, Seq};
-use coap_proxyd::{DriveError, MemoryPort, Port, Scripted, Stats, drive, replay};
+use coap_proxyd::{DriveError, Input, MemoryPort, Output, Port, Scripted, Stats, drive, replay};
 use coap_record::Recording;
 use coap_target::{Endpoint, Ip};
 use std::alloc::Global;
@@ -69,9 +69,9 @@ fn drive_on<W: Write>(
 /// What a new core writes in a replay of these lines.
 fn replayed(alloc: Global, lines: &[u8]) -> Result<Vec<u8>, Fail> {
     let mut core = core(alloc)?;
-    let mut reader = lines;
     let mut out = Vec::new(alloc);
-    replay(alloc, &mut reader, &mut out, &mut core)?;
+    let (mut input, mut output) = (Input::new(lines), Output::new(&mut out));
+    replay(alloc, &mut input, &mut output, &mut core)?;
     Ok(out)
 }
 

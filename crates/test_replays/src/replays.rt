@@ -3,7 +3,7 @@
 use coap_cache::ListStore;
 use coap_core::{Core, LimitValues, Limits};
 use coap_message::OutOfMemory;
-use coap_proxyd::{ReplayError, replay};
+use coap_proxyd::{Input, Output, ReplayError, replay};
 use coap_target::Routes;
 use std::alloc::{AllocError, Global};
 use std::io;
@@ -47,11 +47,10 @@ fn check_on(
     text: &[u8],
     expected: (Result<u64, ReplayError>, &str),
 ) {
-    let mut written = Vec::new(alloc);
-    let mut reader = text;
-    let result = replay(alloc, &mut reader, &mut written, core);
+    let mut output = Output::new(Vec::new(alloc));
+    let result = replay(alloc, &mut Input::new(text), &mut output, core);
     assert_eq!(rt;
-        (result, written.as_slice()),
+        (result, output.writer().as_slice()),
         (expected.0, expected.1.as_bytes())
     );
 }
@@ -114,15 +113,22 @@ impl<'a> BufRead for Pieces<'a> {
     }
 }
 
-/// Replays what a reader gives on a new core, and returns the result and the number of events that
-/// the core handled.
+/// Replays an input on a new core, checks that a fault of the reader or the writer comes where that
+/// failed and nowhere else, and returns the result and the number of events that the core handled.
 fn replay_anew(
+    rt: &impl Abort,
     alloc: Global,
-    reader: &mut impl BufRead,
-    writer: &mut impl Write,
+    input: &mut Input<impl BufRead>,
+    output: &mut Output<impl Write>,
 ) -> Result<(Result<u64, ReplayError>, u64), Fail> {
     let mut core = usual_core(alloc)?;
-    let result = replay(alloc, reader, writer, &mut core);
+    let result = replay(alloc, input, output, &mut core);
+    let failed = (input.has_failed(), output.has_failed());
+    let faults = (
+        result == Err(ReplayError::Read),
+        result == Err(ReplayError::Write),
+    );
+    assert_eq!(rt; failed, faults);
     Ok((result, core.events()))
 }
 
@@ -136,11 +142,11 @@ fn check_reader(
 ) -> Result<(), Fail> {
     let (given, piece, fails) = reader;
     let rest = FIRST_RUN.as_bytes().get(..given).ok_or("too many bytes")?;
-    let mut reader = Pieces { rest, piece, fails };
-    let mut written = Vec::new(alloc);
-    let (result, events) = replay_anew(alloc, &mut reader, &mut written)?;
+    let mut input = Input::new(Pieces { rest, piece, fails });
+    let mut output = Output::new(Vec::new(alloc));
+    let (result, events) = replay_anew(rt, alloc, &mut input, &mut output)?;
     assert_eq!(rt;
-        (result, events, written.as_slice()),
+        (result, events, output.writer().as_slice()),
         (expected.0, expected.1, expected.2.as_bytes())
     );
     Ok(())
@@ -226,15 +232,15 @@ fn check_writer(
     (room, when_full): (usize, WhenFull),
     expected: (Result<u64, ReplayError>, u64, &[u8]),
 ) -> Result<(), Fail> {
-    let mut writer = Small {
+    let mut output = Output::new(Small {
         held: Vec::new(alloc),
         room,
         when_full,
         interrupted: false,
-    };
-    let mut reader = FIRST_RUN.as_bytes();
-    let (result, events) = replay_anew(alloc, &mut reader, &mut writer)?;
-    assert_eq!(rt; (result, events, writer.held.as_slice()), expected);
+    });
+    let mut input = Input::new(FIRST_RUN.as_bytes());
+    let (result, events) = replay_anew(rt, alloc, &mut input, &mut output)?;
+    assert_eq!(rt; (result, events, output.writer().held.as_slice()), expected);
     Ok(())
 }
 

@@ -4,7 +4,7 @@ use crate::fixtures::CLIENT;
 use coap_account::Explainer;
 use coap_core::{Datagram, LimitValues, Limits, Routes};
 use coap_lines::{LONGEST, line_buffer, put_line, read_turn};
-use coap_replay::{replay, replay_watched};
+use coap_replay::{Input, Output, replay, replay_watched};
 use coap_words::{read_config, read_words};
 use std::test::*;
 
@@ -41,11 +41,11 @@ fn coap_lines(rt: HostRuntime) -> Result<(), Fail> {
 fn coap_replay(rt: HostRuntime) -> Result<(), Fail> {
     let alloc = rt.alloc();
     let mut core = fixtures::core(alloc)?;
-    let mut input = b"0 0 192.0.2.7:40001 50010007B174\n0 0 tick\n".as_slice();
-    let mut output = Vec::new(alloc);
+    let mut input = Input::new(b"0 0 192.0.2.7:40001 50010007B174\n0 0 tick\n".as_slice());
+    let mut output = Output::new(Vec::new(alloc));
     assert_eq!(rt; replay(alloc, &mut input, &mut output, &mut core)?, 2);
     let line = b"0 127.0.0.1:5690 480100010000000000000001B474656D70\n";
-    assert_eq!(rt; output.as_slice(), line.as_slice());
+    assert_eq!(rt; output.writer().as_slice(), line.as_slice());
     Ok(())
 }
 
@@ -55,8 +55,8 @@ fn coap_account(rt: HostRuntime) -> Result<(), Fail> {
     let limits = Limits::new(LimitValues::default())?;
     let routes = Routes::fixed(alloc)?;
     let mut core = fixtures::core(alloc)?;
-    let mut input = b"0 0 192.0.2.7:40001 50010007B174\n".as_slice();
-    let (mut lines, mut output) = (Vec::new(alloc), Vec::new(alloc));
+    let mut input = Input::new(b"0 0 192.0.2.7:40001 50010007B174\n".as_slice());
+    let (mut lines, mut output) = (Output::new(Vec::new(alloc)), Vec::new(alloc));
     let mut explainer = Explainer::new(alloc, limits, routes, &mut output);
     replay_watched(alloc, &mut input, &mut lines, &mut core, &mut explainer, 1)?;
     drop(explainer);

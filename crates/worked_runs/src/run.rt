@@ -2,7 +2,7 @@
 
 use crate::lines::{config_of, words_in, words_of};
 use coap_cache::Store;
-use coap_proxyd::{Fault, read_plan, read_wanted, serve_events};
+use coap_proxyd::{Fault, Output, read_plan, read_wanted, serve_events};
 use std::alloc::Global;
 use std::io;
 use std::io::{ErrorKind, Write};
@@ -22,7 +22,7 @@ where
 {
     let wanted = read_wanted(alloc, words)?;
     let plan = read_plan(alloc, wanted, config)?;
-    serve_events::<_, _, S>(alloc, seed, plan, events, output)
+    serve_events::<_, _, S>(alloc, seed, plan, events, &mut Output::new(output))
 }
 
 /// Runs the program with the words, the configuration and the events of a run.

@@ -5,10 +5,12 @@ ghost use Rattle.coap_lines.specs.Lines.{IsBegun, IsNext, is_skipped, taken};
 ghost use Rattle.coap_lines.specs.Texts.{has};
 ghost use Rattle.coap_lines.specs.declared.reading.input.Piece.TheVariants.{Feed, Full, Last};
 
+use crate::failing::{Failing, fill};
 use crate::reading::cutting::cut;
 use crate::room::put;
 use std::io;
 use std::io::{BufRead, ErrorKind};
+use std::marker::Model;
 
 /// The greatest length of a line in bytes, without its line feed.
 pub const LONGEST: usize = 16_384;
@@ -50,9 +52,97 @@ fn line_part(bytes: &[u8]) -> (usize, bool)
     }
 }
 
+/// What lines are read from: any reader. It notes whether the reader failed when it was last asked,
+/// so that whoever gives out an error of the reader has had one.
+#[derive(Drop)]
+pub struct Input<R> {
+    reader: R,
+    failing: Failing,
+}
+
+impl<R> Model for Input<R> {
+    ghost use Rattle.coap_lines.specs.Ends.{Input};
+
+    ghost Value = { Input R };
+
+    ghost view = { λ i.
+        record {
+          reader = i.reader;
+          failed = i.failing.last;
+        } };
+}
+
+impl<R> Input<R> {
+    /// Lines are read from this reader, which hasn't failed yet.
+    pub fn new(reader: R) -> Input<R>
+        ensures reader { result.reader ≡ reader }
+        ensures failed { result.failed ≡ false }
+    {
+        Input {
+            reader,
+            failing: Failing::new(),
+        }
+    }
+
+    /// Whether the reader failed when it was last asked.
+    pub fn has_failed(&self) -> bool
+        ensures { result ≡ self.now.failed }
+    {
+        self.failing.last()
+    }
+}
+
+impl<R: BufRead> Input<R> {
+    /// Reads the next line, without its line feed, which the last line may lack. The buffer has room
+    /// for 16,385 bytes, and never holds more, so that this doesn't allocate.
+    ///
+    /// # Errors
+    /// Those of the reader, an interrupted read included. Part of the line may have been taken then,
+    /// but never its line feed; that part is lost.
+    pub fn next_line(&mut self, line: &mut Vec<u8>) -> io::Result<Next>
+        requires { 16385 ≤ vec_capacity line.old }
+        ensures within { vec_len line.new ≤ 16385 }
+        ensures room { vec_capacity line.old ≤ vec_capacity line.new }
+        ensures read { IfSome (R.remaining self.old.reader)
+            (λ input. IfOk result
+            (IsNext input (R.remaining self.new.reader) line.new.items)) }
+        ensures begun { OnErr result
+            (IsBegun (R.remaining self.old.reader) (R.remaining self.new.reader)) }
+        ensures failed { OnErr result (self.new.failed ≡ true) }
+    {
+        next_of(&mut self.reader, &mut self.failing, line)
+    }
+}
+
+/// Reads the next line of a reader.
+fn next_of<R: BufRead>(
+    reader: &mut R,
+    failing: &mut Failing,
+    line: &mut Vec<u8>,
+) -> io::Result<Next>
+    requires { 16385 ≤ vec_capacity line.old }
+    ensures within { vec_len line.new ≤ 16385 }
+    ensures room { vec_capacity line.old ≤ vec_capacity line.new }
+    ensures read { IfSome (R.remaining reader.old)
+        (λ input. IfOk result (IsNext input (R.remaining reader.new) line.new.items)) }
+    ensures begun { OnErr result (IsBegun (R.remaining reader.old) (R.remaining reader.new)) }
+    ensures failed { OnErr result (failing.new.last ≡ true) }
+{
+    match read_piece(reader, failing, line)? {
+        Piece::Feed => Ok(Next::Line),
+        Piece::Full => Ok(Next::TooLong),
+        Piece::Last if line.is_empty() => Ok(Next::End),
+        Piece::Last => Ok(Next::Line),
+    }
+}
+
 /// Reads up to the line feed, which is consumed but not kept, up to one byte more than a line may
 /// have, or to the end.
-fn read_piece<R: BufRead>(reader: &mut R, line: &mut Vec<u8>) -> io::Result<Piece>
+fn read_piece<R: BufRead>(
+    reader: &mut R,
+    failing: &mut Failing,
+    line: &mut Vec<u8>,
+) -> io::Result<Piece>
     requires { 16385 ≤ vec_capacity line.old }
     ensures within { vec_len line.new ≤ 16385 }
     ensures room { vec_capacity line.old ≤ vec_capacity line.new }
@@ -65,14 +155,15 @@ fn read_piece<R: BufRead>(reader: &mut R, line: &mut Vec<u8>) -> io::Result<Piec
     ensures end { IfOk result (λ piece. piece ≡ Last
         → IfSome (R.remaining reader.old) (λ _. IsAtEnd (R.remaining reader.new))) }
     ensures begun { OnErr result (IsBegun (R.remaining reader.old) (R.remaining reader.new)) }
+    ensures failed { OnErr result (failing.new.last ≡ true) }
 {
     line.clear();
-    for _ in 0..u64::MAX {
+    for chunks in 0..u64::MAX {
         let room = LONGEST + 1 - line.len();
         if room == 0 {
             return Ok(Piece::Full);
         }
-        let chunk = reader.fill_buf()?;
+        let chunk = fill(reader, failing)?;
         if chunk.is_empty() {
             return Ok(Piece::Last);
         }
@@ -85,30 +176,8 @@ fn read_piece<R: BufRead>(reader: &mut R, line: &mut Vec<u8>) -> io::Result<Piec
         }
         reader.consume(used);
     }
-    // Not reached: each iteration takes a byte, and 16,385 bytes end the loop.
+    // Not reached: each chunk has a byte, and 16,385 bytes end the loop.
     Err(io::Error::from(ErrorKind::Other))
-}
-
-/// Reads the next line of an input, without its line feed, which the last line may lack. The buffer
-/// has room for 16,385 bytes, and never holds more, so that this doesn't allocate.
-///
-/// # Errors
-/// Those of the reader, an interrupted read included. Part of the line may have been taken then,
-/// but never its line feed; that part is lost.
-pub fn next_line<R: BufRead>(reader: &mut R, line: &mut Vec<u8>) -> io::Result<Next>
-    requires { 16385 ≤ vec_capacity line.old }
-    ensures within { vec_len line.new ≤ 16385 }
-    ensures room { vec_capacity line.old ≤ vec_capacity line.new }
-    ensures read { IfSome (R.remaining reader.old)
-        (λ input. IfOk result (IsNext input (R.remaining reader.new) line.new.items)) }
-    ensures begun { OnErr result (IsBegun (R.remaining reader.old) (R.remaining reader.new)) }
-{
-    match read_piece(reader, line)? {
-        Piece::Feed => Ok(Next::Line),
-        Piece::Full => Ok(Next::TooLong),
-        Piece::Last if line.is_empty() => Ok(Next::End),
-        Piece::Last => Ok(Next::Line),
-    }
 }
 
 /// Whether a line is skipped: it is empty, or a comment, which begins with `#`.

@@ -1,41 +1,111 @@
 //! Writing lines to a writer.
-ghost use Rattle.std.specs.Prelude.{◌≡◌, ◌≢◌, ◌++◌, ℕ, List, [], IfErr, OnErr, OnOk};
-ghost use Rattle.std.specs.Io.KnownBytes.{Appends};
+ghost use Rattle.std.specs.Prelude.{◌≡◌, ◌≢◌, ◌++◌, ℕ, List, [], true, false, IfErr, IfOk, OnErr, OnOk};
+ghost use Rattle.std.specs.Io.{WritesAtMost};
+ghost use Rattle.std.specs.Io.KnownBytes.{Appends, WriteAppends};
 ghost use Rattle.std.specs.IoError.{error_kind};
 
+use crate::failing::{Failing, put};
 use std::io;
 use std::io::{ErrorKind, Write};
+use std::marker::Model;
 
-/// Writes all bytes.
-///
-/// # Errors
-/// That of the writer, or `WriteZero` if it takes nothing. A proper prefix of the bytes was written
-/// then. An interrupted write is retried, and never returned as an error.
-pub fn write_bytes<W: Write>(writer: &mut W, bytes: &[u8]) -> io::Result<()>
+/// What lines are written to: any writer. It notes whether the writer failed when it was last asked,
+/// so that whoever gives out an error of the writer has had one.
+#[derive(Drop)]
+pub struct Output<W> {
+    writer: W,
+    failing: Failing,
+}
+
+impl<W> Model for Output<W> {
+    ghost use Rattle.coap_lines.specs.Ends.{Output};
+
+    ghost Value = { Output W };
+
+    ghost view = { λ o. record { writer = o.writer; failed = o.failing.last } };
+}
+
+impl<W> Output<W> {
+    /// Lines are written to this writer, which hasn't failed yet.
+    pub fn new(writer: W) -> Output<W>
+        ensures writer { result.writer ≡ writer }
+        ensures failed { result.failed ≡ false }
+    {
+        Output {
+            writer,
+            failing: Failing::new(),
+        }
+    }
+
+    /// The writer.
+    pub fn writer(&self) -> &W
+        ensures { result.now ≡ self.now.writer }
+    {
+        &self.writer
+    }
+
+    /// Whether the writer failed when it was last asked.
+    pub fn has_failed(&self) -> bool
+        ensures { result ≡ self.now.failed }
+    {
+        self.failing.last()
+    }
+}
+
+impl<W: Write> Output<W> {
+    /// Writes all bytes.
+    ///
+    /// # Errors
+    /// That of the writer, or `WriteZero` if it takes nothing. A proper prefix of the bytes was
+    /// written then. An interrupted write is retried, and never returned as an error.
+    pub fn write_all(&mut self, bytes: &[u8]) -> io::Result<()>
+        ensures all { OnOk result
+            (Appends (W.contents self.old.writer) (W.contents self.new.writer) bytes.now) }
+        ensures retried { IfErr result (λ e. error_kind e ≢ ErrorKind.Interrupted) }
+        ensures front { OnErr result ((done rest : List ℕ)
+            × (bytes.now ≡ done ++ rest) × (rest ≢ [])
+            × Appends (W.contents self.old.writer) (W.contents self.new.writer) done) }
+        ensures failed { OnErr result (self.new.failed ≡ true) }
+    {
+        write_pieces(&mut self.writer, &mut self.failing, bytes)
+    }
+}
+
+/// Writes all bytes, piece by piece.
+fn write_pieces<W: Write>(writer: &mut W, failing: &mut Failing, bytes: &[u8]) -> io::Result<()>
     ensures all { OnOk result (Appends (W.contents writer.old) (W.contents writer.new) bytes.now) }
     ensures retried { IfErr result (λ e. error_kind e ≢ ErrorKind.Interrupted) }
     ensures front { OnErr result ((done rest : List ℕ) × (bytes.now ≡ done ++ rest) × (rest ≢ [])
         × Appends (W.contents writer.old) (W.contents writer.new) done) }
+    ensures failed { OnErr result (failing.new.last ≡ true) }
 {
     let mut rest = bytes;
-    for _ in 0..u64::MAX {
+    for pieces in 0..u64::MAX {
         if rest.is_empty() {
             return Ok(());
         }
-        match writer.write(rest) {
-            Ok(0) => return Err(io::Error::from(ErrorKind::WriteZero)),
-            Ok(n) => rest = &rest[n..],
-            Err(e) => {
-                if e.kind() == ErrorKind::Interrupted {
-                    continue;
-                }
-                return Err(e);
-            }
+        let count = put_some(writer, failing, rest)?;
+        rest = &rest[count..];
+    }
+    // Each piece has a byte, so none is left.
+    Ok(())
+}
+
+/// Writes some of the bytes, at least one if there is one. An interrupted write is retried.
+fn put_some<W: Write>(writer: &mut W, failing: &mut Failing, bytes: &[u8]) -> io::Result<usize>
+    ensures bound { WritesAtMost result bytes.now }
+    ensures bytes { WriteAppends (W.contents writer.old) (W.contents writer.new) result bytes.now }
+    ensures some { IfOk result (λ n. n ≡ 0 → bytes.now ≡ []) }
+    ensures retried { IfErr result (λ e. error_kind e ≢ ErrorKind.Interrupted) }
+    ensures failed { OnErr result (failing.new.last ≡ true) }
+{
+    for tries in 0..u64::MAX {
+        match put(writer, failing, bytes) {
+            Ok(count) => return Ok(count),
+            Err(error) if error.kind() == ErrorKind::Interrupted => continue,
+            Err(error) => return Err(error),
         }
     }
-    if rest.is_empty() {
-        return Ok(());
-    }
-    // 2^64 - 1 iterations, most of them interrupted.
+    // Each of 2^64 - 1 tries was interrupted.
     Err(io::Error::from(ErrorKind::Other))
 }

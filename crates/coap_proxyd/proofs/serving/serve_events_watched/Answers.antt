@@ -10,5 +10,5 @@ returns-in_default-clause-told g c = (new_world (setting_of c.args.plan 1 0), to
 
 pub returns-clause-served : goal.returns-clause-served
 returns-clause-served g c =
-    subst (λ (n : ℕ). spec.IsServed n (new_world (setting_of c.args.plan 1 0)) (g.R.Read.remaining c.args.input) (g.W.Write.contents c.args.output.now) (g.W.Write.contents c.serve_on.new.output) c.serve_on.result) c.turns_of-turns.ensures
-    (subst (λ (w : State). spec.IsServed c.turns_of-turns.result w (g.R.Read.remaining c.args.input) (g.W.Write.contents c.args.output.now) (g.W.Write.contents c.serve_on.new.output) c.serve_on.result) c.in-Ok.ensures c.serve_on.ensures.served)
+    subst (λ (n : ℕ). spec.IsServed n (new_world (setting_of c.args.plan 1 0)) (g.R.Read.remaining c.args.input) (g.W.Write.contents c.args.output.now.writer) (g.W.Write.contents c.serve_on.new.output.writer) c.serve_on.result) c.turns_of-turns.ensures
+    (subst (λ (w : State). spec.IsServed c.turns_of-turns.result w (g.R.Read.remaining c.args.input) (g.W.Write.contents c.args.output.now.writer) (g.W.Write.contents c.serve_on.new.output.writer) c.serve_on.result) c.in-Ok.ensures c.serve_on.ensures.served)

@@ -22,7 +22,7 @@ pub returns : goal.returns
 returns g c =
     let reader = c.in-Ok.ensures in
     record {
-      served = rw c.ended.ensures (served _ c.args.core.now _ (g.R.Read.remaining c.args.input) _ _ _ c.replay_watched.result (rw (reader.capacity, reader.empty, reader.inner) at c.replay_watched.ensures.replayed));
+      served = rw c.ended.ensures (served _ c.args.core.now _ (g.R.Read.remaining c.args.input) _ _ _ c.replay_watched.result (rw (c.new-input.ensures.reader, reader.capacity, reader.empty, reader.inner) at c.replay_watched.ensures.replayed));
       told = (c.replay_watched.new.core, c.replay_watched.ensures.told);
     }
 

@@ -21,4 +21,4 @@ pub returns-then-is_err-clause-does : goal.returns-then-is_err-clause-does
 returns-then-is_err-clause-does g c =
     failed-write c.args.core.now c.step.new.self (turn_seen c.args.turn c.args.buffers.now.input.bytes) (seen c.event_of-event.result) c.in-Ok.report c.args.buffers.now.output c.step.new.out _ _ c.args.number c.line_for.new.text.items
     (c.event_of-event.ensures ∙ ap (event_seen c.args.turn.from) c.bytes.ensures.bytes) c.in-Ok.ensures.exact c.line_for.ensures.line
-    (rw c.deref.ensures.value at (err-holds c.write_bytes.result (sym c.is_err.ensures.value ∙ c.if-is_err.true) c.write_bytes.ensures.front))
+    (rw c.deref.ensures.value at (err-holds c.write_all.result (sym c.is_err.ensures.value ∙ c.if-is_err.true) c.write_all.ensures.front))

@@ -1,7 +1,7 @@
 use Rattle.std.proofs.Common.{arith, sym, ◌∙◌}
 use Rattle.std.proofs.lemmas.Bool.{eqb-false}
 use Rattle.coap_lines.proofs.NextLines.{next-feed, next-last, next-full}
-use Rattle.coap_lines.proofs.reading.input.next_line.Goals as goal
+use Rattle.coap_lines.proofs.reading.input.next_of.Goals as goal
 
 pub returns-in-Feed-clause-read : goal.returns-in-Feed-clause-read
 returns-in-Feed-clause-read g c =

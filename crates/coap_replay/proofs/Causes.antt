@@ -1,0 +1,25 @@
+-- Faults of the reader and of the writer, and what holds after a line that was read.
+use Rattle.std.proofs.Common.{◌≡◌, ℕ, Bool, false, Ok, Err, subst}
+use Rattle.std.proofs.lemmas.Bool.{false≢true}
+use Rattle.coap_replay.specs.declared.error.ReplayError.{ReplayError}
+use Rattle.coap_replay.specs.declared.error.ReplayError.TheVariants.{BadEvent, OutOfMemory, Read, Write}
+use Rattle.coap_replay.specs.declared.replays.Asked.{Asked}
+use Rattle.coap_replay.specs.Replays.{HasCause, IfMore}
+
+-- where only the reader was asked, only the reader failed
+pub cause-read : (e : ReplayError) (reader writer : Bool) → HasCause {A = Asked} reader false (Err e) → HasCause {A = ℕ} reader writer (Err e)
+cause-read (BadEvent line) reader writer cause = tt
+cause-read (OutOfMemory line) reader writer cause = tt
+cause-read Read reader writer cause = cause
+cause-read Write reader writer cause = absurd (false≢true cause)
+
+-- where only the writer was asked, only the writer failed
+pub cause-written : (e : ReplayError) (reader writer : Bool) → HasCause {A = Unit {0}} false writer (Err e) → HasCause {A = ℕ} reader writer (Err e)
+cause-written (BadEvent line) reader writer cause = tt
+cause-written (OutOfMemory line) reader writer cause = tt
+cause-written Read reader writer cause = absurd (false≢true cause)
+cause-written Write reader writer cause = cause
+
+-- what holds after this line
+pub as-more : (P : Type 0) (a b : Asked) → a ≡ b → IfMore (Ok a) P → IfMore (Ok b) P
+as-more P a b is holds = subst (λ (x : Asked). IfMore (Ok x) P) is holds
