@@ -88,8 +88,11 @@ def refusals(program):
 
 def other_refusals(program):
     part = (URI_QUERY, b"a" * 255)
+    refused = [T, (BLOCK2 + 4, b""), (BLOCK2, b""), (URI_QUERY, bytes(256))]
     check(program, [
         (0, (client(1), message(NON, GET, 1, b"", [(PROXY_URI, b"coap://a/#f")])), "NON GET refused 4.00 uri"),
+        (0, (client(1), message(NON, GET, 9, b"", refused)), "NON GET refused 4.02 option 15"),
+        (0, (client(1), message(NON, GET, 10, b"", refused[:3])), "NON GET refused 4.02 option 23"),
         (0, (client(1), message(NON, PUT, 2, b"", [T, part], bytes(1230))),
          f"NON PUT {HERE}?{'a' * 255} refused 4.13 length"),
         (0, (client(1), message(NON, EMPTY, 3)), "NON 0.00 ignored code"),
