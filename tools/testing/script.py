@@ -1,4 +1,5 @@
-"""The script that runs the program: where none is built, it refuses what the program would refuse, and nothing else."""
+"""The script that runs the program: where none is built, it refuses what the program would refuse, and nothing else. Its
+sum over the sources is that of the program's crates."""
 
 import os
 import re
@@ -28,6 +29,31 @@ def said(folder, words):
         stdin=subprocess.DEVNULL, stdout=subprocess.PIPE, stderr=subprocess.PIPE, timeout=20,
     )
     return done.returncode, done.stderr.decode().split(";")[0].split(":")[1]
+
+
+def sum_in(folder):
+    """The sum over the sources that the script prints in a folder."""
+    words = [os.path.join(folder, "coap-proxyd"), "--sum"]
+    return subprocess.run(words, stdin=subprocess.DEVNULL, stdout=subprocess.PIPE, timeout=20, check=True).stdout
+
+
+def check_sum(program):
+    """Has the sum over the sources change with those of the program's crates, and with nothing else."""
+    with tempfile.TemporaryDirectory(prefix="coap-proxyd-test-") as folder:
+        shutil.copy(os.path.join(TOP, "coap-proxyd"), folder)
+        shutil.copytree(os.path.join(TOP, "crates", "proxyd", "src"), os.path.join(folder, "crates", "proxyd", "src"))
+        listed, main = os.path.join(folder, "crates.txt"), os.path.join(folder, "crates", "proxyd", "src", "main.rt")
+        with open(os.path.join(TOP, "crates.txt")) as file:
+            crates = file.read()
+        sums = []
+        for uses in (crates, f"{crates}of_ones_own: coap_proxyd\n", crates.replace("coap_core:", "coap_core: hex", 1)):
+            with open(listed, "w") as file:
+                file.write(uses)
+            sums.append(sum_in(folder))
+        with open(main, "a") as file:
+            file.write("\n")
+        sums.append(sum_in(folder))
+        expect("which sums are new", [True, False, True, True], [it not in sums[:n] for n, it in enumerate(sums)])
 
 
 def check_options(program):
