@@ -5,8 +5,8 @@ import subprocess
 import tempfile
 
 from testing.coap import (
-    ACK, BLOCK2, CON, CONTENT, DELETE, EMPTY, ETAG, GET, MAX_AGE, NON, NOT_FOUND, POST, PROXY_URI, PUT, RST, URI_PATH,
-    URI_QUERY, VALID, message, number_bytes,
+    ACK, BLOCK2, CON, CONTENT, DELETE, EMPTY, ETAG, GET, MAX_AGE, NON, NOT_FOUND, POST, PROXY_SCHEME, PROXY_URI, PUT, RST,
+    URI_HOST, URI_PATH, URI_QUERY, VALID, message, number_bytes,
 )
 from testing.network import expect
 
@@ -136,6 +136,9 @@ def targets_behind_a_next_proxy(program):
         (0, None, "sent GET to 127.0.0.1:5700"),
         (0, (client(1), message(NON, GET, 2, b"", [(PROXY_URI, b"coap://[::1]/x")])),
          "NON GET coap://[0:0:0:0:0:0:0:1]/x opened"),
+        # a name that would begin a line, or look like a port or a user's name
+        (0, (client(1), message(NON, GET, 3, b"", [(URI_HOST, b"a\n# b:1@c&d"), (PROXY_SCHEME, b"coap")])),
+         "NON GET coap://a%0A%23%20b%3A1%40c&d/ opened"),
     ], words=("-P", "coap://127.0.0.1:5700,proxy.test"))
 
 

@@ -70,16 +70,18 @@ pub(crate) fn put_kind(line: &mut Vec<u8>, message: &MessageRef<'_>) -> io::Resu
     put_code(line, message.code())
 }
 
-/// Whether a byte stands for itself in a path or a query (RFC 3986, 3.3 and 3.4). A slash and an
-/// ampersand, which separate parts, don't.
-fn is_plain(byte: u8) -> bool {
-    byte.is_ascii_alphanumeric() || b"-._~!$'()*+,;=:@".contains(&byte)
-}
+/// What stands for itself in a name, beside letters and digits (RFC 3986, 3.2.2).
+const PLAIN_IN_NAMES: &[u8] = b"-._~!$&'()*+,;=";
 
-/// Adds a part of a path or of a query, with `%XX` for what doesn't stand for itself.
-fn put_part(line: &mut Vec<u8>, part: &[u8]) -> io::Result<()> {
-    for byte in part {
-        if is_plain(*byte) {
+/// What stands for itself in a part of a path or of a query, beside letters and digits (RFC 3986,
+/// 3.3 and 3.4). A slash and an ampersand, which separate parts, don't.
+const PLAIN_IN_PARTS: &[u8] = b"-._~!$'()*+,;=:@";
+
+/// Adds bytes that a peer chose, with `%XX` for each that is no letter, no digit, and none of
+/// these.
+fn put_escaped(line: &mut Vec<u8>, bytes: &[u8], plain: &[u8]) -> io::Result<()> {
+    for byte in bytes {
+        if byte.is_ascii_alphanumeric() || plain.contains(byte) {
             line.write_all(&[*byte])?;
         } else {
             write!(line, "%{byte:02X}")?;
@@ -100,7 +102,7 @@ fn put_port(line: &mut Vec<u8>, port: u16) -> io::Result<()> {
 fn put_authority(line: &mut Vec<u8>, target: &Target) -> io::Result<()> {
     line.write_all(b"coap://")?;
     match &target.host {
-        Some(host) => line.write_all(host.as_slice())?,
+        Some(host) => put_escaped(line, host.as_slice(), PLAIN_IN_NAMES)?,
         None => put_ip(line, target.at.ip)?,
     }
     put_port(line, target.port.unwrap_or(target.at.port))
@@ -114,12 +116,12 @@ pub(crate) fn put_target(line: &mut Vec<u8>, target: &Target) -> io::Result<()> 
     }
     for part in target.path.iter() {
         line.write_all(b"/")?;
-        put_part(line, part)?;
+        put_escaped(line, part, PLAIN_IN_PARTS)?;
     }
     let mut mark = b"?";
     for part in target.query.iter() {
         line.write_all(mark)?;
-        put_part(line, part)?;
+        put_escaped(line, part, PLAIN_IN_PARTS)?;
         mark = b"&";
     }
     Ok(())
