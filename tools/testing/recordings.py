@@ -96,9 +96,9 @@ def a_recording_says_how_its_run_was_started(stage):
     await_metric(counts, 'coap_proxyd_requests_total{outcome="refused_5.05"}', 1)
 
 
-def run_a_turn(program, path):
+def run_a_turn(program, path, *more):
     """The status and the standard error of a turn that is recorded to a file."""
-    words = [*program, "-A", "127.0.0.1", "-p", str(free_port("127.0.0.1")), "--turns", "1", "--record", path]
+    words = [*program, "-A", "127.0.0.1", "-p", str(free_port("127.0.0.1")), "--turns", "1", "--record", path, *more]
     done = subprocess.run(words, stdout=subprocess.PIPE, stderr=subprocess.PIPE, timeout=20)
     return done.returncode, done.stderr
 
@@ -113,6 +113,17 @@ def a_file_that_is_there_stays_as_it_is(program):
         expect("the second run", (1, b"coap-proxyd: file\n"), run_a_turn(program, path))
         with open(path, "rb") as file:
             expect("the file", text, file.read())
+
+
+def a_line_that_is_too_long_for_a_recording_is_a_fault(program):
+    with tempfile.TemporaryDirectory(prefix="coap-proxyd-test-") as folder:
+        path, config = os.path.join(folder, "run.events"), os.path.join(folder, "proxy.toml")
+        # With `# config: ` before it a line of the configuration may have 16,384 bytes.
+        for count, end, files in ((16_375, (1, b"coap-proxyd: file\n"), 1), (16_374, (0, b""), 2)):
+            with open(config, "w", encoding="ascii") as file:
+                file.write("version = 1\n" + "#" * count)
+            expect(f"a run with {count} bytes in a line", end, run_a_turn(program, path, "--config", config))
+            expect("how many files there are", files, len(os.listdir(folder)))
 
 
 def limited():
@@ -133,4 +144,7 @@ def a_full_disk_ends_the_recording_alone(program):
         expect("whether it ends with a whole line", (b"", True), (lines[-1], len(lines) > 2))
 
 
-ENDS = (a_file_that_is_there_stays_as_it_is, a_full_disk_ends_the_recording_alone)
+ENDS = (
+    a_file_that_is_there_stays_as_it_is, a_line_that_is_too_long_for_a_recording_is_a_fault,
+    a_full_disk_ends_the_recording_alone,
+)
