@@ -25,7 +25,7 @@ def forms(letter, name, value):
 def said(folder, words):
     """The status and the standard error of the script for words and `--help`, in a folder where nothing is built."""
     done = subprocess.run(
-        [os.path.join(folder, "coap-proxyd"), *words, "--help"],
+        ["sh", os.path.join(folder, "coap-proxyd"), *words, "--help"],
         stdin=subprocess.DEVNULL, stdout=subprocess.PIPE, stderr=subprocess.PIPE, timeout=20,
     )
     return done.returncode, done.stderr.decode().split(";")[0].split(":")[1]
