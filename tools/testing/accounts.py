@@ -139,6 +139,8 @@ def targets_behind_a_next_proxy(program):
         # a name that would begin a line, or look like a port or a user's name
         (0, (client(1), message(NON, GET, 3, b"", [(URI_HOST, b"a\n# b:1@c&d"), (PROXY_SCHEME, b"coap")])),
          "NON GET coap://a%0A%23%20b%3A1%40c&d/ opened"),
+        (0, (client(1), message(NON, GET, 4, b"", [(URI_HOST, b"[::1]:2\xff]"), (PROXY_SCHEME, b"coap")])),
+         "NON GET coap://[::1%5D:2%FF]/ opened"),
     ], words=("-P", "coap://127.0.0.1:5700,proxy.test"))
 
 

@@ -90,6 +90,16 @@ fn put_escaped(line: &mut Vec<u8>, bytes: &[u8], plain: &[u8]) -> io::Result<()>
     Ok(())
 }
 
+/// Adds a host that a client named: a name, or an IPv6 address in brackets.
+fn put_host(line: &mut Vec<u8>, host: &[u8]) -> io::Result<()> {
+    let [b'[', address @ .., b']'] = host else {
+        return put_escaped(line, host, PLAIN_IN_NAMES);
+    };
+    line.write_all(b"[")?;
+    put_escaped(line, address, b":.")?;
+    line.write_all(b"]")
+}
+
 /// Adds a port of a URI behind a colon, unless it is the default one.
 fn put_port(line: &mut Vec<u8>, port: u16) -> io::Result<()> {
     if port == DEFAULT_PORT {
@@ -102,7 +112,7 @@ fn put_port(line: &mut Vec<u8>, port: u16) -> io::Result<()> {
 fn put_authority(line: &mut Vec<u8>, target: &Target) -> io::Result<()> {
     line.write_all(b"coap://")?;
     match &target.host {
-        Some(host) => put_escaped(line, host.as_slice(), PLAIN_IN_NAMES)?,
+        Some(host) => put_host(line, host.as_slice())?,
         None => put_ip(line, target.at.ip)?,
     }
     put_port(line, target.port.unwrap_or(target.at.port))
