@@ -1,0 +1,68 @@
+-- Replies with a cached response to requests that it doesn't answer. The bytes are encoded per RFC
+-- 7252 (3, 3.1, 5.10).
+use Rattle.std.specs.Prelude.{ℕ, List, [], ◌∷◌, codes}
+use Rattle.coap_message.specs.declared.code.TheConstants.Code.{GET, PUT}
+use Rattle.coap_message.specs.declared.kind.Kind.TheVariants.{Non}
+use Rattle.coap_message.specs.Message.{Message}
+use Rattle.coap_message.specs.Options.{option_of}
+use Rattle.coap_option.specs.declared.numbers.TheConstants.{ACCEPT, URI_PATH}
+use Rattle.coap_store.specs.declared.key.CacheKey.{CacheKey}
+use Rattle.coap_model.specs.Events.{arrival}
+use Rattle.coap_model.specs.Examples.{client, get_t}
+use Rattle.coap_model.specs.ForgedHits.{reply}
+use Rattle.coap_model.specs.History.{Entry}
+use Rattle.coap_model.specs.OptionExamples.{key_of_temp}
+
+-- the reply with the first answer, nine seconds before it is stale, to a request with these bytes
+abbrev pub replied_to : List ℕ → Entry
+replied_to bytes = record (reply 25 9).entry { event = arrival (client 4) bytes }
+
+-- the GET that it answers
+abbrev pub get_bytes : List ℕ
+get_bytes = get_t []
+
+-- the same with another method
+abbrev pub put_bytes : List ℕ
+put_bytes = 0x50 ∷ 3 ∷ 0 ∷ 7 ∷ 0xB1 ∷ 0x74 ∷ []
+
+abbrev pub put : Message
+put =
+    record {
+      kind = Non;
+      code = PUT;
+      id = 7;
+      token = [];
+      options = option_of URI_PATH (codes "t") ∷ [];
+      payload = [];
+    }
+
+-- the same with a second path segment, and its key
+abbrev pub part_bytes : List ℕ
+part_bytes = get_t (0x01 ∷ 0x78 ∷ [])
+
+abbrev pub part : Message
+part =
+    record put {
+      code = GET;
+      options = option_of URI_PATH (codes "t") ∷ option_of URI_PATH (codes "x") ∷ [];
+    }
+
+abbrev pub key_of_part : CacheKey
+key_of_part =
+    record key_of_temp {
+      target = record key_of_temp.target { path = codes "temp" ∷ codes "x" ∷ [] };
+    }
+
+-- the same with an Accept, and its key
+abbrev pub accepting_bytes : List ℕ
+accepting_bytes = get_t (0x61 ∷ 0x28 ∷ [])
+
+abbrev pub accepting : Message
+accepting =
+    record put {
+      code = GET;
+      options = option_of URI_PATH (codes "t") ∷ option_of ACCEPT (0x28 ∷ []) ∷ [];
+    }
+
+abbrev pub key_accepting : CacheKey
+key_accepting = record key_of_temp { options = option_of ACCEPT (0x28 ∷ []) ∷ [] }
