@@ -1,1 +1,4 @@
 pub mod CachedReplies
+pub mod Arriving
+pub mod Fetching
+pub mod Validating

@@ -6,4 +6,6 @@
 //! held, and has a refused example beside it.
 #![tactic(auto)]
 
+pub mod fetches;
 pub mod replies;
+pub mod validations;

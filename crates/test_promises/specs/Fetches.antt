@@ -1,0 +1,72 @@
+-- Responses that weren't fetched for a key, though they arrived. The bytes are encoded per RFC 7252
+-- (3, 3.1, 5.10).
+use Rattle.std.specs.Prelude.{ℕ, List, [], ◌∷◌, codes}
+use Rattle.coap_message.specs.declared.code.TheConstants.Code.{NOT_FOUND, PUT}
+use Rattle.coap_message.specs.declared.kind.Kind.TheVariants.{Ack, Con}
+use Rattle.coap_message.specs.Message.{Message}
+use Rattle.coap_message.specs.Options.{option_of}
+use Rattle.coap_option.specs.declared.numbers.TheConstants.{MAX_AGE, URI_PATH}
+use Rattle.coap_forward.specs.Messages.{token_of}
+use Rattle.coap_model.specs.CacheExamples.{asks_again, opens_again}
+use Rattle.coap_model.specs.Events.{arrival}
+use Rattle.coap_model.specs.Examples.{answer, client}
+use Rattle.coap_model.specs.Forged.{asked, opened}
+use Rattle.coap_model.specs.History.{Deed}
+use Rattle.coap_model.specs.WordExamples.{answers}
+use Rattle.test_promises.specs.Replies.{put_bytes}
+
+-- ---- the response to another method
+
+-- a 4.04 with a Max-Age of ten seconds
+abbrev pub error_bytes : List ℕ
+error_bytes = answer 0x68 0x84 1 1 (0xD1 ∷ 1 ∷ 10 ∷ [])
+
+abbrev pub error : Message
+error =
+    record {
+      kind = Ack;
+      code = NOT_FOUND;
+      id = 1;
+      token = token_of 0 1;
+      options = option_of MAX_AGE (10 ∷ []) ∷ [];
+      payload = [];
+    }
+
+abbrev pub gets_error : Deed
+gets_error = answers 5 1 error_bytes
+
+-- it answers a GET
+abbrev pub get_past : List Deed
+get_past = asked ∷ opened ∷ []
+
+-- or a PUT that is forwarded in place of it
+abbrev pub put_sent_bytes : List ℕ
+put_sent_bytes =
+    0x48 ∷ 3 ∷ 0 ∷ 1 ∷ 0 ∷ 0 ∷ 0 ∷ 0 ∷ 0 ∷ 0 ∷ 0 ∷ 1 ∷ 0xB4 ∷ 0x74 ∷ 0x65 ∷ 0x6D ∷ 0x70 ∷ []
+
+abbrev pub put_sent : Message
+put_sent =
+    record {
+      kind = Con;
+      code = PUT;
+      id = 1;
+      token = token_of 0 1;
+      options = option_of URI_PATH (codes "temp") ∷ [];
+      payload = [];
+    }
+
+abbrev pub opens_put : Deed
+opens_put =
+    record opened { entry = record opened.entry { event = arrival (client 1) put_bytes } }
+
+abbrev pub asks_put : Deed
+asks_put = record asked { entry = record asked.entry { bytes = put_sent_bytes } }
+
+abbrev pub put_past : List Deed
+put_past = asks_put ∷ opens_put ∷ []
+
+-- ---- a response that a change overtook
+
+-- the history of such a response, without the change
+abbrev pub quiet_past : List Deed
+quiet_past = asks_again ∷ opens_again ∷ asked ∷ opened ∷ []
