@@ -1,3 +1,4 @@
 pub mod Replies
 pub mod Fetches
 pub mod Validations
+pub mod Schedules

@@ -8,4 +8,5 @@
 
 pub mod fetches;
 pub mod replies;
+pub mod schedules;
 pub mod validations;
