@@ -1,5 +1,5 @@
 -- What arrives for a request, and what is fetched by it.
-use Rattle.std.proofs.Common.{◌≡◌, ℕ, ◌≤◌, true, false, List, [], ◌∷◌, length, refl, sym, ap, ◌∙◌, arith}
+use Rattle.std.proofs.Common.{◌≡◌, ℕ, ◌≤◌, true, List, length, sym, ap, ◌∙◌}
 use Rattle.coap_message.specs.declared.kind.Kind.TheVariants.{Ack}
 use Rattle.coap_message.specs.Codes.{is_response}
 use Rattle.coap_message.specs.Message.{Message}
@@ -14,7 +14,7 @@ use Rattle.coap_model.specs.Cached.{IsFetched}
 use Rattle.coap_model.specs.Changed.{key_asked, to_get, Unchanged}
 use Rattle.coap_model.specs.Events.{arrival}
 use Rattle.coap_model.specs.Examples.{origin}
-use Rattle.coap_model.specs.History.{Asks, Deed, Gets, IsPlaceOf, Never, Place, Sends, in_acknowledgement, moves, takes}
+use Rattle.coap_model.specs.History.{Asks, Deed, Gets, IsPlaceOf, Place, in_acknowledgement, moves, takes}
 use Rattle.coap_model.specs.WordExamples.{setting_with}
 use Rattle.coap_model.proofs.Places.{here}
 

@@ -1,11 +1,10 @@
 -- Responses that weren't fetched for a key, though they arrived.
-use Rattle.std.proofs.Common.{◌≡◌, ◌≢◌, inl, inr, ℕ, ◌+◌, Bool, true, false, List, [], ◌∷◌, length, refl, sym, ap, ◌∙◌, subst, arith}
+use Rattle.std.proofs.Common.{◌≡◌, inl, inr, true, false, [], ◌∷◌, length, refl, sym, ap, ◌∙◌, subst, arith}
 use Rattle.coap_message.specs.Message.{Message}
 use Rattle.coap_message.specs.Reading.{read_message, body_at, options_within, option_at, extended}
 use Rattle.coap_message.specs.Spelling.{Spells, spelling, option_spelling}
 use Rattle.coap_message.specs.Uint.{uint_spelling}
 use Rattle.coap_message.proofs.WholeMessages.{read_is}
-use Rattle.coap_endpoint.specs.declared.target.Target.{Target}
 use Rattle.coap_limits.specs.Limits.{default_limits}
 use Rattle.coap_store.specs.declared.key.CacheKey.{CacheKey}
 use Rattle.coap_forward.specs.Changes.{changed_by}
@@ -17,7 +16,7 @@ use Rattle.coap_model.specs.Changed.{Changes, Unchanged, WasChanged}
 use Rattle.coap_model.specs.Examples.{origin}
 use Rattle.coap_model.specs.Forged.{asked, opened, setting}
 use Rattle.coap_model.specs.ForgedHits.{change, change_told, changed_message, keeps_overtaken, overtaken_past}
-use Rattle.coap_model.specs.History.{Asks, Gets, IsPlaceOf, Never, Place, Sends}
+use Rattle.coap_model.specs.History.{Asks, Gets, Never, Sends}
 use Rattle.coap_model.specs.Keys.{key_sent, target_sent}
 use Rattle.coap_model.specs.LimitExamples as limited
 use Rattle.coap_model.specs.OptionExamples.{key_of_temp}

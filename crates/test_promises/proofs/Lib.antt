@@ -2,3 +2,4 @@ pub mod CachedReplies
 pub mod Arriving
 pub mod Fetching
 pub mod Validating
+pub mod Promising

@@ -2,3 +2,4 @@ pub mod Replies
 pub mod Fetches
 pub mod Validations
 pub mod Schedules
+pub mod Promises

@@ -7,6 +7,7 @@
 #![tactic(auto)]
 
 pub mod fetches;
+pub mod promises;
 pub mod replies;
 pub mod schedules;
 pub mod validations;

@@ -1,4 +1,4 @@
-use Rattle.std.proofs.Common.{◌≤◌, ◌<◌, arith}
+use Rattle.std.proofs.Common.{◌≤◌, arith}
 use Rattle.test_promises.proofs.schedules.a_sixth_sending_is_refused.Goals as goal
 
 pub returns : goal.returns

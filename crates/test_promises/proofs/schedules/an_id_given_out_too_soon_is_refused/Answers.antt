@@ -1,4 +1,4 @@
-use Rattle.std.proofs.Common.{◌≡◌, ◌<◌, refl, arith}
+use Rattle.std.proofs.Common.{refl, arith}
 use Rattle.test_promises.proofs.schedules.an_id_given_out_too_soon_is_refused.Goals as goal
 
 pub returns : goal.returns

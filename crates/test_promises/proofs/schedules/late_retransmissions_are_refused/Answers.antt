@@ -1,4 +1,4 @@
-use Rattle.std.proofs.Common.{◌≤◌, ◌<◌, arith}
+use Rattle.std.proofs.Common.{◌<◌, arith}
 use Rattle.test_promises.proofs.schedules.late_retransmissions_are_refused.Goals as goal
 
 pub returns : goal.returns

@@ -1,0 +1,68 @@
+//! The promise in short as a whole: what it says of each place of a history, and histories of no
+//! proxy that keeps it.
+ghost use Rattle.std.specs.Prelude.{◌≡◌, ◌≤◌, List, length};
+ghost use Rattle.coap_message.specs.Message.{Message};
+ghost use Rattle.coap_endpoint.specs.declared.endpoint.Endpoint.{Endpoint};
+ghost use Rattle.coap_store.specs.Entries.{entry_size};
+ghost use Rattle.coap_store.specs.Lists.{total};
+ghost use Rattle.coap_model.specs.declared.report.Outcome.TheVariants.{Hit};
+ghost use Rattle.coap_model.specs.Cached.{IsStoreOf};
+ghost use Rattle.coap_model.specs.Duplicates.{Repeats};
+ghost use Rattle.coap_model.specs.History.{Entry, IsPlaceOf, Place, told_by};
+ghost use Rattle.coap_model.specs.Justified.{AllJustified, Comes};
+ghost use Rattle.coap_model.specs.MessageIds.{IdsDiffer};
+ghost use Rattle.coap_model.specs.State.{State};
+ghost use Rattle.coap_model.specs.Word.{IsFromCache, IsToldAgain, IsWithin, KeepsItsWord, until};
+ghost use Rattle.test_promises.specs.Promises.{acknowledges_another, begins_with_a_hit};
+
+/// For a proxy that keeps its promise: at each place the limits hold, a hit is a reply from the
+/// cache, and a message that repeats an earlier one within its lifetime is handled as a duplicate.
+pub fn the_promise_covers_each_place()
+    ensures limits { (history : List Entry) (w : State) (word : KeepsItsWord history w) (p : Place)
+        → IsPlaceOf word.deeds p
+        → IsWithin w.setting (until p) }
+    ensures hits { (history : List Entry) (w : State) (word : KeepsItsWord history w) (p : Place)
+        → IsPlaceOf word.deeds p
+        → p.deed.entry.report.outcome ≡ Hit
+        → IsFromCache w.setting p.before p.deed.entry }
+    ensures duplicates { (history : List Entry) (w : State) (word : KeepsItsWord history w)
+        (p former : Place) (source : Endpoint) (m : Message)
+        → IsPlaceOf word.deeds p
+        → IsPlaceOf p.before former
+        → Comes w.setting source m p.deed.entry.event
+        → Repeats p.deed.entry.now source m former
+        → IsToldAgain source m former p.deed.entry }
+{}
+
+/// Its history is that of the promise, each entry is justified, and no Message ID is given out
+/// twice within 247 seconds. Its store corresponds to the cache of the history, and is within its
+/// limits.
+pub fn the_promise_covers_the_whole()
+    ensures history { (history : List Entry) (w : State) (word : KeepsItsWord history w)
+        → told_by word.deeds ≡ history }
+    ensures justified { (history : List Entry) (w : State) (word : KeepsItsWord history w)
+        → AllJustified w.setting word.deeds }
+    ensures ids { (history : List Entry) (w : State) (word : KeepsItsWord history w)
+        → IdsDiffer word.deeds }
+    ensures store { (history : List Entry) (w : State) (word : KeepsItsWord history w)
+        → IsStoreOf w.setting word.deeds w.store }
+    ensures entries { (history : List Entry) (w : State)
+        → KeepsItsWord history w
+        → length w.store ≤ w.setting.limits.cache_entries }
+    ensures bytes { (history : List Entry) (w : State)
+        → KeepsItsWord history w
+        → total entry_size w.store ≤ w.setting.limits.cache_bytes }
+{}
+
+/// No proxy that keeps its promise has a history that begins with a reply from the cache.
+pub fn a_hit_before_any_response_is_refused()
+    ensures { (w : State) → ¬ KeepsItsWord begins_with_a_hit w }
+{}
+
+/// Nor one where a duplicate of a Confirmable request gets another acknowledgement than the
+/// request, if the request isn't too long for a datagram (RFC 7252, 4.2).
+pub fn another_acknowledgement_is_refused()
+    ensures { (w : State)
+        → 6 ≤ w.setting.limits.datagram
+        → ¬ KeepsItsWord acknowledges_another w }
+{}
