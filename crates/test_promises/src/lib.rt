@@ -10,4 +10,5 @@ pub mod fetches;
 pub mod promises;
 pub mod replies;
 pub mod schedules;
+pub mod shares;
 pub mod validations;
