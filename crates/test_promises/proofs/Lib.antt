@@ -3,3 +3,4 @@ pub mod Arriving
 pub mod Fetching
 pub mod Validating
 pub mod Promising
+pub mod Choosing
