@@ -16,7 +16,7 @@ use Rattle.coap_model.specs.Changed.{Changes, Unchanged, WasChanged}
 use Rattle.coap_model.specs.Examples.{origin}
 use Rattle.coap_model.specs.Forged.{asked, opened, setting}
 use Rattle.coap_model.specs.ForgedHits.{change, change_told, changed_message, keeps_overtaken, overtaken_past}
-use Rattle.coap_model.specs.History.{Asks, Gets, Never, Sends}
+use Rattle.coap_model.specs.History.{Asks, Gets, Never, Place, Sends}
 use Rattle.coap_model.specs.Keys.{key_sent, target_sent}
 use Rattle.coap_model.specs.LimitExamples as limited
 use Rattle.coap_model.specs.OptionExamples.{key_of_temp}
@@ -135,3 +135,16 @@ quiet_fetched =
     fetched-by default_limits key_of_temp (content_gets quiet_past 25 1 1 Kept (here (opened ∷ []) asked) (inr (inr (inl refl))) first_asks refl refl (are-bytes (limited.got 1 1) refl) first_got (omega arith)) _ refl refl refl refl
     (told-stays false setting key_of_temp.target (here (opened ∷ []) asked) (opens_again ∷ asked ∷ opened ∷ []) asks_again refl
     (told-stays false setting key_of_temp.target (here (opened ∷ []) asked) (asked ∷ opened ∷ []) opens_again refl (newest-unchanged setting key_of_temp.target (opened ∷ []) asked refl)))
+
+-- ---- places
+
+-- what was fetched since the place where its request was sent wasn't fetched since an earlier one
+pub not_since : ¬ IsFetched setting key_of_temp (here [] opened) first_entry.getting
+not_since f =
+    let one : 0 ≡ 1 = ap (λ (p : Place). length p.before) (sym f.asking_is ∙ (one-getting f.gets (first_gets Kept)).asking) in
+    omega (arith, one)
+
+-- it would be if that were the place
+pub since_if_asked : first_entry.asking ≡ here [] opened → IsFetched setting key_of_temp (here [] opened) first_entry.getting
+unfolding token_of target_options target_sent key_sent spelling option_spelling uint_spelling
+since_if_asked same = fetched-by default_limits key_of_temp (first_gets Kept) _ same refl refl refl (told-stays false setting key_of_temp.target (here [] opened) (opened ∷ []) asked refl (newest-unchanged setting key_of_temp.target [] opened refl))

@@ -4,3 +4,4 @@ pub mod Fetching
 pub mod Validating
 pub mod Promising
 pub mod Choosing
+pub mod Aging

@@ -41,7 +41,7 @@ tagged_spelled : Spells tagged_bytes tagged_content
 unfolding read_message body_at options_within option_at extended token_of
 tagged_spelled = read_is tagged_bytes tagged_content (are-bytes tagged_bytes refl) refl
 
-tagged_get_spelled : Spells tagged_get_bytes tagged_get
+pub tagged_get_spelled : Spells tagged_get_bytes tagged_get
 unfolding read_message body_at options_within option_at extended token_of target_options uint_spelling
 tagged_get_spelled = read_is tagged_get_bytes tagged_get (are-bytes tagged_get_bytes refl) refl
 
@@ -62,11 +62,11 @@ unfolding read_message body_at options_within option_at extended token_of
 format_valid_spelled = read_is format_valid_bytes format_valid (are-bytes format_valid_bytes refl) refl
 
 -- the second request wasn't sent before the cached response came
-unasked : Never (Sends 0 2) tagged_past
+pub unasked : Never (Sends 0 2) tagged_past
 unasked = (unsent 2 (gets_tagged ∷ asked ∷ opened ∷ []) opens_again (λ e. cc), (unsent 2 (asked ∷ opened ∷ []) gets_tagged (λ e. cc), early_unsent.1))
 
 -- so it was first sent there, with the tag AB
-abbrev tagged_asks : Asks 0 2 (here tagged_past asks_tagged)
+abbrev pub tagged_asks : Asks 0 2 (here tagged_past asks_tagged)
 tagged_asks = record {
   sends = record { act = refl; outcome = refl; to = origin; sent = refl; message = tagged_get; spells = tagged_get_spelled; token = refl };
   first = unasked;
@@ -84,7 +84,7 @@ abbrev tagged_gets : (limits : Limits) → 19 ≤ limits.datagram → Gets (sett
 tagged_gets limits long = gets-by limits (asked ∷ opened ∷ []) gets_tagged 1 tagged_bytes tagged_content (here (opened ∷ []) asked) refl refl refl (inl refl) first_asks refl refl refl refl refl (are-bytes tagged_bytes refl) tagged_spelled long
 
 -- it may be kept
-tagged_obtained : (limits : Limits) → 19 ≤ limits.datagram → is_passed_on limits.datagram true tagged_content ≡ true → IsObtained (setting_with limits) key_of_temp tagged_content (here (opened ∷ []) asked) (here (asked ∷ opened ∷ []) gets_tagged)
+pub tagged_obtained : (limits : Limits) → 19 ≤ limits.datagram → is_passed_on limits.datagram true tagged_content ≡ true → IsObtained (setting_with limits) key_of_temp tagged_content (here (opened ∷ []) asked) (here (asked ∷ opened ∷ []) gets_tagged)
 unfolding token_of target_options target_sent key_sent spelling option_spelling uint_spelling
 tagged_obtained limits long passed =
     first_hand (fetched-by limits key_of_temp (tagged_gets limits long) _ refl refl refl passed (newest-unchanged (setting_with limits) key_of_temp.target (opened ∷ []) asked refl))

@@ -3,3 +3,4 @@ pub mod Fetches
 pub mod Validations
 pub mod Schedules
 pub mod Promises
+pub mod Ages

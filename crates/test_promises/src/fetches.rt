@@ -44,3 +44,10 @@ pub fn fetches_that_a_change_overtook_are_refused()
         → IsFetched setting key_of_temp (at (opened ∷ []) asked)
         (at overtaken_past keeps_overtaken) }
 {}
+
+/// A response is fetched since the place where its request was sent, and not since an earlier one.
+pub fn fetches_since_another_place_are_refused()
+    ensures another { ¬ IsFetched setting key_of_temp (at [] opened) first_entry.getting }
+    ensures but_for_the_place { first_entry.asking ≡ at [] opened
+        → IsFetched setting key_of_temp (at [] opened) first_entry.getting }
+{}

@@ -6,6 +6,7 @@
 //! held, and has a refused example beside it.
 #![tactic(auto)]
 
+pub mod ages;
 pub mod choices;
 pub mod fetches;
 pub mod promises;
