@@ -5,3 +5,4 @@ pub mod Validating
 pub mod Promising
 pub mod Choosing
 pub mod Aging
+pub mod Differing

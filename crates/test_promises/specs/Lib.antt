@@ -4,3 +4,4 @@ pub mod Validations
 pub mod Schedules
 pub mod Promises
 pub mod Ages
+pub mod Shares

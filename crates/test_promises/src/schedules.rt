@@ -5,6 +5,8 @@ ghost use Rattle.coap_exchange.specs.Ids.{AreApart};
 ghost use Rattle.coap_exchange.specs.Timers.{AreSpaced, IsSchedule};
 ghost use Rattle.coap_model.specs.Schedules as traffic;
 ghost use Rattle.coap_model.specs.WordExamples.{sending};
+ghost use Rattle.coap_model.specs.MessageIds.{IdsDiffer};
+ghost use Rattle.test_promises.specs.Shares.{refusal};
 ghost use Rattle.test_promises.specs.Schedules.{given, longest, shortest, shortest_four, six};
 
 /// A message is sent again after two to three seconds, depending on the draw, then after twice as
@@ -53,4 +55,10 @@ pub fn an_id_given_out_too_soon_is_refused()
     ensures too_soon { ¬ AreApart (given 246999 1 ∷ given 0 1 ∷ []) }
     ensures with_one_between { ¬ AreApart (given 246999 1 ∷ given 9 2 ∷ given 0 1 ∷ []) }
     ensures with_one_after { ¬ AreApart (given 500000 2 ∷ given 246999 1 ∷ given 0 1 ∷ []) }
+{}
+
+/// The same edge, where the Message IDs are those of the entries of a history.
+pub fn ids_in_a_history_have_the_same_edge()
+    ensures apart { IdsDiffer (refusal 247000 ∷ refusal 0 ∷ []) }
+    ensures too_soon { ¬ IdsDiffer (refusal 246999 ∷ refusal 0 ∷ []) }
 {}

@@ -1,8 +1,18 @@
 //! Shared limits at their edges: reached, and one below.
+ghost use Rattle.std.specs.Prelude.{◌≡◌, ◌≢◌, ◌≤◌, ◌∷◌, ℕ, [], List, length};
+ghost use Rattle.coap_message.specs.Message.{Message};
+ghost use Rattle.coap_endpoint.specs.declared.endpoint.Endpoint.{Endpoint};
 ghost use Rattle.coap_limits.specs.Limits.{default_limits};
-ghost use Rattle.coap_model.specs.Shares.{IsFullOf, IsShort};
+ghost use Rattle.coap_model.specs.declared.report.Outcome.TheVariants.{NoRecordRoom, Overloaded};
+ghost use Rattle.coap_model.specs.History.{Entry, IsPlaceOf, IsRequestOf, Place};
+ghost use Rattle.coap_model.specs.Justified.{Comes, HasOwnRecordRoom};
+ghost use Rattle.coap_model.specs.Shares.{AreFrom, AreShares, IsFullOf, IsShort, LeavesRoom};
+ghost use Rattle.coap_model.specs.Standing.{HasIds, HasOwnRoomToOpen};
+ghost use Rattle.coap_model.specs.State.{State};
+ghost use Rattle.coap_model.specs.Word.{until};
 ghost use Rattle.coap_model.specs.WordExamples.{con_read, two_pending, two_pending_con};
 ghost use Rattle.test_promises.specs.Replies.{part};
+ghost use Rattle.test_promises.specs.Shares.{halves, refusal};
 
 /// Where two messages of a type are remembered, no more of this type may be if two may, and more
 /// may be if three may.
@@ -23,4 +33,65 @@ pub fn limits_of_exchanges_and_clients_are_exact()
     ensures exchanges_below { ¬ IsShort (record default_limits { exchanges = 3 }) 0 two_pending }
     ensures waiters { IsShort (record default_limits { waiters = 2 }) 0 two_pending }
     ensures waiters_below { ¬ IsShort (record default_limits { waiters = 3 }) 0 two_pending }
+{}
+
+/// In each 247 seconds 32,768 Message IDs are free. One is left for each client that waits, for each
+/// request that is still to be sent, and for each one that was given out (RFC 7252, 4.4).
+pub fn free_ids_are_counted_exactly()
+    ensures all { HasIds 32768 0 [] }
+    ensures no_more { ¬ HasIds 32769 0 [] }
+    ensures besides_two { HasIds 32764 0 two_pending }
+    ensures no_more_besides_two { ¬ HasIds 32765 0 two_pending }
+    ensures besides_a_given_one { HasIds 32767 246999 (refusal 0 ∷ []) }
+    ensures no_more_besides_a_given_one { ¬ HasIds 32768 246999 (refusal 0 ∷ []) }
+    ensures later { HasIds 32768 247000 (refusal 0 ∷ []) }
+{}
+
+/// What two clients may use up is no more than what they share, and what three may use up is.
+pub fn shares_are_added_up_exactly()
+    ensures of_two { AreShares halves 2 }
+    ensures of_three { ¬ AreShares halves 3 }
+    ensures con_records { ¬ AreShares (record halves { client_con_records = 2 }) 2 }
+    ensures non_records { ¬ AreShares (record halves { client_non_records = 2 }) 2 }
+    ensures exchanges { ¬ AreShares (record halves { client_exchanges = 2 }) 2 }
+    ensures waiters { ¬ AreShares (record halves { client_waiters = 2 }) 2 }
+{}
+
+/// For a proxy that leaves room to each client: a message of an endpoint below its own limit is
+/// dropped only if all endpoints together reach theirs, and a request is turned away only if room
+/// is short; where few endpoints have sent anything, neither happens for want of shared room.
+pub fn room_is_left_at_each_place()
+    ensures remembered { (history : List Entry) (w : State) (left : LeavesRoom history w)
+        (p : Place) (source : Endpoint) (m : Message)
+        → IsPlaceOf left.deeds p
+        → Comes w.setting source m p.deed.entry.event
+        → HasOwnRecordRoom w.setting p.before p.deed.entry.now source m
+        → p.deed.entry.report.outcome ≡ NoRecordRoom
+        → IsFullOf w.setting.limits m p.deed.entry.now p.before }
+    ensures served { (history : List Entry) (w : State) (left : LeavesRoom history w)
+        (p : Place) (client : Endpoint) (request : Message)
+        → IsPlaceOf left.deeds p
+        → IsRequestOf w.setting client request p.deed.entry.event
+        → HasOwnRoomToOpen w.setting.limits client p.before
+        → p.deed.entry.report.outcome ≡ Overloaded
+        → IsShort w.setting.limits p.deed.entry.now p.before }
+    ensures remembered_of_few { (history : List Entry) (w : State) (left : LeavesRoom history w)
+        (many : ℕ) (endpoints : List Endpoint) (p : Place) (source : Endpoint) (m : Message)
+        → length endpoints ≤ many
+        → AreShares w.setting.limits many
+        → IsPlaceOf left.deeds p
+        → AreFrom endpoints (until p)
+        → Comes w.setting source m p.deed.entry.event
+        → HasOwnRecordRoom w.setting p.before p.deed.entry.now source m
+        → p.deed.entry.report.outcome ≢ NoRecordRoom }
+    ensures served_of_few { (history : List Entry) (w : State) (left : LeavesRoom history w)
+        (many : ℕ) (endpoints : List Endpoint) (p : Place) (client : Endpoint) (request : Message)
+        → length endpoints ≤ many
+        → AreShares w.setting.limits many
+        → IsPlaceOf left.deeds p
+        → AreFrom endpoints (until p)
+        → IsRequestOf w.setting client request p.deed.entry.event
+        → HasOwnRoomToOpen w.setting.limits client p.before
+        → p.deed.entry.report.outcome ≡ Overloaded
+        → ¬ HasIds 2 p.deed.entry.now p.before }
 {}
