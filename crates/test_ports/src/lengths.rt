@@ -19,7 +19,7 @@ use std::test::*;
 const LIMIT: usize = 128;
 
 /// A Confirmable POST of `/temp` up to its payload, which follows.
-const POST: [u8; 18] = *b"\x48\x02\x12\x34TokenABC\xB4temp\xFF";
+const POST: &[u8] = b"\x48\x02\x12\x34TokenABC\xB4temp\xFF";
 
 /// Its acknowledgement, and its rejection.
 const ACKNOWLEDGEMENT: &[u8] = b"\x60\x00\x12\x34";
@@ -32,11 +32,14 @@ const SENT_ON: [u8; 15] = *b"\x48\x02\x00\x01\0\0\0\0\0\0\0\x01\xB1t\xFF";
 /// An address of this host.
 const LOCALHOST: Ip = Ip::V4([127, 0, 0, 1]);
 
-/// A datagram that is longer than the limit.
-fn long_datagram() -> [u8; 200] {
-    let mut bytes = [b'x'; 200];
-    bytes[..18].copy_from_slice(&POST);
-    bytes
+/// That request in a datagram of `length` bytes.
+fn request(alloc: Global, length: usize) -> Result<Vec<u8>, AllocError> {
+    let mut bytes = Vec::new(alloc);
+    bytes.extend_from_slice(POST)?;
+    for _ in POST.len()..length {
+        bytes.push(b'x')?;
+    }
+    Ok(bytes)
 }
 
 /// A core with this limit that maps `/temp` to `/t` at an origin server. So what it sends on is
@@ -84,15 +87,16 @@ fn heads(alloc: Global, handed: &[Handed]) -> Result<String, AllocError> {
     Ok(out)
 }
 
-/// Hands a datagram to a core, which does so many turns, and checks what it sends.
+/// Hands a datagram of `length` bytes to a core, which does so many turns, and checks what it sends.
 fn check(
     rt: &impl Abort,
     alloc: Global,
-    (bytes, turns): (&[u8], u64),
+    (length, turns): (usize, u64),
     expected: &str,
 ) -> Result<(), Fail> {
     let mut core = core_to(alloc, "127.0.0.1:5690")?;
-    let mut port = port(alloc, bytes)?;
+    let bytes = request(alloc, length)?;
+    let mut port = port(alloc, &bytes)?;
     drive_on(rt, alloc, &mut core, &mut port, turns)?;
     let written = heads(alloc, port.handed())?;
     assert_eq!(rt; written.as_str(), expected);
@@ -102,13 +106,12 @@ fn check(
 #[test]
 fn no_datagram_in_memory_is_cut(rt: HostRuntime) -> Result<(), Fail> {
     let alloc = rt.alloc();
-    let bytes = long_datagram();
     // with a payload of 110 bytes, all of which are sent on
     let whole = "40001 60001234 4, 5690 48020001 125, ";
-    check(&rt, alloc, (&bytes[..LIMIT], 2), whole)?;
+    check(&rt, alloc, (LIMIT, 2), whole)?;
     let rejected = "40001 70001234 4, ";
-    check(&rt, alloc, (&bytes[..LIMIT + 1], 1), rejected)?;
-    check(&rt, alloc, (&bytes, 1), rejected)
+    check(&rt, alloc, (LIMIT + 1, 1), rejected)?;
+    check(&rt, alloc, (200, 1), rejected)
 }
 
 // ---- over a socket
@@ -134,14 +137,13 @@ fn no_datagram_over_a_socket_is_cut(rt: HostRuntime) -> Result<(), Fail> {
     assert!(rt; port.send(Endpoint { ip, port: to }, b"?"));
     let (_, proxy) = client.recv_from(&mut [0; 1])?;
 
-    let bytes = long_datagram();
-    client.send_to(&bytes, proxy)?;
+    client.send_to(&request(alloc, 200)?, proxy)?;
     assert_eq!(rt; drive_for(&rt, alloc, &mut core, &mut port, 1)?.sent, 1);
     check_got(&rt, &client, RESET)?;
-    client.send_to(&bytes[..LIMIT + 1], proxy)?;
+    client.send_to(&request(alloc, LIMIT + 1)?, proxy)?;
     assert_eq!(rt; drive_for(&rt, alloc, &mut core, &mut port, 1)?.sent, 1);
     check_got(&rt, &client, RESET)?;
-    client.send_to(&bytes[..LIMIT], proxy)?;
+    client.send_to(&request(alloc, LIMIT)?, proxy)?;
     assert_eq!(rt; drive_for(&rt, alloc, &mut core, &mut port, 2)?.sent, 2);
     check_got(&rt, &client, ACKNOWLEDGEMENT)?;
     // the payload is whole
