@@ -1,4 +1,11 @@
 -- Histories of no proxy that keeps its promise.
+use Rattle.std.specs.Prelude.{Bool, true, false, if◌then◌else◌, None}
+use Rattle.coap_endpoint.specs.Endpoint.{same_endpoint}
+use Rattle.coap_store.specs.declared.key.CacheKey.{CacheKey}
+use Rattle.coap_store.specs.Lists.{of_key}
+use Rattle.coap_model.specs.Cached.{Cached, cached_key, empty, hit, kept, otherwise, too_large, IsCacheOf}
+use Rattle.coap_model.specs.Keys.{request_key}
+use Rattle.coap_model.proofs.Cached.{cache-unique}
 use Rattle.std.proofs.Common.{◌≡◌, inl, ℕ, ◌≤◌, List, [], ◌∷◌, length, get_or, Some, refl, sym, ap, ◌∙◌, subst, arith}
 use Rattle.coap_message.specs.Message.{Message}
 use Rattle.coap_message.specs.Reading.{read_message, body_at, options_within, option_at, extended}
@@ -9,12 +16,13 @@ use Rattle.coap_endpoint.specs.declared.endpoint.Endpoint.{Endpoint}
 use Rattle.coap_model.specs.declared.report.Outcome.TheVariants.{Hit}
 use Rattle.coap_model.specs.Duplicates.{Repeats}
 use Rattle.coap_model.specs.Examples.{client}
-use Rattle.coap_model.specs.Forged.{opened_con}
+use Rattle.coap_model.specs.Forged.{opened_con, setting}
+use Rattle.coap_model.specs.ForgedHits.{reply}
 use Rattle.coap_model.specs.History.{Deed, Entry, IsPlaceOf, Place, told_by}
 use Rattle.coap_model.specs.Justified.{Comes}
 use Rattle.coap_model.specs.Setting.{Setting}
 use Rattle.coap_model.specs.State.{State}
-use Rattle.coap_model.specs.Word.{IsFromCache, IsToldAgain, KeepsItsWord}
+use Rattle.coap_model.specs.Word.{IsCacheWithin, IsWithin, IsFromCache, IsToldAgain, KeepsItsWord}
 use Rattle.coap_model.specs.WordExamples.{again, con_read}
 use Rattle.coap_model.proofs.CacheExamples.{are-bytes}
 use Rattle.coap_model.proofs.Places.{here}
@@ -40,8 +48,8 @@ con_spelled : Spells (0x40 ∷ 1 ∷ 0 ∷ 7 ∷ 0xB1 ∷ 0x74 ∷ []) con_read
 unfolding read_message body_at options_within option_at extended
 con_spelled = read_is (0x40 ∷ 1 ∷ 0 ∷ 7 ∷ 0xB1 ∷ 0x74 ∷ []) con_read (are-bytes (0x40 ∷ 1 ∷ 0 ∷ 7 ∷ 0xB1 ∷ 0x74 ∷ []) refl) refl
 
-con_comes : (setting : Setting) → 6 ≤ setting.limits.datagram → Comes setting (client 1) con_read opened_con.entry.event
-con_comes setting long = record { brings = record { bytes = 0x40 ∷ 1 ∷ 0 ∷ 7 ∷ 0xB1 ∷ 0x74 ∷ []; came = refl; spells = con_spelled; short = long }; recorded = refl }
+con_comes : (chosen : Setting) → 6 ≤ chosen.limits.datagram → Comes chosen (client 1) con_read opened_con.entry.event
+con_comes chosen long = record { brings = record { bytes = 0x40 ∷ 1 ∷ 0 ∷ 7 ∷ 0xB1 ∷ 0x74 ∷ []; came = refl; spells = con_spelled; short = long }; recorded = refl }
 
 -- the one after half a second repeats it
 con_repeats : (d : Deed) → d.entry ≡ opened_con.entry → Repeats 500 (client 1) con_read (here [] d)
@@ -72,3 +80,38 @@ no_other_acknowledgement w long word = go word.deeds word.told word.duplicates
         let id : 8 ≡ 7 = sym (ap (λ (x : Entry). get_or x.bytes 3 0) later) ∙ ap (λ (l : List ℕ). get_or l 3 0) told_again.1 ∙ ap (λ (x : Entry). get_or x.bytes 3 0) first in
         omega (arith, id)
     go (d ∷ e ∷ f ∷ more) told duplicates = absurd (let few = ap (λ (es : List Entry). length es) told in omega (arith, few))
+
+-- ---- a history without a cache
+
+-- nothing is found in the cache of an empty history
+none-found : (cached : List Cached) (key : CacheKey) (entry : Cached) → IsCacheOf setting [] cached → of_key cached_key key cached ≡ Some entry → ⊥
+none-found cached key entry cache found = absurd (let e : None ≡ Some entry = subst (λ (cs : List Cached). of_key cached_key key cs ≡ Some entry) (cache-unique setting [] cached [] cache empty) found in cc)
+
+-- so a history that begins with a hit has no cache
+no-cache : (cached : List Cached) → ¬ IsCacheOf setting (reply 25 9 ∷ []) cached
+no-cache _ (kept _ x gets opening is was opens former now) = absurd cc
+no-cache _ (too_large _ x gets is cache) = absurd cc
+no-cache _ (hit {cached = cached} _ client request target entry is brings aims found cache) = none-found cached (request_key target request) entry cache found
+no-cache _ (otherwise _ is cache) = absurd cc
+
+-- and isn't within limits
+pub not_within : ¬ IsWithin setting (reply 25 9 ∷ [])
+not_within w = no-cache w.cache.cached w.cache.is_cache
+
+-- it would be if it had one
+pub within_if_cached : IsCacheWithin setting (reply 25 9 ∷ []) → IsWithin setting (reply 25 9 ∷ [])
+within_if_cached cache = record {
+  exchanges = omega arith;
+  waiters = omega arith;
+  con_records = omega arith;
+  non_records = omega arith;
+  client_exchanges = λ from. omega arith;
+  client_waiters = λ from. omega arith;
+  client_con_records = λ from. omega arith;
+  client_non_records = λ from. one-from _ (same_endpoint (client 4) from);
+  cache = cache;
+}
+  where
+    one-from : {X : Type 0} (x : X) (b : Bool) → length (if b then x ∷ [] else []) ≤ 4096
+    one-from x true = omega arith
+    one-from x false = omega arith

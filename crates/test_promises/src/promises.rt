@@ -1,6 +1,6 @@
 //! The promise in short as a whole: what it says of each place of a history, and histories of no
 //! proxy that keeps it.
-ghost use Rattle.std.specs.Prelude.{◌≡◌, ◌≤◌, List, length};
+ghost use Rattle.std.specs.Prelude.{◌≡◌, ◌≤◌, ◌∷◌, [], List, length};
 ghost use Rattle.coap_message.specs.Message.{Message};
 ghost use Rattle.coap_endpoint.specs.declared.endpoint.Endpoint.{Endpoint};
 ghost use Rattle.coap_store.specs.Entries.{entry_size};
@@ -8,11 +8,13 @@ ghost use Rattle.coap_store.specs.Lists.{total};
 ghost use Rattle.coap_model.specs.declared.report.Outcome.TheVariants.{Hit};
 ghost use Rattle.coap_model.specs.Cached.{IsStoreOf};
 ghost use Rattle.coap_model.specs.Duplicates.{Repeats};
+ghost use Rattle.coap_model.specs.Forged.{setting};
+ghost use Rattle.coap_model.specs.ForgedHits.{reply};
 ghost use Rattle.coap_model.specs.History.{Entry, IsPlaceOf, Place, told_by};
 ghost use Rattle.coap_model.specs.Justified.{AllJustified, Comes};
 ghost use Rattle.coap_model.specs.MessageIds.{IdsDiffer};
 ghost use Rattle.coap_model.specs.State.{State};
-ghost use Rattle.coap_model.specs.Word.{IsFromCache, IsToldAgain, IsWithin, KeepsItsWord, until};
+ghost use Rattle.coap_model.specs.Word.{IsCacheWithin, IsFromCache, IsToldAgain, IsWithin, KeepsItsWord, until};
 ghost use Rattle.test_promises.specs.Promises.{acknowledges_another, begins_with_a_hit};
 
 /// For a proxy that keeps its promise: at each place the limits hold, a hit is a reply from the
@@ -52,6 +54,14 @@ pub fn the_promise_covers_the_whole()
     ensures bytes { (history : List Entry) (w : State)
         → KeepsItsWord history w
         → total entry_size w.store ≤ w.setting.limits.cache_bytes }
+{}
+
+/// A history that begins with a reply from the cache has no cache, and isn't within limits, although
+/// it reaches none of the others.
+pub fn a_history_without_a_cache_is_refused()
+    ensures no_cache { ¬ IsWithin setting (reply 25 9 ∷ []) }
+    ensures but_for_the_cache { IsCacheWithin setting (reply 25 9 ∷ [])
+        → IsWithin setting (reply 25 9 ∷ []) }
 {}
 
 /// No proxy that keeps its promise has a history that begins with a reply from the cache.
