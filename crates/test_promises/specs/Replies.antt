@@ -13,7 +13,8 @@ use Rattle.coap_model.specs.ForgedHits.{reply}
 use Rattle.coap_model.specs.History.{Entry}
 use Rattle.coap_model.specs.OptionExamples.{key_of_temp}
 
--- the reply with the first answer, nine seconds before it is stale, to a request with these bytes
+-- the reply with the first answer, and with nine seconds of its Max-Age, to a request with these
+-- bytes
 abbrev pub replied_to : List ℕ → Entry
 replied_to bytes = record (reply 25 9).entry { event = arrival (client 4) bytes }
 

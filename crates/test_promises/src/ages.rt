@@ -24,7 +24,8 @@ pub fn responses_without_an_age_are_refused()
     ensures renewed { ¬ IsObtained setting key_of_temp
         (renewed tagged_content (taken_of true ageless_valid))
         (at tagged_past asks_tagged) (at validated_past gets_ageless_valid) }
-    ensures but_for_the_age_of_the_validation { 0 < max_age_of (renewed tagged_content (taken_of true ageless_valid))
+    ensures but_for_the_age_of_the_validation { 0 < max_age_of
+        (renewed tagged_content (taken_of true ageless_valid))
         → IsObtained setting key_of_temp (renewed tagged_content (taken_of true ageless_valid))
         (at tagged_past asks_tagged) (at validated_past gets_ageless_valid) }
 {}

@@ -40,7 +40,8 @@ pub fn fetches_that_a_change_overtook_are_refused()
         (at quiet_past keeps_overtaken) }
     ensures overtaken { ¬ IsFetched setting key_of_temp (at (opened ∷ []) asked)
         (at overtaken_past keeps_overtaken) }
-    ensures but_for_the_change { Unchanged setting key_of_temp.target (at (opened ∷ []) asked) overtaken_past
+    ensures but_for_the_change { Unchanged setting key_of_temp.target
+        (at (opened ∷ []) asked) overtaken_past
         → IsFetched setting key_of_temp (at (opened ∷ []) asked)
         (at overtaken_past keeps_overtaken) }
 {}

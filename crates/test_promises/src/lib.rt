@@ -1,9 +1,10 @@
-//! Examples that guard the promises: for each word of a definition that the proxy's promises rest
-//! on, something that this word alone refuses. Public functions that do nothing, whose contracts
-//! are the examples. No crate depends on them.
+//! Examples that guard the promises: what one word of a definition alone refuses, and what is
+//! accepted at its edge. Public functions that do nothing, whose contracts are the examples, or
+//! laws that fail without a word. No crate depends on them.
 //!
-//! A clause that begins with `but_for_` says that what is refused would be accepted if the word
-//! held, and has a refused example beside it.
+//! A clause that begins with `but_for_` says that what is refused beside it would be accepted if
+//! the word held. The word doesn't hold there, so look at the proof of the clause: it uses the
+//! premise for this word alone, and shows all others.
 #![tactic(auto)]
 
 pub mod ages;

@@ -36,9 +36,9 @@ pub fn the_promise_covers_each_place()
         → IsToldAgain source m former p.deed.entry }
 {}
 
-/// Its history is that of the promise, each entry is justified, and no Message ID is given out
-/// twice within 247 seconds. Its store corresponds to the cache of the history, and is within its
-/// limits.
+/// For a proxy that keeps its promise: its history is the one of the promise, each entry is
+/// justified, and no Message ID is given out twice within 247 seconds; its store corresponds to the
+/// cache of the history, and is within its limits.
 pub fn the_promise_covers_the_whole()
     ensures history { (history : List Entry) (w : State) (word : KeepsItsWord history w)
         → told_by word.deeds ≡ history }
@@ -56,8 +56,8 @@ pub fn the_promise_covers_the_whole()
         → total entry_size w.store ≤ w.setting.limits.cache_bytes }
 {}
 
-/// A history that begins with a reply from the cache has no cache, and isn't within limits, although
-/// it reaches none of the others.
+/// A history that begins with a reply from the cache has no cache, and so it isn't within limits,
+/// although no other limit is reached.
 pub fn a_history_without_a_cache_is_refused()
     ensures no_cache { ¬ IsWithin setting (reply 25 9 ∷ []) }
     ensures but_for_the_cache { IsCacheWithin setting (reply 25 9 ∷ [])
@@ -69,8 +69,9 @@ pub fn a_hit_before_any_response_is_refused()
     ensures { (w : State) → ¬ KeepsItsWord begins_with_a_hit w }
 {}
 
-/// Nor one where a duplicate of a Confirmable request gets another acknowledgement than the
-/// request, if the request isn't too long for a datagram (RFC 7252, 4.2).
+/// Nor does it have a history where a duplicate of a Confirmable request gets another
+/// acknowledgement than the request got, if the request isn't too long for a datagram (RFC 7252,
+/// 4.2).
 pub fn another_acknowledgement_is_refused()
     ensures { (w : State)
         → 6 ≤ w.setting.limits.datagram

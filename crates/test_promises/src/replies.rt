@@ -16,9 +16,8 @@ pub fn replies_to_another_method_are_refused()
     ensures but_for_its_method { IsGet put → IsFromCache setting asked_past (replied_to put_bytes) }
 {}
 
-/// It is no reply to a GET of another path, nor to one with an option Accept, which have other
-/// keys: neither if the key were taken for that of the request, nor if the response were taken for
-/// one with the key of the request (RFC 7252, 5.6).
+/// A cached response is no reply to a GET of another path, nor to one with an Accept: these have
+/// other keys. It would be if they had its key, or if it were cached for theirs (RFC 7252, 5.6).
 pub fn replies_for_another_key_are_refused()
     ensures path { ¬ IsFromCache setting asked_past (replied_to part_bytes) }
     ensures but_for_the_key_of_the_path { verdict_on setting part ≡ may_ask key_of_temp

@@ -20,9 +20,9 @@ pub fn validations_with_another_tag_are_refused()
         (at tagged_past asks_tagged) (at validated_past gets_other_valid) }
 {}
 
-/// The request had that tag, too: nothing is obtained if it was sent with another one than the
-/// cached response and the 2.03 have, neither if it were taken for theirs, nor if theirs were taken
-/// for it (RFC 7252, 5.6.2).
+/// A 2.03 renews what its request asked about: nothing is obtained if the request had another tag
+/// than the cached response and the 2.03 have. A response would be if the request had their tag, or
+/// the cached response that of the request (RFC 7252, 5.6.2).
 pub fn validations_of_another_tag_are_refused()
     ensures another { (response : Message) → ¬ IsObtained setting key_of_temp response
         (at tagged_past asks_other) (at other_past gets_valid) }
