@@ -56,6 +56,36 @@ def check_sum(program):
         expect("which sums are new", [True, False, True, True], [it not in sums[:n] for n, it in enumerate(sums)])
 
 
+def installed(folder, prefix):
+    """The status of the script when it installs under a prefix, and its standard error."""
+    words = [os.path.join(folder, "coap-proxyd"), "--install", prefix]
+    env = {name: value for name, value in os.environ.items() if name != "DESTDIR"}
+    done = subprocess.run(words, stdin=subprocess.DEVNULL, capture_output=True, env=env, timeout=20)
+    return done.returncode, done.stderr.decode()
+
+
+def check_install(program):
+    """Has the script install a program that was built here, where the one in bin/ is built from other sources."""
+    with tempfile.TemporaryDirectory(prefix="coap-proxyd-test-") as folder:
+        for name in ("coap-proxyd", "crates.txt", "docs/coap-proxyd.8"):
+            os.makedirs(os.path.dirname(os.path.join(folder, name)), exist_ok=True)
+            shutil.copy(os.path.join(TOP, name), os.path.join(folder, name))
+        shutil.copytree(os.path.join(TOP, "examples"), os.path.join(folder, "examples"))
+        shutil.copytree(os.path.join(TOP, "crates", "proxyd", "src"), os.path.join(folder, "crates", "proxyd", "src"))
+        for name, noted in (("crates/proxyd/out/proxyd", sum_in(folder)), ("bin/coap-proxyd", b"1 2\n")):
+            os.makedirs(os.path.dirname(os.path.join(folder, name)), exist_ok=True)
+            os.symlink(program[-1], os.path.join(folder, name))
+            with open(os.path.join(folder, os.path.dirname(name), "built-from"), "wb") as file:
+                file.write(noted)
+        prefix = os.path.join(folder, "prefix")
+        expect("what comes of it", (0, ""), installed(folder, prefix))
+        expect("whether it may run", True, os.access(os.path.join(prefix, "sbin", "coap-proxyd"), os.X_OK))
+        with open(os.path.join(prefix, "lib", "systemd", "system", "coap-proxyd.service")) as file:
+            expect("where the unit has it", True, f"\nExecStart={prefix}/sbin/coap-proxyd " in file.read())
+        refused = "coap-proxyd: the prefix may have letters, digits and / . _ + - alone\n"
+        expect("what comes of a blank", (2, refused), installed(folder, f"{prefix} of mine"))
+
+
 def check_options(program):
     """Has the script know each option that the help of a program names, and no other."""
     text = subprocess.run([*program, "--help"], stdout=subprocess.PIPE, text=True, timeout=20).stdout
