@@ -5,14 +5,14 @@ ghost use Rattle.coap_exchange.specs.Clients.{count_of, one_of};
 ghost use Rattle.coap_exchange.specs.Endpoints.{one_if_at};
 
 use crate::endpoint_map::EndpointMap;
-use crate::endpoints::{EndpointCounts, counts_at};
+use crate::endpoints::{EndpointCounts, counts_at, counts_of};
 use crate::peer::Peer;
 
 /// The number of items of a client.
 pub(crate) fn count_of(clients: &EndpointMap, client: Peer) -> usize
     ensures exact { result ≡ count_of clients.now client }
 {
-    counts_at(clients, client).all
+    counts_of(clients, client).all
 }
 
 /// Counts one more item of a client. There is room for another client.
@@ -23,8 +23,9 @@ pub(crate) fn enter(clients: &mut EndpointMap, client: Peer)
     ensures exact { (e : Endpoint)
         → count_of clients.new e ≡ count_of clients.old e + one_if_at true client e }
 {
-    let count = count_of(clients, client);
-    clients.set(client, items(count + 1));
+    let place = clients.place_of(client);
+    let count = counts_at(clients, client, place).all;
+    clients.set(client, place, items(count + 1));
 }
 
 /// Counts one item less of a client, if there is one.
@@ -34,9 +35,10 @@ pub(crate) fn depart(clients: &mut EndpointMap, client: Option<Peer>)
         → count_of clients.new e ≡ count_of clients.old e - one_of client e }
 {
     if let Some(client) = client {
-        match count_of(clients, client) {
-            0 | 1 => clients.remove(client),
-            count => clients.set(client, items(count - 1)),
+        let place = clients.place_of(client);
+        match counts_at(clients, client, place).all {
+            0 | 1 => clients.remove(client, place),
+            count => clients.set(client, place, items(count - 1)),
         }
     }
 }

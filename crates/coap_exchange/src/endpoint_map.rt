@@ -40,24 +40,25 @@ impl Model for EndpointMap {
 }
 
 impl EndpointMap {
-    /// No counts, and room for those of `limit` endpoints.
+    /// No counts, and room for those of `limit` endpoints. Which of them meet depends on `seed`.
     ///
     /// # Errors
     /// Out of memory.
-    pub(crate) fn new(alloc: Global, limit: usize) -> Result<EndpointMap, OutOfMemory>
+    pub(crate) fn new(alloc: Global, limit: usize, seed: u64) -> Result<EndpointMap, OutOfMemory>
         ensures empty { IfOk result (λ map. map ≡ empty_table limit 0) }
     {
         let slots = Slots::new(alloc, limit)?;
-        let places = HashedIndex::new(alloc, limit)?;
+        let places = HashedIndex::new(alloc, limit, seed)?;
         Ok(EndpointMap { slots, places })
     }
 
-    /// What is counted for an endpoint, if anything is.
-    pub(crate) fn get(&self, at: Peer) -> Option<EndpointCounts>
+    /// What is counted for an endpoint, whose place is this, if anything is.
+    pub(crate) fn get(&self, at: Peer, place: Option<u64>) -> Option<EndpointCounts>
+        requires place { place ≡ first_that (is_entry_of at) self.now.items }
         ensures exact { result ≡ found at self.now.items }
     {
         let slots = &self.slots;
-        let Some(number) = self.number_of(at) else {
+        let Some(number) = place else {
             return None;
         };
         match slots.get(number) {
@@ -76,9 +77,10 @@ impl EndpointMap {
         let _ = &self.slots;
     }
 
-    /// Sets what is counted for an endpoint: of something there is at least one. If nothing was
-    /// counted for it, there is room for another.
-    pub(crate) fn set(&mut self, at: Peer, counts: EndpointCounts)
+    /// Sets what is counted for an endpoint, whose place is this: of something there is at least
+    /// one. If nothing was counted for it, there is room for another.
+    pub(crate) fn set(&mut self, at: Peer, place: Option<u64>, counts: EndpointCounts)
+        requires place { place ≡ first_that (is_entry_of at) self.old.items }
         requires some { 0 < counts.all }
         requires room { found at self.old.items ≡ None
             → length self.old.items < self.old.limit }
@@ -88,7 +90,7 @@ impl EndpointMap {
             ≡ (if is_one at e then Some counts else found e self.old.items) }
     {
         let entry = Entry { peer: at, counts };
-        if let Some(number) = self.number_of(at) {
+        if let Some(number) = place {
             self.slots.set(number, entry);
             return;
         }
@@ -97,16 +99,17 @@ impl EndpointMap {
         self.slots.push(entry);
     }
 
-    /// Forgets what is counted for an endpoint. The last entry moves into its place.
-    pub(crate) fn remove(&mut self, at: Peer)
+    /// Forgets what is counted for an endpoint, whose place is this. The last entry moves there.
+    pub(crate) fn remove(&mut self, at: Peer, place: Option<u64>)
+        requires place { place ≡ first_that (is_entry_of at) self.old.items }
         ensures limit { self.new.limit ≡ self.old.limit }
         ensures exact { (e : Endpoint)
             → found e self.new.items ≡ (if is_one at e then None else found e self.old.items) }
     {
-        let Some(number) = self.number_of(at) else {
+        let last = self.slots.len();
+        let Some(number) = place else {
             return;
         };
-        let last = self.slots.len();
         let Some(moved) = self.slots.last() else {
             unreachable!()
         };
@@ -118,7 +121,7 @@ impl EndpointMap {
     }
 
     /// The number of the place of an endpoint, if it has one.
-    fn number_of(&self, at: Peer) -> Option<u64>
+    pub(crate) fn place_of(&self, at: Peer) -> Option<u64>
         ensures exact { result ≡ first_that (is_entry_of at) self.now.items }
     {
         let mut after = 0;

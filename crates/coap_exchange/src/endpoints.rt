@@ -2,6 +2,8 @@
 ghost use Rattle.std.specs.Prelude.{◌≡◌, ◌+◌, ◌-◌, ◌<◌, ◌≤◌, ◌^◌, length, true, if◌then◌else◌};
 ghost use Rattle.coap_endpoint.specs.declared.endpoint.Endpoint.{Endpoint};
 ghost use Rattle.coap_exchange.specs.Endpoints.{one_if_at, open_in, queued_in, sent_in};
+ghost use Rattle.coap_exchange.specs.Slots.{is_entry_of};
+ghost use Rattle.coap_exchange.specs.Table.{first_that};
 
 use crate::endpoint_map::EndpointMap;
 use crate::peer::Peer;
@@ -35,12 +37,22 @@ impl Stage {
 }
 
 /// The number of exchanges with the endpoint `at`.
-pub(crate) fn counts_at(endpoints: &EndpointMap, at: Peer) -> EndpointCounts
+pub(crate) fn counts_of(endpoints: &EndpointMap, at: Peer) -> EndpointCounts
     ensures all { result.all ≡ open_in endpoints.now at }
     ensures sent { result.sent ≡ sent_in endpoints.now at }
     ensures queued { result.queued ≡ queued_in endpoints.now at }
 {
-    match endpoints.get(at) {
+    counts_at(endpoints, at, endpoints.place_of(at))
+}
+
+/// The same, where its place is known.
+pub(crate) fn counts_at(endpoints: &EndpointMap, at: Peer, place: Option<u64>) -> EndpointCounts
+    requires place { place ≡ first_that (is_entry_of at) endpoints.now.items }
+    ensures all { result.all ≡ open_in endpoints.now at }
+    ensures sent { result.sent ≡ sent_in endpoints.now at }
+    ensures queued { result.queued ≡ queued_in endpoints.now at }
+{
+    match endpoints.get(at, place) {
         Some(counts) => counts,
         None => EndpointCounts {
             all: 0,
@@ -63,13 +75,14 @@ pub(crate) fn open_one(endpoints: &mut EndpointMap, at: Peer)
     ensures queued { (e : Endpoint)
         → queued_in endpoints.new e ≡ queued_in endpoints.old e + one_if_at true at e }
 {
-    let counts = counts_at(endpoints, at);
+    let place = endpoints.place_of(at);
+    let counts = counts_at(endpoints, at, place);
     let more = EndpointCounts {
         all: counts.all + 1,
         sent: counts.sent,
         queued: counts.queued + 1,
     };
-    endpoints.set(at, more);
+    endpoints.set(at, place, more);
 }
 
 /// Removes an exchange with this endpoint, which was at the stage `was`.
@@ -87,14 +100,15 @@ pub(crate) fn close_one(endpoints: &mut EndpointMap, at: Peer, was: Stage)
     ensures queued { (e : Endpoint)
         → queued_in endpoints.new e ≡ queued_in endpoints.old e - one_if_at was.queued at e }
 {
-    let counts = counts_at(endpoints, at);
+    let place = endpoints.place_of(at);
+    let counts = counts_at(endpoints, at, place);
     if counts.all == 1 {
-        endpoints.remove(at);
+        endpoints.remove(at, place);
     } else {
         let sent = lowered(counts.sent, was.sent);
         let queued = lowered(counts.queued, was.queued);
         let all = counts.all - 1;
-        endpoints.set(at, EndpointCounts { all, sent, queued });
+        endpoints.set(at, place, EndpointCounts { all, sent, queued });
     }
 }
 
@@ -112,11 +126,12 @@ pub(crate) fn move_one(endpoints: &mut EndpointMap, at: Peer, was: Stage, is: St
         → queued_in endpoints.new e
         ≡ (queued_in endpoints.old e - one_if_at was.queued at e) + one_if_at is.queued at e }
 {
-    let counts = counts_at(endpoints, at);
+    let place = endpoints.place_of(at);
+    let counts = counts_at(endpoints, at, place);
     let sent = moved(counts.sent, was.sent, is.sent);
     let queued = moved(counts.queued, was.queued, is.queued);
     let all = counts.all;
-    endpoints.set(at, EndpointCounts { all, sent, queued });
+    endpoints.set(at, place, EndpointCounts { all, sent, queued });
 }
 
 /// Subtracts one from `count` if `was` is true.

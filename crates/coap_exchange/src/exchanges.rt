@@ -18,7 +18,7 @@ use crate::by_client::{count_of, depart, enter};
 use crate::digests::{digest_of_key, digest_of_target};
 use crate::due::{later, sooner};
 use crate::endpoint_map::EndpointMap;
-use crate::endpoints::{Stage, close_one, counts_at, lowered, move_one, open_one};
+use crate::endpoints::{Stage, close_one, counts_of, lowered, move_one, open_one};
 use crate::exchange::{Change, Exchange, Sending};
 use crate::index::{ExchangeKeys, Index, Sought, first_sought, keys_at, keys_in, keys_of};
 use crate::indexed_exchange::{IndexedExchange, client_of};
@@ -95,8 +95,8 @@ impl Exchanges {
         Exchanges::seeded(alloc, limit, per_client, 0)
     }
 
-    /// An empty table like that of `new`. Where its map puts a number depends on `seed`, so that
-    /// whoever doesn't know it can't choose which numbers meet there.
+    /// An empty table like that of `new`. Where its maps and indexes put a number, an endpoint or a
+    /// key depends on `seed`, so that whoever doesn't know it can't choose which of them meet there.
     ///
     /// # Errors
     /// Out of memory.
@@ -109,13 +109,13 @@ impl Exchanges {
         ensures empty { IfOk result (λ exchanges. exchanges ≡ empty_table limit per_client) }
     {
         let table = Table::new(alloc, limit, per_client, seed)?;
-        let index = Index::new(alloc, limit)?;
+        let index = Index::new(alloc, limit, seed)?;
         let send_queue = SendQueue::new(alloc, limit)?;
         Ok(Exchanges {
             table,
             queued: 0,
-            endpoints: EndpointMap::new(alloc, limit)?,
-            clients: EndpointMap::new(alloc, limit)?,
+            endpoints: EndpointMap::new(alloc, limit, seed)?,
+            clients: EndpointMap::new(alloc, limit, seed)?,
             index,
             send_queue,
         })
@@ -535,7 +535,7 @@ impl Table<IndexedExchange> {
             ≡ due_row (turn_among nstart self.now.items) (number, listed.now) }
     {
         let exchange = listed.exchange();
-        if exchange.is_queued() && counts_at(endpoints, listed.peer()).sent < nstart {
+        if exchange.is_queued() && counts_of(endpoints, listed.peer()).sent < nstart {
             Some((exchange.admitted, number))
         } else {
             None

@@ -71,11 +71,11 @@ impl Sought<'_> {
 }
 
 impl Index {
-    /// An empty index with room for `limit` exchanges.
+    /// An empty index with room for `limit` exchanges. Which keys meet in it depends on `seed`.
     ///
     /// # Errors
     /// Out of memory.
-    pub(crate) fn new(alloc: Global, limit: usize) -> Result<Index, OutOfMemory>
+    pub(crate) fn new(alloc: Global, limit: usize, seed: u64) -> Result<Index, OutOfMemory>
         ensures ids { IfOk result (λ index. index.ids ≡ empty_index limit) }
         ensures dones { IfOk result (λ index. index.dones ≡ empty_index limit) }
         ensures openings { IfOk result (λ index. index.openings ≡ empty_index limit) }
@@ -85,13 +85,13 @@ impl Index {
         ensures targets { IfOk result (λ index. index.targets ≡ empty_index limit) }
     {
         Ok(Index {
-            ids: HashedIndex::new(alloc, limit)?,
+            ids: HashedIndex::new(alloc, limit, seed)?,
             dones: OrderedIndex::new(alloc, limit)?,
             openings: OrderedIndex::new(alloc, limit)?,
             ends: OrderedIndex::new(alloc, limit)?,
-            queues: HashedIndex::new(alloc, limit)?,
-            cache_keys: HashedIndex::new(alloc, limit)?,
-            targets: HashedIndex::new(alloc, limit)?,
+            queues: HashedIndex::new(alloc, limit, seed)?,
+            cache_keys: HashedIndex::new(alloc, limit, seed)?,
+            targets: HashedIndex::new(alloc, limit, seed)?,
         })
     }
 

@@ -6,7 +6,7 @@ ghost use Rattle.coap_exchange.specs.Endpoints.{AreCounted};
 ghost use Rattle.coap_exchange.specs.SendQueue.{endpoint_in, head_in, lower, noted, IsSendQueue, IsLowestUnder};
 
 use crate::endpoint_map::EndpointMap;
-use crate::endpoints::counts_at;
+use crate::endpoints::counts_of;
 use crate::index::{Index, Sought, first_sought};
 use crate::indexed_exchange::IndexedExchange;
 use crate::peer::Peer;
@@ -103,5 +103,5 @@ pub(crate) fn head_of(
     };
     let sought = Sought::Queued(at.endpoint());
     let number = first_sought(exchanges, &index.queues, at.digest(), &sought)?;
-    Some((counts_at(endpoints, *at).sent as u64, number))
+    Some((counts_of(endpoints, *at).sent as u64, number))
 }

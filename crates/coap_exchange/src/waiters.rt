@@ -86,8 +86,8 @@ impl Waiters {
         Waiters::seeded(alloc, limit, per_client, 0)
     }
 
-    /// An empty table like that of `new`. Where its maps put a number depends on `seed`, so that
-    /// whoever doesn't know it can't choose which numbers meet there.
+    /// An empty table like that of `new`. Where its maps put a number or a client depends on `seed`,
+    /// so that whoever doesn't know it can't choose which of them meet there.
     ///
     /// # Errors
     /// Out of memory.
@@ -102,7 +102,7 @@ impl Waiters {
         Ok(Waiters {
             table: Table::new(alloc, limit, per_client, seed)?,
             waiting: 0,
-            clients: EndpointMap::new(alloc, limit)?,
+            clients: EndpointMap::new(alloc, limit, seed)?,
             index: WaiterIndex::new(alloc, limit)?,
             alloc,
         })

@@ -1,9 +1,9 @@
 -- HashedIndex: where a pair stands, and what the change of one of them does to all.
-use Rattle.std.proofs.Common.{◌≡◌, ℕ, zero, suc, ◌+◌, ◌<◌, ◌≤◌, ◌%◌, ◌∙◌, ◌&&◌, ◌||◌, Bool, List, [], ◌∷◌, ◌++◌, Option, Some, None, true, false, ap, refl, sym, subst, length, get_or, set, leb, min, arith, length-append}
+use Rattle.std.proofs.Common.{◌≡◌, ℕ, zero, suc, ◌+◌, ◌<◌, ◌≤◌, ◌∙◌, ◌&&◌, ◌||◌, Bool, List, [], ◌∷◌, ◌++◌, Option, Some, None, true, false, ap, refl, sym, subst, length, get_or, set, leb, min, arith, length-append}
 use Rattle.std.proofs.lemmas.Bool.Decides.{nat_tests}
 use Rattle.std.specs.Prelude.{not}
 use Rattle.std.specs.List.{AllByRecursion}
-use Rattle.ordered_index.specs.Hashed.{lower, pairs_of, AreApart, AreBuckets, IsBucket}
+use Rattle.ordered_index.specs.Hashed.{bucket_of, lower, pairs_of, AreApart, AreBuckets, IsBucket}
 use Rattle.ordered_index.specs.Ordered.{Pair, OrderedIndex, is_in, is_pair, IsNextOf}
 use Rattle.ordered_index.proofs.Ordering.{pair_only}
 
@@ -27,44 +27,48 @@ in-append p [] ys = refl
 in-append p (x ∷ xs) ys = ap (λ (b : Bool). is_pair p x || b) (in-append p xs ys) ∙ or_assoc (is_pair p x) (is_in p xs) (is_in p ys)
 
 -- a pair that belongs elsewhere isn't in a bucket
-not-here : (many number : ℕ) (bucket : OrderedIndex) (p : Pair) → IsBucket many number bucket → (p.0 % many ≡ number → ⊥) → is_in p bucket.pairs ≡ false
-not-here many number bucket p is other = go (is_in p bucket.pairs) refl
+not-here : (place : ℕ → ℕ) (number : ℕ) (bucket : OrderedIndex) (p : Pair) → IsBucket place number bucket → (place p.0 ≡ number → ⊥) → is_in p bucket.pairs ≡ false
+not-here place number bucket p is other = go (is_in p bucket.pairs) refl
   where
     go : (b : Bool) → is_in p bucket.pairs ≡ b → b ≡ false
     go false e = refl
     go true e = absurd (other (is p e))
 
 -- nor is one in buckets that all come after its own
-not-behind : (many number : ℕ) (buckets : List OrderedIndex) (p : Pair) → AreBuckets many number buckets → p.0 % many < number → is_in p (pairs_of buckets) ≡ false
-not-behind many number [] p are lt = refl
-not-behind many number (bucket ∷ buckets) p are lt =
-    rw (in-append p bucket.pairs (pairs_of buckets), not-here many number bucket p are.0 (λ e. omega arith)) (not-behind many (suc number) buckets p are.1 (omega arith))
+not-behind : (place : ℕ → ℕ) (number : ℕ) (buckets : List OrderedIndex) (p : Pair) → AreBuckets place number buckets → place p.0 < number → is_in p (pairs_of buckets) ≡ false
+not-behind place number [] p are lt = refl
+not-behind place number (bucket ∷ buckets) p are lt =
+    rw (in-append p bucket.pairs (pairs_of buckets), not-here place number bucket p are.0 (λ e. omega arith)) (not-behind place (suc number) buckets p are.1 (omega arith))
 
 -- a pair is in one of the buckets if it is in its own
-pub in-own : (many number : ℕ) (buckets : List OrderedIndex) (p : Pair) (i : ℕ) (d : OrderedIndex) → AreBuckets many number buckets → i < length buckets → p.0 % many ≡ number + i → is_in p (pairs_of buckets) ≡ is_in p (get_or buckets i d).pairs
-in-own many number [] p i d are lt e = absurd (omega arith)
-in-own many number (bucket ∷ buckets) p zero d are lt e =
+pub in-own : (place : ℕ → ℕ) (number : ℕ) (buckets : List OrderedIndex) (p : Pair) (i : ℕ) (d : OrderedIndex) → AreBuckets place number buckets → i < length buckets → place p.0 ≡ number + i → is_in p (pairs_of buckets) ≡ is_in p (get_or buckets i d).pairs
+in-own place number [] p i d are lt e = absurd (omega arith)
+in-own place number (bucket ∷ buckets) p zero d are lt e =
     in-append p bucket.pairs (pairs_of buckets)
-    ∙ ap (λ (b : Bool). is_in p bucket.pairs || b) (not-behind many (suc number) buckets p are.1 (omega arith))
+    ∙ ap (λ (b : Bool). is_in p bucket.pairs || b) (not-behind place (suc number) buckets p are.1 (omega arith))
     ∙ or_back (is_in p bucket.pairs) false
-in-own many number (bucket ∷ buckets) p (suc i) d are lt e =
+in-own place number (bucket ∷ buckets) p (suc i) d are lt e =
     in-append p bucket.pairs (pairs_of buckets)
-    ∙ ap (λ (b : Bool). b || is_in p (pairs_of buckets)) (not-here many number bucket p are.0 (λ f. omega arith))
-    ∙ in-own many (suc number) buckets p i d are.1 (omega arith) (omega arith)
+    ∙ ap (λ (b : Bool). b || is_in p (pairs_of buckets)) (not-here place number bucket p are.0 (λ f. omega arith))
+    ∙ in-own place (suc number) buckets p i d are.1 (omega arith) (omega arith)
+
+-- the number of a key's bucket, computed with the number of buckets
+pub own-place : (factor many len key bucket : ℕ) → len ≡ many → bucket ≡ bucket_of factor len key → bucket_of factor many key ≡ 0 + bucket
+own-place factor many len key bucket same is = omega (arith, is ∙ ap (λ n. bucket_of factor n key) same)
 
 -- each bucket is one
-pub bucket-at : (many number : ℕ) (buckets : List OrderedIndex) (i : ℕ) (d : OrderedIndex) → AreBuckets many number buckets → i < length buckets → IsBucket many (number + i) (get_or buckets i d)
-bucket-at many number [] i d are lt = absurd (omega arith)
-bucket-at many number (bucket ∷ buckets) zero d are lt = let e : number + 0 ≡ number = omega arith in rw e are.0
-bucket-at many number (bucket ∷ buckets) (suc i) d are lt = let e : number + suc i ≡ suc number + i = omega arith in rw e (bucket-at many (suc number) buckets i d are.1 (omega arith))
+pub bucket-at : (place : ℕ → ℕ) (number : ℕ) (buckets : List OrderedIndex) (i : ℕ) (d : OrderedIndex) → AreBuckets place number buckets → i < length buckets → IsBucket place (number + i) (get_or buckets i d)
+bucket-at place number [] i d are lt = absurd (omega arith)
+bucket-at place number (bucket ∷ buckets) zero d are lt = let e : number + 0 ≡ number = omega arith in rw e are.0
+bucket-at place number (bucket ∷ buckets) (suc i) d are lt = let e : number + suc i ≡ suc number + i = omega arith in rw e (bucket-at place (suc number) buckets i d are.1 (omega arith))
 
 -- ---- one is changed
 
 -- all are buckets after one has come in the place of another
-pub buckets-set : (many number : ℕ) (buckets : List OrderedIndex) (i : ℕ) (new : OrderedIndex) → AreBuckets many number buckets → IsBucket many (number + i) new → AreBuckets many number (set buckets i new)
-buckets-set many number [] i new are is = tt
-buckets-set many number (bucket ∷ buckets) zero new are is = let e : number + 0 ≡ number = omega arith in (rw e at is, are.1)
-buckets-set many number (bucket ∷ buckets) (suc i) new are is = let e : number + suc i ≡ suc number + i = omega arith in (are.0, buckets-set many (suc number) buckets i new are.1 (rw e at is))
+pub buckets-set : (place : ℕ → ℕ) (number : ℕ) (buckets : List OrderedIndex) (i : ℕ) (new : OrderedIndex) → AreBuckets place number buckets → IsBucket place (number + i) new → AreBuckets place number (set buckets i new)
+buckets-set place number [] i new are is = tt
+buckets-set place number (bucket ∷ buckets) zero new are is = let e : number + 0 ≡ number = omega arith in (rw e at is, are.1)
+buckets-set place number (bucket ∷ buckets) (suc i) new are is = let e : number + suc i ≡ suc number + i = omega arith in (are.0, buckets-set place (suc number) buckets i new are.1 (rw e at is))
 
 -- a bucket has no more pairs than all have
 pub length-one : (buckets : List OrderedIndex) (i : ℕ) (d : OrderedIndex) → i < length buckets → length (get_or buckets i d).pairs ≤ length (pairs_of buckets)
@@ -72,7 +76,7 @@ length-one [] i d lt = absurd (omega arith)
 length-one (bucket ∷ buckets) zero d lt = omega (arith, length-append bucket.pairs (pairs_of buckets))
 length-one (bucket ∷ buckets) (suc i) d lt = omega (arith, length-append bucket.pairs (pairs_of buckets), length-one buckets i d (omega arith))
 
--- all have as many more as the one has
+-- all have as place more as the one has
 pub length-set-one : (buckets : List OrderedIndex) (i : ℕ) (d new : OrderedIndex) → i < length buckets → length (pairs_of (set buckets i new)) + length (get_or buckets i d).pairs ≡ length (pairs_of buckets) + length new.pairs
 length-set-one [] i d new lt = absurd (omega arith)
 length-set-one (bucket ∷ buckets) zero d new lt = omega (arith, length-append bucket.pairs (pairs_of buckets), length-append new.pairs (pairs_of buckets))
@@ -112,34 +116,34 @@ stays-out p q xs e = go (is_pair p q) refl
     go false f = refl
 
 -- what leaves its bucket leaves all
-pub less-set : (many number : ℕ) (buckets : List OrderedIndex) (i : ℕ) (d new : OrderedIndex) (p q : Pair) → AreBuckets many number buckets → i < length buckets → q.0 % many ≡ number + i → is_in p new.pairs ≡ (not (is_pair p q) && is_in p (get_or buckets i d).pairs) → is_in p (pairs_of (set buckets i new)) ≡ (not (is_pair p q) && is_in p (pairs_of buckets))
-less-set many number [] i d new p q are lt at e = absurd (omega arith)
-less-set many number (bucket ∷ buckets) zero d new p q are lt at e =
+pub less-set : (place : ℕ → ℕ) (number : ℕ) (buckets : List OrderedIndex) (i : ℕ) (d new : OrderedIndex) (p q : Pair) → AreBuckets place number buckets → i < length buckets → place q.0 ≡ number + i → is_in p new.pairs ≡ (not (is_pair p q) && is_in p (get_or buckets i d).pairs) → is_in p (pairs_of (set buckets i new)) ≡ (not (is_pair p q) && is_in p (pairs_of buckets))
+less-set place number [] i d new p q are lt at e = absurd (omega arith)
+less-set place number (bucket ∷ buckets) zero d new p q are lt at e =
     in-append p new.pairs (pairs_of buckets)
     ∙ ap (λ (b : Bool). b || is_in p (pairs_of buckets)) e
-    ∙ ap (λ (b : Bool). (not (is_pair p q) && is_in p bucket.pairs) || b) (stays-out p q (pairs_of buckets) (not-behind many (suc number) buckets q are.1 (omega arith)))
+    ∙ ap (λ (b : Bool). (not (is_pair p q) && is_in p bucket.pairs) || b) (stays-out p q (pairs_of buckets) (not-behind place (suc number) buckets q are.1 (omega arith)))
     ∙ sym (not_either (is_pair p q) (is_in p bucket.pairs) (is_in p (pairs_of buckets)))
     ∙ ap (λ (b : Bool). not (is_pair p q) && b) (sym (in-append p bucket.pairs (pairs_of buckets)))
-less-set many number (bucket ∷ buckets) (suc i) d new p q are lt at e =
+less-set place number (bucket ∷ buckets) (suc i) d new p q are lt at e =
     in-append p bucket.pairs (pairs_of (set buckets i new))
-    ∙ ap (λ (b : Bool). is_in p bucket.pairs || b) (less-set many (suc number) buckets i d new p q are.1 (omega arith) (omega arith) e)
-    ∙ ap (λ (b : Bool). b || (not (is_pair p q) && is_in p (pairs_of buckets))) (stays-out p q bucket.pairs (not-here many number bucket q are.0 (λ f. omega arith)))
+    ∙ ap (λ (b : Bool). is_in p bucket.pairs || b) (less-set place (suc number) buckets i d new p q are.1 (omega arith) (omega arith) e)
+    ∙ ap (λ (b : Bool). b || (not (is_pair p q) && is_in p (pairs_of buckets))) (stays-out p q bucket.pairs (not-here place number bucket q are.0 (λ f. omega arith)))
     ∙ sym (not_either (is_pair p q) (is_in p bucket.pairs) (is_in p (pairs_of buckets)))
     ∙ ap (λ (b : Bool). not (is_pair p q) && b) (sym (in-append p bucket.pairs (pairs_of buckets)))
 
 -- a bucket stays one if a pair comes that belongs there
-pub bucket-more : (many number : ℕ) (old new : OrderedIndex) (q : Pair) → IsBucket many number old → q.0 % many ≡ number → ((p : Pair) → is_in p new.pairs ≡ (is_pair p q || is_in p old.pairs)) → IsBucket many number new
-bucket-more many number old new q is at more = λ p there. go p (is_pair p q) refl (sym (more p) ∙ there)
+pub bucket-more : (place : ℕ → ℕ) (number : ℕ) (old new : OrderedIndex) (q : Pair) → IsBucket place number old → place q.0 ≡ number → ((p : Pair) → is_in p new.pairs ≡ (is_pair p q || is_in p old.pairs)) → IsBucket place number new
+bucket-more place number old new q is at more = λ p there. go p (is_pair p q) refl (sym (more p) ∙ there)
   where
-    go : (p : Pair) (b : Bool) → is_pair p q ≡ b → (b || is_in p old.pairs) ≡ true → p.0 % many ≡ number
-    go p true f h = subst (λ (y : Pair). y.0 % many ≡ number) (sym (pair_only p q f)) at
+    go : (p : Pair) (b : Bool) → is_pair p q ≡ b → (b || is_in p old.pairs) ≡ true → place p.0 ≡ number
+    go p true f h = subst (λ (y : Pair). place y.0 ≡ number) (sym (pair_only p q f)) at
     go p false f h = is p h
 
 -- and if one leaves
-pub bucket-less : (many number : ℕ) (old new : OrderedIndex) (q : Pair) → IsBucket many number old → ((p : Pair) → is_in p new.pairs ≡ (not (is_pair p q) && is_in p old.pairs)) → IsBucket many number new
-bucket-less many number old new q is less = λ p there. go p (is_pair p q) (sym (less p) ∙ there)
+pub bucket-less : (place : ℕ → ℕ) (number : ℕ) (old new : OrderedIndex) (q : Pair) → IsBucket place number old → ((p : Pair) → is_in p new.pairs ≡ (not (is_pair p q) && is_in p old.pairs)) → IsBucket place number new
+bucket-less place number old new q is less = λ p there. go p (is_pair p q) (sym (less p) ∙ there)
   where
-    go : (p : Pair) (b : Bool) → (not b && is_in p old.pairs) ≡ true → p.0 % many ≡ number
+    go : (p : Pair) (b : Bool) → (not b && is_in p old.pairs) ≡ true → place p.0 ≡ number
     go p true h = absurd (let k = h in cc)
     go p false h = is p h
 
@@ -151,9 +155,9 @@ empty-pairs [] all = refl
 empty-pairs (bucket ∷ buckets) all = rw all.0 (empty-pairs buckets all.1)
 
 -- and are buckets
-pub empty-buckets : (many number : ℕ) (buckets : List OrderedIndex) → AllByRecursion (λ bucket. bucket.pairs ≡ []) buckets → AreBuckets many number buckets
-empty-buckets many number [] all = tt
-empty-buckets many number (bucket ∷ buckets) all = (λ p there. absurd (let none : is_in p [] ≡ true = subst (λ (l : List Pair). is_in p l ≡ true) all.0 there in cc), empty-buckets many (suc number) buckets all.1)
+pub empty-buckets : (place : ℕ → ℕ) (number : ℕ) (buckets : List OrderedIndex) → AllByRecursion (λ bucket. bucket.pairs ≡ []) buckets → AreBuckets place number buckets
+empty-buckets place number [] all = tt
+empty-buckets place number (bucket ∷ buckets) all = (λ p there. absurd (let none : is_in p [] ≡ true = subst (λ (l : List Pair). is_in p l ≡ true) all.0 there in cc), empty-buckets place (suc number) buckets all.1)
 
 -- one more at the end is as all are
 pub all-more : (buckets : List OrderedIndex) (bucket : OrderedIndex) → AllByRecursion (λ b. b.pairs ≡ []) buckets → bucket.pairs ≡ [] → AllByRecursion (λ b. b.pairs ≡ []) (buckets ++ (bucket ∷ []))

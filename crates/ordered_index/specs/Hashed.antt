@@ -1,5 +1,5 @@
 -- Indexes that are split: buckets, each with the pairs of some keys, and the rest.
-use Rattle.std.specs.Prelude.{◌≡◌, ℕ, suc, ◌%◌, min, true, false, List, [], ◌∷◌, ◌++◌, Option, Some, None}
+use Rattle.std.specs.Prelude.{◌≡◌, ℕ, suc, ◌*◌, ◌/◌, ◌%◌, ◌^◌, min, true, false, List, [], ◌∷◌, ◌++◌, Option, Some, None}
 use Rattle.ordered_index.specs.Ordered.{Pair, OrderedIndex, is_in}
 
 -- the pairs of all buckets, one after the other
@@ -7,15 +7,20 @@ abbrev pub pairs_of : List OrderedIndex → List Pair
 pairs_of [] = []
 pairs_of (bucket ∷ buckets) = bucket.pairs ++ pairs_of buckets
 
--- the pairs of the bucket of this number, of `many`, belong there
-abbrev pub IsBucket : ℕ → ℕ → OrderedIndex → Type 0
-IsBucket many number bucket = (p : Pair) → is_in p bucket.pairs ≡ true → p.0 % many ≡ number
+-- the number of the bucket, of `many`, to which a key belongs: a factor spreads the keys over 64
+-- bits, of which each bucket has an equal part
+abbrev pub bucket_of : ℕ → ℕ → ℕ → ℕ
+bucket_of factor many key = (key * factor % 2 ^ 64) * many / 2 ^ 64
+
+-- the pairs of the bucket of this number belong there
+abbrev pub IsBucket : (ℕ → ℕ) → ℕ → OrderedIndex → Type 0
+IsBucket place number bucket = (p : Pair) → is_in p bucket.pairs ≡ true → place p.0 ≡ number
 
 -- and so do those of each of these, whose numbers begin with this one
-abbrev pub AreBuckets : ℕ → ℕ → List OrderedIndex → Type 0
-AreBuckets many number [] = Unit {0}
-AreBuckets many number (bucket ∷ buckets) =
-    IsBucket many number bucket × AreBuckets many (suc number) buckets
+abbrev pub AreBuckets : (ℕ → ℕ) → ℕ → List OrderedIndex → Type 0
+AreBuckets place number [] = Unit {0}
+AreBuckets place number (bucket ∷ buckets) =
+    IsBucket place number bucket × AreBuckets place (suc number) buckets
 
 -- no pair is in both
 abbrev pub AreApart : List Pair → List Pair → Type 0

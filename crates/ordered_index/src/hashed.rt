@@ -1,11 +1,12 @@
 //! Indexes that are split by key, which nobody asks for their first pair.
-ghost use Rattle.std.specs.Prelude.{◌≡◌, ◌+◌, ◌<◌, ◌≤◌, ◌||◌, ◌&&◌, ◌%◌, [], length, if◌then◌else◌, true, false, not, None, IfOk};
+ghost use Rattle.std.specs.Prelude.{◌≡◌, ◌+◌, ◌<◌, ◌≤◌, ◌||◌, ◌&&◌, ◌^◌, [], length, if◌then◌else◌, true, false, not, None, IfOk};
 ghost use Rattle.std.specs.List.{AllByRecursion};
-ghost use Rattle.ordered_index.specs.Hashed.{lower, pairs_of, AreBuckets};
+ghost use Rattle.ordered_index.specs.Hashed.{bucket_of, lower, pairs_of, AreBuckets};
 ghost use Rattle.ordered_index.specs.Ordered.{empty_index, is_in, is_pair, one_of, IsNextOf, IsKeyIn, IsRekeyed, Pair};
 
 use crate::ordered::OrderedIndex;
 use std::alloc::{AllocError, Global};
+use std::hash::{DefaultHasher, Hasher};
 use std::marker::Model;
 
 /// The average number of pairs in a bucket when there are as many as there may be.
@@ -15,18 +16,22 @@ const PAIRS_A_BUCKET: usize = 32;
 const BUCKET_ROOM: usize = 36;
 
 /// An index that is split, so that a change moves few pairs: the pairs of a key are in the bucket
-/// that the key belongs to, or, where that had no room, among the rest. If keys are random, few are;
-/// if all pairs have one key, nearly all are. Only `new` allocates. A contract sees all pairs: those
-/// of the buckets, one after the other, and then the rest.
+/// that the key belongs to, or, where that had no room, among the rest. Few are there, unless most
+/// pairs have the same few keys. Only `new` allocates. A contract sees all pairs: those of the
+/// buckets, one after the other, and then the rest.
 #[derive(Drop)]
 pub struct HashedIndex {
+    /// What spreads the keys over the buckets. It is odd, so that different keys stay different.
+    factor: u64,
+    /// The number of pairs.
+    len: usize,
     buckets: Vec<OrderedIndex>,
     rest: OrderedIndex,
 }
 
 impl Model for HashedIndex {
     ghost use Rattle.std.specs.Prelude.{◌≡◌, ◌<◌, ◌++◌, length, vec_len};
-    ghost use Rattle.ordered_index.specs.Hashed.{pairs_of, AreApart, AreBuckets};
+    ghost use Rattle.ordered_index.specs.Hashed.{bucket_of, pairs_of, AreApart, AreBuckets};
     ghost use Rattle.ordered_index.specs.Ordered.{OrderedIndex};
 
     ghost Value = { OrderedIndex };
@@ -35,29 +40,40 @@ impl Model for HashedIndex {
         record { pairs = pairs_of h.buckets.items ++ h.rest.pairs; limit = h.rest.limit } };
 
     ghost invariant = { λ h.
-        (0 < length h.buckets.items)
-        × AreBuckets (length h.buckets.items) 0 h.buckets.items
+        (h.len ≡ length (pairs_of h.buckets.items ++ h.rest.pairs))
+        × (0 < length h.buckets.items)
+        × AreBuckets (bucket_of h.factor (length h.buckets.items)) 0 h.buckets.items
         × AreApart (pairs_of h.buckets.items) h.rest.pairs };
 }
 
 impl HashedIndex {
-    /// An empty index with room for `limit` pairs.
+    /// An empty index with room for `limit` pairs. To which bucket a key belongs depends on `seed`,
+    /// so that whoever doesn't know it can't choose keys that meet in one.
     ///
     /// # Errors
     /// If allocation fails.
-    pub fn new(alloc: Global, limit: usize) -> Result<HashedIndex, AllocError>
+    pub fn new(alloc: Global, limit: usize, seed: u64) -> Result<HashedIndex, AllocError>
         ensures empty { IfOk result (λ index. index ≡ empty_index limit) }
     {
         let buckets = empty_buckets(alloc, limit / PAIRS_A_BUCKET + 1)?;
         let rest = OrderedIndex::new(alloc, limit)?;
-        Ok(HashedIndex { buckets, rest })
+        let factor = factor_of(seed);
+        Ok(HashedIndex {
+            factor,
+            len: 0,
+            buckets,
+            rest,
+        })
     }
 
     /// The least number greater than `after` that has this key.
     pub fn next_of(&self, key: u64, after: u64) -> Option<u64>
         ensures exact { IsNextOf key after self.now.pairs result }
     {
-        let bucket = bucket_of(key, self.buckets.len());
+        if self.len == 0 {
+            return None;
+        }
+        let bucket = bucket_of(self.factor, self.buckets.len(), key);
         let own = self.buckets[bucket].next_of(key, after);
         let other = self.rest.next_of(key, after);
         lower(own, other)
@@ -110,8 +126,9 @@ impl HashedIndex {
         ensures more { (p : Pair)
             → is_in p self.new.pairs ≡ (is_pair p (key, number) || is_in p self.old.pairs) }
     {
-        let bucket = bucket_of(key, self.buckets.len());
-        if !put_in(&mut self.buckets, bucket, key, number) {
+        let _few = self.rest.limit();
+        self.len += 1;
+        if !put_in(&mut self.buckets, self.factor, key, number) {
             self.rest.put(key, number);
         }
     }
@@ -125,8 +142,8 @@ impl HashedIndex {
             → is_in p self.new.pairs
             ≡ (not (is_pair p (key, number)) && is_in p self.old.pairs) }
     {
-        let bucket = bucket_of(key, self.buckets.len());
-        if !take_from(&mut self.buckets, bucket, key, number) {
+        self.len -= 1;
+        if !take_from(&mut self.buckets, self.factor, key, number) {
             self.rest.take(key, number);
         }
     }
@@ -134,19 +151,19 @@ impl HashedIndex {
 
 /// Adds the pair of this key and number, which isn't there, to its bucket, unless that is full.
 /// Returns whether it did.
-fn put_in(buckets: &mut Vec<OrderedIndex>, bucket: usize, key: u64, number: u64) -> bool
-    requires within { bucket < length buckets.old.items }
-    requires own { key % length buckets.old.items ≡ bucket }
-    requires are { AreBuckets (length buckets.old.items) 0 buckets.old.items }
+fn put_in(buckets: &mut Vec<OrderedIndex>, factor: u64, key: u64, number: u64) -> bool
+    requires some { 0 < length buckets.old.items }
+    requires are { AreBuckets (bucket_of factor (length buckets.old.items)) 0 buckets.old.items }
     requires absent { is_in (key, number) (pairs_of buckets.old.items) ≡ false }
     ensures len { length buckets.new.items ≡ length buckets.old.items }
-    ensures are { AreBuckets (length buckets.new.items) 0 buckets.new.items }
+    ensures are { AreBuckets (bucket_of factor (length buckets.new.items)) 0 buckets.new.items }
     ensures length { length (pairs_of buckets.new.items)
         ≡ length (pairs_of buckets.old.items) + (if result then 1 else 0) }
     ensures more { (p : Pair)
         → is_in p (pairs_of buckets.new.items)
         ≡ ((result && is_pair p (key, number)) || is_in p (pairs_of buckets.old.items)) }
 {
+    let bucket = bucket_of(factor, buckets.len(), key);
     if buckets[bucket].is_full() {
         return false;
     }
@@ -155,19 +172,19 @@ fn put_in(buckets: &mut Vec<OrderedIndex>, bucket: usize, key: u64, number: u64)
 }
 
 /// Removes the pair of this key and number from its bucket, if it is there. Returns whether it was.
-fn take_from(buckets: &mut Vec<OrderedIndex>, bucket: usize, key: u64, number: u64) -> bool
-    requires within { bucket < length buckets.old.items }
-    requires own { key % length buckets.old.items ≡ bucket }
-    requires are { AreBuckets (length buckets.old.items) 0 buckets.old.items }
+fn take_from(buckets: &mut Vec<OrderedIndex>, factor: u64, key: u64, number: u64) -> bool
+    requires some { 0 < length buckets.old.items }
+    requires are { AreBuckets (bucket_of factor (length buckets.old.items)) 0 buckets.old.items }
     ensures exact { result ≡ is_in (key, number) (pairs_of buckets.old.items) }
     ensures len { length buckets.new.items ≡ length buckets.old.items }
-    ensures are { AreBuckets (length buckets.new.items) 0 buckets.new.items }
+    ensures are { AreBuckets (bucket_of factor (length buckets.new.items)) 0 buckets.new.items }
     ensures length { length (pairs_of buckets.new.items) + (if result then 1 else 0)
         ≡ length (pairs_of buckets.old.items) }
     ensures less { (p : Pair)
         → is_in p (pairs_of buckets.new.items)
         ≡ (not (is_pair p (key, number)) && is_in p (pairs_of buckets.old.items)) }
 {
+    let bucket = bucket_of(factor, buckets.len(), key);
     buckets[bucket].take_if_there(key, number)
 }
 
@@ -182,12 +199,21 @@ fn lower(a: Option<u64>, b: Option<u64>) -> Option<u64>
     }
 }
 
-/// The number of the bucket, of `buckets`, that has the pairs of a key.
-fn bucket_of(key: u64, buckets: usize) -> usize
-    requires { 0 < buckets }
-    ensures { result ≡ key % buckets }
+/// The number of the bucket, of `many`, that has the pairs of a key.
+fn bucket_of(factor: u64, many: usize, key: u64) -> usize
+    requires { 0 < many }
+    ensures exact { result ≡ bucket_of factor many key }
+    ensures within { result < many }
 {
-    (key % buckets as u64) as usize
+    let spread = key.wrapping_mul(factor);
+    (u128::from(spread) * many as u128 / (1 << 64)) as usize
+}
+
+/// What spreads the keys of an index that is made with this seed.
+fn factor_of(seed: u64) -> u64 {
+    let mut hasher = DefaultHasher::new();
+    hasher.write_u64(seed);
+    hasher.finish() | 1
 }
 
 /// `many` empty buckets.

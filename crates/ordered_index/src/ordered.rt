@@ -54,6 +54,13 @@ impl OrderedIndex {
         })
     }
 
+    /// The most pairs that it can hold.
+    pub(crate) fn limit(&self) -> usize
+        ensures exact { result ≡ self.now.limit }
+    {
+        self.buffer.limit()
+    }
+
     /// Whether there is no room for another pair.
     pub(crate) fn is_full(&self) -> bool
         ensures exact { result ≡ nat_le self.now.limit (length self.now.pairs) }

@@ -53,6 +53,13 @@ impl PairBuffer {
         &self.items[self.start..]
     }
 
+    /// The most pairs that it can hold.
+    pub(crate) fn limit(&self) -> usize
+        ensures { result ≡ self.now.limit }
+    {
+        self.limit
+    }
+
     /// Whether there is no room for another pair.
     pub(crate) fn is_full(&self) -> bool
         ensures { result ≡ nat_le self.now.limit (length self.now.pairs) }

@@ -15,26 +15,26 @@ pub returns-in_default-clause-exact : goal.returns-in_default-clause-exact
 returns-in_default-clause-exact c = λ e. go e (is_one c.args.at e) refl
   where
     none : found c.args.at c.args.self.now.items ≡ None
-    none = ap (λ (t : Table Entry). found c.args.at t.items) (sym c.self.view_is) ∙ first-none c.args.at c.self.inside.slots.items c.self.invariant.2.rising (ap (λ (t : Table Entry). first_that (is_entry_of c.args.at) t.items) c.self.view_is ∙ sym c.number_of.ensures.exact ∙ c.in_default.is)
+    none = ap (λ (t : Table Entry). found c.args.at t.items) (sym c.self.view_is) ∙ first-none c.args.at c.self.inside.slots.items c.self.invariant.2.rising (ap (λ (t : Table Entry). first_that (is_entry_of c.args.at) t.items) c.self.view_is ∙ sym c.requires.place ∙ c.in_default.is)
 
     go : (e : Endpoint) (b : Bool) → is_one c.args.at e ≡ b → found e c.args.self.now.items ≡ cond b None (found e c.args.self.now.items)
     go e true f = subst (λ (z : Endpoint). found z c.args.self.now.items ≡ None) (one-only c.args.at e f) none
     go e false f = refl
 
 pub unreachable-requires : goal.unreachable-requires
-unreachable-requires c = are-some c.self.inside.slots c.self.invariant.2 c.self.inside.places c.self.invariant.0 c.self.invariant.1 c.args.at c.in-Some.number (ap (λ (t : Table Entry). first_that (is_entry_of c.args.at) t.items) c.self.view_is ∙ sym c.number_of.ensures.exact ∙ c.in-Some.is) (c.in_default-last.ensures).none
+unreachable-requires c = are-some c.self.inside.slots c.self.invariant.2 c.self.inside.places c.self.invariant.0 c.self.invariant.1 c.args.at c.in-Some.number (ap (λ (t : Table Entry). first_that (is_entry_of c.args.at) t.items) c.self.view_is ∙ sym c.requires.place ∙ c.in-Some.is) (c.in_default-last.ensures).none
 
 pub rekey-requires-clause-was : goal.rekey-requires-clause-was
-rekey-requires-clause-was c = rw c.digest.ensures.exact (owns c.self.inside.slots c.self.invariant.2 c.self.inside.places c.self.invariant.0 c.self.invariant.1 c.args.at c.in-Some.number (ap (λ (t : Table Entry). first_that (is_entry_of c.args.at) t.items) c.self.view_is ∙ sym c.number_of.ensures.exact ∙ c.in-Some.is))
+rekey-requires-clause-was c = rw c.digest.ensures.exact (owns c.self.inside.slots c.self.invariant.2 c.self.inside.places c.self.invariant.0 c.self.invariant.1 c.args.at c.in-Some.number (ap (λ (t : Table Entry). first_that (is_entry_of c.args.at) t.items) c.self.view_is ∙ sym c.requires.place ∙ c.in-Some.is))
 
 pub rekey-requires-clause-room : goal.rekey-requires-clause-room
 rekey-requires-clause-room c = omega (arith, few-pairs c.self.inside.slots c.self.invariant.2 c.self.inside.places c.self.invariant.0 c.self.invariant.1 c.args.at, c.self.invariant.0.limit, c.self.invariant.2.within)
 
 pub set-requires-clause-first : goal.set-requires-clause-first
-set-requires-clause-first c = (given c.self.inside.slots c.self.invariant.2 c.self.inside.places c.self.invariant.0 c.self.invariant.1 c.args.at c.in-Some.number (ap (λ (t : Table Entry). first_that (is_entry_of c.args.at) t.items) c.self.view_is ∙ sym c.number_of.ensures.exact ∙ c.in-Some.is)).0
+set-requires-clause-first c = (given c.self.inside.slots c.self.invariant.2 c.self.inside.places c.self.invariant.0 c.self.invariant.1 c.args.at c.in-Some.number (ap (λ (t : Table Entry). first_that (is_entry_of c.args.at) t.items) c.self.view_is ∙ sym c.requires.place ∙ c.in-Some.is)).0
 
 pub set-requires-clause-last : goal.set-requires-clause-last
-set-requires-clause-last c = (given c.self.inside.slots c.self.invariant.2 c.self.inside.places c.self.invariant.0 c.self.invariant.1 c.args.at c.in-Some.number (ap (λ (t : Table Entry). first_that (is_entry_of c.args.at) t.items) c.self.view_is ∙ sym c.number_of.ensures.exact ∙ c.in-Some.is)).1
+set-requires-clause-last c = (given c.self.inside.slots c.self.invariant.2 c.self.inside.places c.self.invariant.0 c.self.invariant.1 c.args.at c.in-Some.number (ap (λ (t : Table Entry). first_that (is_entry_of c.args.at) t.items) c.self.view_is ∙ sym c.requires.place ∙ c.in-Some.is)).1
 
 pub rekey-requires-2-clause-room : goal.rekey-requires-2-clause-room
 rekey-requires-2-clause-room c = omega (arith, few-pairs c.self.inside.slots c.self.invariant.2 c.self.inside.places c.self.invariant.0 c.self.invariant.1 c.args.at, c.self.invariant.0.limit, c.self.invariant.2.within, c.rekey.ensures.length, c.rekey.ensures.limit)
@@ -57,12 +57,12 @@ rest c = c.pop.ensures ∙ ap (λ (t : Table Entry). withdrawn t) c.set.ensures
 
 pub invariant_of-self : goal.invariant_of-self
 invariant_of-self c =
-    let all = map-less c.self.inside.slots c.self.invariant.2 c.self.inside.places c.self.invariant.0 c.self.invariant.1 c.args.at c.in-Some.number (ap (λ (t : Table Entry). first_that (is_entry_of c.args.at) t.items) c.self.view_is ∙ sym c.number_of.ensures.exact ∙ c.in-Some.is) c.in-Some-last.moved (end c) c.rekey.new.self c.rekey-2.new.self (one c) (two c) c.self.invariant.3 in
+    let all = map-less c.self.inside.slots c.self.invariant.2 c.self.inside.places c.self.invariant.0 c.self.invariant.1 c.args.at c.in-Some.number (ap (λ (t : Table Entry). first_that (is_entry_of c.args.at) t.items) c.self.view_is ∙ sym c.requires.place ∙ c.in-Some.is) c.in-Some-last.moved (end c) c.rekey.new.self c.rekey-2.new.self (one c) (two c) c.self.invariant.3 in
     rw (rest c) (all.0, all.1, all.2, all.3)
 
 pub returns-clause-exact : goal.returns-clause-exact
 returns-clause-exact c = λ e.
     ap (λ (t : Table Entry). found e t.items) (rest c)
-    ∙ (map-less c.self.inside.slots c.self.invariant.2 c.self.inside.places c.self.invariant.0 c.self.invariant.1 c.args.at c.in-Some.number (ap (λ (t : Table Entry). first_that (is_entry_of c.args.at) t.items) c.self.view_is ∙ sym c.number_of.ensures.exact ∙ c.in-Some.is) c.in-Some-last.moved (end c) c.rekey.new.self c.rekey-2.new.self (one c) (two c) c.self.invariant.3).4 e
+    ∙ (map-less c.self.inside.slots c.self.invariant.2 c.self.inside.places c.self.invariant.0 c.self.invariant.1 c.args.at c.in-Some.number (ap (λ (t : Table Entry). first_that (is_entry_of c.args.at) t.items) c.self.view_is ∙ sym c.requires.place ∙ c.in-Some.is) c.in-Some-last.moved (end c) c.rekey.new.self c.rekey-2.new.self (one c) (two c) c.self.invariant.3).4 e
     ∙ ap (λ (b : Bool). cond b None (found e c.self.inside.slots.items)) (sym (one-same c.args.at e))
     ∙ ap (λ (t : Table Entry). cond (is_one c.args.at e) None (found e t.items)) c.self.view_is

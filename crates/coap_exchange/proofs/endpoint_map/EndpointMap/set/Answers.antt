@@ -11,26 +11,26 @@ use Rattle.coap_exchange.proofs.Slotting.{first-none}
 use Rattle.coap_exchange.proofs.endpoint_map.EndpointMap.set.Goals as goal
 
 pub set-requires-clause-first : goal.set-requires-clause-first
-set-requires-clause-first c = (given c.self.inside.slots c.self.invariant.2 c.self.inside.places c.self.invariant.0 c.self.invariant.1 c.args.at c.in-Some.number (ap (λ (t : Table Entry). first_that (is_entry_of c.args.at) t.items) c.self.view_is ∙ sym c.number_of.ensures.exact ∙ c.in-Some.is)).0
+set-requires-clause-first c = (given c.self.inside.slots c.self.invariant.2 c.self.inside.places c.self.invariant.0 c.self.invariant.1 c.args.at c.in-Some.number (ap (λ (t : Table Entry). first_that (is_entry_of c.args.at) t.items) c.self.view_is ∙ sym c.requires.place ∙ c.in-Some.is)).0
 
 pub set-requires-clause-last : goal.set-requires-clause-last
-set-requires-clause-last c = (given c.self.inside.slots c.self.invariant.2 c.self.inside.places c.self.invariant.0 c.self.invariant.1 c.args.at c.in-Some.number (ap (λ (t : Table Entry). first_that (is_entry_of c.args.at) t.items) c.self.view_is ∙ sym c.number_of.ensures.exact ∙ c.in-Some.is)).1
+set-requires-clause-last c = (given c.self.inside.slots c.self.invariant.2 c.self.inside.places c.self.invariant.0 c.self.invariant.1 c.args.at c.in-Some.number (ap (λ (t : Table Entry). first_that (is_entry_of c.args.at) t.items) c.self.view_is ∙ sym c.requires.place ∙ c.in-Some.is)).1
 
 pub invariant_of-self : goal.invariant_of-self
 invariant_of-self c =
-    let all = map-set c.self.inside.slots c.self.invariant.2 c.self.inside.places c.self.invariant.0 c.self.invariant.1 c.args.at c.in-Some.number (ap (λ (t : Table Entry). first_that (is_entry_of c.args.at) t.items) c.self.view_is ∙ sym c.number_of.ensures.exact ∙ c.in-Some.is) c.args.counts c.requires.some c.self.invariant.3 in
+    let all = map-set c.self.inside.slots c.self.invariant.2 c.self.inside.places c.self.invariant.0 c.self.invariant.1 c.args.at c.in-Some.number (ap (λ (t : Table Entry). first_that (is_entry_of c.args.at) t.items) c.self.view_is ∙ sym c.requires.place ∙ c.in-Some.is) c.args.counts c.requires.some c.self.invariant.3 in
     rw c.set.ensures (all.0, all.1, all.2, all.3)
 
 pub returns-in-Some-clause-exact : goal.returns-in-Some-clause-exact
 returns-in-Some-clause-exact c = λ e.
     ap (λ (t : Table Entry). found e t.items) c.set.ensures
-    ∙ (map-set c.self.inside.slots c.self.invariant.2 c.self.inside.places c.self.invariant.0 c.self.invariant.1 c.args.at c.in-Some.number (ap (λ (t : Table Entry). first_that (is_entry_of c.args.at) t.items) c.self.view_is ∙ sym c.number_of.ensures.exact ∙ c.in-Some.is) c.args.counts c.requires.some c.self.invariant.3).4 e
+    ∙ (map-set c.self.inside.slots c.self.invariant.2 c.self.inside.places c.self.invariant.0 c.self.invariant.1 c.args.at c.in-Some.number (ap (λ (t : Table Entry). first_that (is_entry_of c.args.at) t.items) c.self.view_is ∙ sym c.requires.place ∙ c.in-Some.is) c.args.counts c.requires.some c.self.invariant.3).4 e
     ∙ ap (λ (b : Bool). cond b (Some c.args.counts) (found e c.self.inside.slots.items)) (sym (one-same c.args.at e))
     ∙ ap (λ (t : Table Entry). cond (is_one c.args.at e) (Some c.args.counts) (found e t.items)) c.self.view_is
 
 pub overflow_add-number : goal.overflow_add-number
 overflow_add-number c =
-    let none : found c.args.at c.self.inside.slots.items ≡ None = first-none c.args.at c.self.inside.slots.items c.self.invariant.2.rising (ap (λ (t : Table Entry). first_that (is_entry_of c.args.at) t.items) c.self.view_is ∙ sym c.number_of.ensures.exact ∙ c.in_default.is) in
+    let none : found c.args.at c.self.inside.slots.items ≡ None = first-none c.args.at c.self.inside.slots.items c.self.invariant.2.rising (ap (λ (t : Table Entry). first_that (is_entry_of c.args.at) t.items) c.self.view_is ∙ sym c.requires.place ∙ c.in_default.is) in
     let room : length c.self.inside.slots.items < c.self.inside.slots.limit = subst (λ (t : Table Entry). found c.args.at t.items ≡ None → length t.items < t.limit) (sym c.self.view_is) c.requires.room none in
     omega (arith, room, c.len-number.ensures.exact, c.len-number.ensures.all, c.len-number.ensures.fits)
 
@@ -39,13 +39,13 @@ rekey-requires-clause-was c = rw c.len-number.ensures.exact (fresh-place c.self.
 
 pub rekey-requires-clause-room : goal.rekey-requires-clause-room
 rekey-requires-clause-room c =
-    let none : found c.args.at c.self.inside.slots.items ≡ None = first-none c.args.at c.self.inside.slots.items c.self.invariant.2.rising (ap (λ (t : Table Entry). first_that (is_entry_of c.args.at) t.items) c.self.view_is ∙ sym c.number_of.ensures.exact ∙ c.in_default.is) in
+    let none : found c.args.at c.self.inside.slots.items ≡ None = first-none c.args.at c.self.inside.slots.items c.self.invariant.2.rising (ap (λ (t : Table Entry). first_that (is_entry_of c.args.at) t.items) c.self.view_is ∙ sym c.requires.place ∙ c.in_default.is) in
     let room : length c.self.inside.slots.items < c.self.inside.slots.limit = subst (λ (t : Table Entry). found c.args.at t.items ≡ None → length t.items < t.limit) (sym c.self.view_is) c.requires.room none in
     omega (arith, room, few-pairs c.self.inside.slots c.self.invariant.2 c.self.inside.places c.self.invariant.0 c.self.invariant.1 c.args.at, c.self.invariant.0.limit)
 
 pub push-requires : goal.push-requires
 push-requires c =
-    let none : found c.args.at c.self.inside.slots.items ≡ None = first-none c.args.at c.self.inside.slots.items c.self.invariant.2.rising (ap (λ (t : Table Entry). first_that (is_entry_of c.args.at) t.items) c.self.view_is ∙ sym c.number_of.ensures.exact ∙ c.in_default.is) in
+    let none : found c.args.at c.self.inside.slots.items ≡ None = first-none c.args.at c.self.inside.slots.items c.self.invariant.2.rising (ap (λ (t : Table Entry). first_that (is_entry_of c.args.at) t.items) c.self.view_is ∙ sym c.requires.place ∙ c.in_default.is) in
     let room : length c.self.inside.slots.items < c.self.inside.slots.limit = subst (λ (t : Table Entry). found c.args.at t.items ≡ None → length t.items < t.limit) (sym c.self.view_is) c.requires.room none in
     room
 
@@ -55,14 +55,14 @@ comes c = subst (λ (d : ℕ). HasRekeyed c.self.inside.places c.rekey.new.self 
 
 pub invariant_of-self-2 : goal.invariant_of-self-2
 invariant_of-self-2 c =
-    let none : found c.args.at c.self.inside.slots.items ≡ None = first-none c.args.at c.self.inside.slots.items c.self.invariant.2.rising (ap (λ (t : Table Entry). first_that (is_entry_of c.args.at) t.items) c.self.view_is ∙ sym c.number_of.ensures.exact ∙ c.in_default.is) in
+    let none : found c.args.at c.self.inside.slots.items ≡ None = first-none c.args.at c.self.inside.slots.items c.self.invariant.2.rising (ap (λ (t : Table Entry). first_that (is_entry_of c.args.at) t.items) c.self.view_is ∙ sym c.requires.place ∙ c.in_default.is) in
     let room : length c.self.inside.slots.items < c.self.inside.slots.limit = subst (λ (t : Table Entry). found c.args.at t.items ≡ None → length t.items < t.limit) (sym c.self.view_is) c.requires.room none in
     let all = map-more c.self.inside.slots c.self.invariant.2 c.self.inside.places c.self.invariant.0 c.self.invariant.1 c.args.at c.args.counts c.rekey.new.self none room (comes c) c.requires.some c.self.invariant.3 in
     rw c.push.ensures (all.0, all.1, all.2, all.3)
 
 pub returns-clause-exact : goal.returns-clause-exact
 returns-clause-exact c = λ e.
-    let none : found c.args.at c.self.inside.slots.items ≡ None = first-none c.args.at c.self.inside.slots.items c.self.invariant.2.rising (ap (λ (t : Table Entry). first_that (is_entry_of c.args.at) t.items) c.self.view_is ∙ sym c.number_of.ensures.exact ∙ c.in_default.is) in
+    let none : found c.args.at c.self.inside.slots.items ≡ None = first-none c.args.at c.self.inside.slots.items c.self.invariant.2.rising (ap (λ (t : Table Entry). first_that (is_entry_of c.args.at) t.items) c.self.view_is ∙ sym c.requires.place ∙ c.in_default.is) in
     let room : length c.self.inside.slots.items < c.self.inside.slots.limit = subst (λ (t : Table Entry). found c.args.at t.items ≡ None → length t.items < t.limit) (sym c.self.view_is) c.requires.room none in
     ap (λ (t : Table Entry). found e t.items) c.push.ensures
     ∙ (map-more c.self.inside.slots c.self.invariant.2 c.self.inside.places c.self.invariant.0 c.self.invariant.1 c.args.at c.args.counts c.rekey.new.self none room (comes c) c.requires.some c.self.invariant.3).4 e

@@ -1,4 +1,4 @@
-use Rattle.std.proofs.Common.{◌≡◌, ◌∙◌, ap, arith}
+use Rattle.std.proofs.Common.{◌≡◌, ◌∙◌, ◌<◌, ◌++◌, ap, arith, length, length-append, subst, sym}
 use Rattle.std.specs.Prelude.{◌||◌}
 use Rattle.ordered_index.specs.Hashed.{pairs_of}
 use Rattle.ordered_index.specs.Ordered.{Pair, OrderedIndex, is_in, is_pair}
@@ -23,18 +23,20 @@ pub invariant_of-self : goal.invariant_of-self
 invariant_of-self c =
     let it : Pair = (c.args.key, c.args.number) in
     let free = neither it (pairs_of c.self.inside.buckets.items) c.self.inside.rest.pairs (ap (λ (r : OrderedIndex). is_in it r.pairs) c.self.view_is ∙ c.requires.absent) in (
-      omega (arith, c.self.invariant.0, (c.if-not-put_in.ensures).len),
+      omega (arith, c.self.invariant.0, (c.if-not-put_in.ensures).length, c.put.ensures.length, length-append (pairs_of c.self.inside.buckets.items) c.self.inside.rest.pairs, length-append (pairs_of c.put_in.new.buckets.items) c.put.new.self.pairs),
+      omega (arith, c.self.invariant.1, (c.if-not-put_in.ensures).len),
       (c.if-not-put_in.ensures).are,
-      apart-second it (pairs_of c.self.inside.buckets.items) (pairs_of c.put_in.new.buckets.items) c.self.inside.rest.pairs c.put.new.self.pairs c.self.invariant.2 free.0 (same c) c.put.ensures.more,
+      apart-second it (pairs_of c.self.inside.buckets.items) (pairs_of c.put_in.new.buckets.items) c.self.inside.rest.pairs c.put.new.self.pairs c.self.invariant.3 free.0 (same c) c.put.ensures.more,
     )
 
 pub invariant_of-self-else-not-put_in : goal.invariant_of-self-else-not-put_in
 invariant_of-self-else-not-put_in c =
     let it : Pair = (c.args.key, c.args.number) in
     let free = neither it (pairs_of c.self.inside.buckets.items) c.self.inside.rest.pairs (ap (λ (r : OrderedIndex). is_in it r.pairs) c.self.view_is ∙ c.requires.absent) in (
-      omega (arith, c.self.invariant.0, (c.if-not-put_in.ensures).len),
+      omega (arith, c.self.invariant.0, (c.if-not-put_in.ensures).length, length-append (pairs_of c.self.inside.buckets.items) c.self.inside.rest.pairs, length-append (pairs_of c.put_in.new.buckets.items) c.self.inside.rest.pairs),
+      omega (arith, c.self.invariant.1, (c.if-not-put_in.ensures).len),
       (c.if-not-put_in.ensures).are,
-      apart-first it (pairs_of c.self.inside.buckets.items) (pairs_of c.put_in.new.buckets.items) c.self.inside.rest.pairs c.self.invariant.2 free.1 (comes c),
+      apart-first it (pairs_of c.self.inside.buckets.items) (pairs_of c.put_in.new.buckets.items) c.self.inside.rest.pairs c.self.invariant.3 free.1 (comes c),
     )
 
 pub returns-then-not-put_in-clause-more : goal.returns-then-not-put_in-clause-more
@@ -46,3 +48,8 @@ pub returns-else-not-put_in-clause-more : goal.returns-else-not-put_in-clause-mo
 returns-else-not-put_in-clause-more c = λ p.
     more-first p (c.args.key, c.args.number) (pairs_of c.self.inside.buckets.items) (pairs_of c.put_in.new.buckets.items) c.self.inside.rest.pairs (comes c p)
     ∙ ap (λ (r : OrderedIndex). is_pair p (c.args.key, c.args.number) || is_in p r.pairs) c.self.view_is
+
+pub overflow_add-self : goal.overflow_add-self
+overflow_add-self c =
+    let room : length (pairs_of c.self.inside.buckets.items ++ c.self.inside.rest.pairs) < c.self.inside.rest.limit = subst (λ (r : OrderedIndex). length r.pairs < r.limit) (sym c.self.view_is) c.requires.room in
+    omega (arith, room, c.self.invariant.0, c.limit-few.ensures.exact)

@@ -17,5 +17,5 @@ returns-then-not-take_from-clause-less c = λ p.
 
 pub returns-else-not-take_from-clause-less : goal.returns-else-not-take_from-clause-less
 returns-else-not-take_from-clause-less c = λ p.
-    less-both p (c.args.key, c.args.number) (pairs_of c.self.inside.buckets.items) (pairs_of c.take_from.new.buckets.items) c.self.inside.rest.pairs c.self.inside.rest.pairs ((c.if-not-take_from.ensures).less p) (stays-out p (c.args.key, c.args.number) c.self.inside.rest.pairs (not-second (c.args.key, c.args.number) (pairs_of c.self.inside.buckets.items) c.self.inside.rest.pairs c.self.invariant.2 (sym (c.if-not-take_from.ensures).exact)))
+    less-both p (c.args.key, c.args.number) (pairs_of c.self.inside.buckets.items) (pairs_of c.take_from.new.buckets.items) c.self.inside.rest.pairs c.self.inside.rest.pairs ((c.if-not-take_from.ensures).less p) (stays-out p (c.args.key, c.args.number) c.self.inside.rest.pairs (not-second (c.args.key, c.args.number) (pairs_of c.self.inside.buckets.items) c.self.inside.rest.pairs c.self.invariant.3 (sym (c.if-not-take_from.ensures).exact)))
     ∙ ap (λ (r : OrderedIndex). not (is_pair p (c.args.key, c.args.number)) && is_in p r.pairs) c.self.view_is

@@ -5,7 +5,7 @@ use Rattle.coap_exchange.specs.Slots.{entry_key, is_entry_of}
 use Rattle.coap_exchange.specs.Table.{item_at, passes}
 use Rattle.coap_exchange.proofs.Firsts.{none-start, none-next, first-found, first-missing}
 use Rattle.coap_exchange.proofs.Slotting.{other-key}
-use Rattle.coap_exchange.proofs.endpoint_map.EndpointMap.number_of.Goals as goal
+use Rattle.coap_exchange.proofs.endpoint_map.EndpointMap.place_of.Goals as goal
 
 pub loop-number-init : goal.loop-number-init
 loop-number-init c = (omega arith, none-start entry_key (is_entry_of c.args.at) (digest_of_endpoint c.args.at) (other-key c.args.at) c.self.inside.slots c.self.inside.places c.self.invariant.2 c.self.invariant.0)

@@ -1,6 +1,6 @@
 use Rattle.std.proofs.Common.{◌-◌, ◌<◌, ◌^◌}
 use Rattle.coap_exchange.proofs.Slotting.{NoneOfUpTo}
-use Rattle.coap_exchange.proofs.endpoint_map.EndpointMap.number_of.Given as goal
+use Rattle.coap_exchange.proofs.endpoint_map.EndpointMap.place_of.Given as goal
 
 abbrev pub invariant-loop-number : goal.invariant-loop-number
 invariant-loop-number l = (l.after < 2 ^ 64) × NoneOfUpTo l.at l.self-inside.slots l.after
