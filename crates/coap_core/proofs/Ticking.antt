@@ -8,6 +8,7 @@ use Rattle.coap_exchange.specs.declared.exchange.Exchange.{Exchange}
 use Rattle.coap_exchange.specs.declared.exchange.ExchangeState.{ExchangeState}
 use Rattle.coap_exchange.specs.declared.exchange.ExchangeState.TheVariants.{Queued, Sent, Acked, Done}
 use Rattle.coap_exchange.specs.declared.exchange.Sending.{Sending}
+use Rattle.coap_store.specs.declared.answer.Answer.{Answer}
 use Rattle.coap_exchange.specs.declared.timer.Fire.TheVariants.{Again, GiveUp}
 use Rattle.coap_exchange.specs.declared.timer.Timer.{Timer}
 use Rattle.coap_exchange.specs.Exchanges.{sent, answer_in_state, is_missing, is_done, deadline, due_in, due_among, timer_or, is_blocked, fire_of_sending, fired_option, fired_exchange, HasEnded, IsDue}
@@ -122,7 +123,7 @@ due-at w now at number rising e le =
     let found = first_due-holds (λ (x : Numbered Exchange). item_at x.0 w.exchanges ≡ Some x.1) (due_among w.setting.limits.nstart w.setting.limits.exchange_ms w.exchanges) w.exchanges (at, number) (items-found 0 w.exchanges rising) first in
     let x = found.0.1 in
     let here : item_at number w.exchanges ≡ Some x = subst (λ (n : ℕ). item_at n w.exchanges ≡ Some x) found.2 found.1 in
-    rw here (record { at = at; due = found.3; past = le })
+    record { exchange = x; found = here; due = record { at = at; due = found.3; past = le } }
 
 -- so is the client that is due first
 pub client-due-at : (w : State) (now at number : ℕ) → IsRising 0 w.waiters → Some (OfWaiter at number) ≡ item_due w → at ≤ now → IsClientDueAt w now number
@@ -131,7 +132,7 @@ client-due-at w now at number rising e le =
     let found = first_due-holds (λ (v : Numbered Waiter). item_at v.0 w.waiters ≡ Some v.1) (due_after w.exchanges) w.waiters (at, number) (items-found 0 w.waiters rising) first in
     let v = found.0.1 in
     let here : item_at number w.waiters ≡ Some v = subst (λ (n : ℕ). item_at n w.waiters ≡ Some v) found.2 found.1 in
-    rw here (record { at = at; due = found.3; past = le })
+    record { waiter = v; found = here; due = record { at = at; due = found.3; past = le } }
 
 -- ---- an exchange that is due
 
@@ -158,6 +159,17 @@ module _ (w : State) (now : ℕ) (x : Exchange) (due : IsExchangeDue w now x) wh
       go Sent e = refl
       go Acked e = refl
       go (Done a) e = absurd cc
+
+  -- where it was acknowledged or answered, its deadline has come
+  pub not-acked : x.state ≡ Acked → nat_le (deadline ms x) now ≡ false → ⊥
+  not-acked acked early =
+      let moment : deadline ms x ≡ due.at = same_Some _ _ (subst (λ (s : ExchangeState). due_in s (is_blocked w.setting.limits.nstart w.exchanges x) ms x ≡ Some due.at) acked due.due) in
+      let p = leb-false _ _ early in
+      let q = due.past in
+      omega arith
+
+  pub not-done : (a : Answer) → x.state ≡ Done a → ⊥
+  not-done a done = let e : not (is_missing (answer_in_state (Done a))) ≡ false = subst (λ (s : ExchangeState). not (is_missing (answer_in_state s)) ≡ false) done is-open in absurd cc
 
   -- where it was sent, and its deadline hasn't come, the timeout has ended
   pub has-ended : x.state ≡ Sent → nat_le (deadline ms x) now ≡ false → IsDue now x

@@ -8,9 +8,10 @@ ghost use Rattle.coap_forward.specs.Messages.{is_con};
 ghost use Rattle.coap_model.specs.Ticks.{abandons, item_due, moment_of, gives_up, idles, on_exchange, on_waiter, on_tick, without_idle};
 ghost use Rattle.coap_exchange.specs.Waiters as waiters;
 ghost use Rattle.coap_exchange.specs.Waiters.{is_waiting};
-ghost use Rattle.coap_core.specs.Steps.{Does, IsDone, CanGoOn, CanStep, GivesConfirmable, IsClientDueAt, IsDueAt, answer_at, delivery_at, firing_at, form_at, sending_at, told_in, unheard_at};
+ghost use Rattle.coap_core.specs.Steps.{Does, IsDone, CanGoOn, CanStep, GivesConfirmable, IsClientDueAt, IsClientFoundAs, IsDueAt, IsFoundAs, IsReadyAt, answer_at, delivery_at, firing_at, form_at, sending_at, told_in, unheard_at};
 
 use crate::state::{State, silent};
+use coap_endpoint::Endpoint;
 use coap_exchange::{Exchange, ExchangeState, Fire, Sending, Timer, WaiterState};
 use coap_forward::{gateway_timeout, put_shown};
 use coap_message::{Datagram, Kind, OutOfMemory, Seq, Token};
@@ -31,6 +32,20 @@ pub(crate) fn moment_of(due: Option<DueItem>) -> Option<u64>
     match due? {
         DueItem::OfExchange { at, .. } | DueItem::OfWaiter { at, .. } => Some(at),
     }
+}
+
+/// An exchange that was found due: its number, and the endpoint that its request is for.
+#[derive(Clone, Copy)]
+pub(crate) struct DueExchange {
+    number: u64,
+    to: Endpoint,
+}
+
+/// A client that was found due, and was sent its answer: its number, and its endpoint.
+#[derive(Clone, Copy)]
+pub(crate) struct DueClient {
+    number: u64,
+    to: Endpoint,
 }
 
 impl<S: Store + Drop> State<S> {
@@ -112,15 +127,17 @@ impl<S: Store + Drop> State<S> {
             result out.old out.new self.new }
     {
         let Some(exchange) = self.under_way.exchange(number) else {
-            return self.idle(now, out);
+            unreachable!()
         };
         if self.is_late(now, exchange) {
             return self.give_up(now, number, out);
         }
+        let to = exchange.key.target.at;
+        let due = DueExchange { number, to };
         match &exchange.state {
-            ExchangeState::Queued => self.send(now, draw, number, out),
-            ExchangeState::Sent => self.on_request_timeout(now, number, out),
-            ExchangeState::Acked | ExchangeState::Done(_) => self.idle(now, out),
+            ExchangeState::Queued => self.send(now, draw, due, out),
+            ExchangeState::Sent => self.on_request_timeout(now, due, out),
+            ExchangeState::Acked | ExchangeState::Done(_) => unreachable!(),
         }
     }
 
@@ -132,52 +149,45 @@ impl<S: Store + Drop> State<S> {
         now.saturating_sub(exchange.admitted) >= self.limits.values().exchange_ms
     }
 
-    /// Sends the request of the exchange numbered `number` to its origin, with a new Message ID. It
-    /// is to be sent again until it is acknowledged or answered (RFC 7252, 4.2).
-    fn send(&mut self, now: u64, draw: u16, number: u64, out: &mut Datagram) -> Report
+    /// Sends the request of an exchange to its origin, with a new Message ID. It is to be sent again
+    /// until it is acknowledged or answered (RFC 7252, 4.2).
+    fn send(&mut self, now: u64, draw: u16, due: DueExchange, out: &mut Datagram) -> Report
         requires ready { CanStep now self.old }
         requires draw { draw ≤ 1000 }
-        requires queued { IfSome (item_at number self.old.exchanges) (λ x. is_queued x ≡ true) }
-        requires fits { length (sending_at self.old now draw number).bytes ≤ out.old.room }
-        ensures { Does (sending_at self.old now draw number) result out.old out.new self.new }
+        requires queued { IsFoundAs (λ x. is_queued x ≡ true) self.old due }
+        requires fits { length (sending_at self.old now draw due.number).bytes ≤ out.old.room }
+        ensures { Does (sending_at self.old now draw due.number) result out.old out.new self.new }
     {
-        let Some(exchange) = self.under_way.exchange(number) else {
-            return self.idle(now, out);
-        };
-        let to = exchange.key.target.at;
         let (asked, timer) = (self.events, Timer::start(now, draw));
         let id = self.take_id(now);
-        self.under_way.send(number, Sending { asked, id, timer });
-        self.put_form(number, out);
+        let sending = Sending { asked, id, timer };
+        self.under_way.send(due.number, sending);
+        self.put_form(due.number, out);
         self.advance(now);
         Report {
-            send: Some(to),
+            send: Some(due.to),
             outcome: Outcome::SentRequest,
         }
     }
 
-    /// Handles the end of the current timeout of the exchange numbered `number`: its request is
-    /// retransmitted, with the same bytes, or abandoned (RFC 7252, 4.2).
-    fn on_request_timeout(&mut self, now: u64, number: u64, out: &mut Datagram) -> Report
+    /// Handles the end of the current timeout of an exchange: its request is retransmitted, with the
+    /// same bytes, or abandoned (RFC 7252, 4.2).
+    fn on_request_timeout(&mut self, now: u64, due: DueExchange, out: &mut Datagram) -> Report
         requires ready { CanStep now self.old }
-        requires due { IfSome (item_at number self.old.exchanges) (IsDue now) }
-        requires fits { length (firing_at self.old now number).bytes ≤ out.old.room }
-        ensures { Does (firing_at self.old now number) result out.old out.new self.new }
+        requires ended { IsFoundAs (IsDue now) self.old due }
+        requires fits { length (firing_at self.old now due.number).bytes ≤ out.old.room }
+        ensures { Does (firing_at self.old now due.number) result out.old out.new self.new }
     {
-        let Some(exchange) = self.under_way.exchange(number) else {
-            return self.idle(now, out);
-        };
-        let to = exchange.key.target.at;
-        match self.under_way.fire(number, now) {
+        match self.under_way.fire(due.number, now) {
             Fire::Again => {
-                self.put_form(number, out);
+                self.put_form(due.number, out);
                 self.advance(now);
                 Report {
-                    send: Some(to),
+                    send: Some(due.to),
                     outcome: Outcome::Resent,
                 }
             }
-            Fire::GiveUp => self.give_up(now, number, out),
+            Fire::GiveUp => self.give_up(now, due.number, out),
         }
     }
 
@@ -229,14 +239,17 @@ impl<S: Store + Drop> State<S> {
             (on_waiter self.old now draw number (item_at number self.old.waiters))) }
     {
         let Some(waiter) = self.under_way.waiter(number) else {
-            return Ok(self.idle(now, out));
+            unreachable!()
         };
         match &waiter.state {
             WaiterState::Waiting(exchange) => {
                 let exchange = *exchange;
                 self.deliver(now, draw, number, exchange, out)
             }
-            WaiterState::Delivering { .. } => Ok(self.on_delivery_timeout(now, number, out)),
+            WaiterState::Delivering { .. } => {
+                let to = waiter.client;
+                Ok(self.on_delivery_timeout(now, DueClient { number, to }, out))
+            }
         }
     }
 
@@ -253,8 +266,7 @@ impl<S: Store + Drop> State<S> {
     ) -> Result<Report, OutOfMemory>
         requires ready { CanStep now self.old }
         requires draw { draw ≤ 1000 }
-        requires waits { IfSome (item_at number self.old.waiters) (λ v.
-            v.state ≡ Waiting exchange) }
+        requires waits { IsReadyAt self.old number exchange }
         requires fits { length (delivery_at self.old now draw number exchange).bytes
             ≤ out.old.room }
         ensures done { IsDone (delivery_at self.old now draw number exchange)
@@ -263,13 +275,13 @@ impl<S: Store + Drop> State<S> {
             (GivesConfirmable (delivery_at self.old now draw number exchange)) }
     {
         let Some(waiter) = self.under_way.waiter(number) else {
-            return Ok(self.idle(now, out));
+            unreachable!()
         };
         let Some(awaited) = self.under_way.exchange(exchange) else {
-            return Ok(self.idle(now, out));
+            unreachable!()
         };
         let Some(answer) = awaited.answer() else {
-            return Ok(self.idle(now, out));
+            unreachable!()
         };
         let (client, kind, id) = (waiter.client, waiter.kind, self.next_id());
         let (token, tags) = (&waiter.token, &waiter.tags);
@@ -330,23 +342,19 @@ impl<S: Store + Drop> State<S> {
 
     /// Handles the end of the current timeout of a client that was sent its answer: the answer is
     /// retransmitted, with the same bytes, or abandoned (RFC 7252, 4.2).
-    fn on_delivery_timeout(&mut self, now: u64, number: u64, out: &mut Datagram) -> Report
+    fn on_delivery_timeout(&mut self, now: u64, due: DueClient, out: &mut Datagram) -> Report
         requires ready { CanStep now self.old }
-        requires due { IfSome (item_at number self.old.waiters) (waiters.IsDue now) }
-        requires fits { length (unheard_at self.old now number).bytes ≤ out.old.room }
-        ensures { Does (unheard_at self.old now number) result out.old out.new self.new }
+        requires ended { IsClientFoundAs (waiters.IsDue now) self.old due }
+        requires fits { length (unheard_at self.old now due.number).bytes ≤ out.old.room }
+        ensures { Does (unheard_at self.old now due.number) result out.old out.new self.new }
     {
-        let Some(waiter) = self.under_way.waiter(number) else {
-            return self.idle(now, out);
-        };
-        let client = waiter.client;
-        match self.under_way.fire_waiter(number, now) {
-            Fire::GiveUp => self.abandon(now, number, out),
+        match self.under_way.fire_waiter(due.number, now) {
+            Fire::GiveUp => self.abandon(now, due.number, out),
             Fire::Again => {
-                self.put_answer(number, out);
+                self.put_answer(due.number, out);
                 self.advance(now);
                 Report {
-                    send: Some(client),
+                    send: Some(due.to),
                     outcome: Outcome::Resent,
                 }
             }

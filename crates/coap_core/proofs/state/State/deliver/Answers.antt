@@ -1,5 +1,7 @@
 use Rattle.std.proofs.Common.{◌≡◌, ◌∙◌, ◌<◌, Some, true, refl, sym, subst}
+use Rattle.std.proofs.lemmas.Option.{same_Some}
 use Rattle.coap_option.proofs.Picking.{on_err}
+use Rattle.coap_exchange.specs.declared.waiter.Waiter.{Waiter}
 use Rattle.coap_exchange.specs.declared.waiter.WaiterState.TheVariants.{Waiting}
 use Rattle.coap_exchange.specs.Exchanges.{answer_at}
 use Rattle.coap_exchange.specs.Ids.{left_of}
@@ -16,7 +18,8 @@ pub take_id-requires : goal.take_id-requires
 take_id-requires g c =
     let v = c.in-Some.waiter.now in
     let found : item_at c.args.number c.args.self.now.waiters ≡ Some v = rw (← c.self.view_is) (sym c.in-Some.ensures.exact) in
-    let state : v.state ≡ Waiting c.args.exchange = rw found at c.requires.waits in
+    let same : c.requires.waits.waiter ≡ v = same_Some _ _ (sym c.requires.waits.found ∙ found) in
+    let state : v.state ≡ Waiting c.args.exchange = subst (λ (u : Waiter). u.state ≡ Waiting c.args.exchange) same c.requires.waits.waits in
     let waits : is_waiting v ≡ true = rw state refl in
     subst (λ (w : State). 0 < left_of c.args.now w.ids) (sym c.in_ok-record_delivery.ensures.ok) (id-for-waiting c.args.self.now c.args.now c.args.number v c.requires.ready.can c.requires.ready.onward found waits)
 

@@ -1,4 +1,5 @@
-use Rattle.std.proofs.Common.{◌≡◌, ◌≤◌, Some, length, sym, subst}
+use Rattle.std.proofs.Common.{◌≡◌, ◌≤◌, ◌∙◌, Some, length, refl, sym, subst}
+use Rattle.std.proofs.lemmas.Option.{same_Some}
 use Rattle.coap_exchange.specs.Table.{item_at}
 use Rattle.coap_model.specs.State.{Step}
 use Rattle.coap_core.specs.Steps.{Does, IsExchangeDue}
@@ -13,7 +14,7 @@ found g c = rw (← c.self.view_is) (sym c.in-Some.ensures.exact)
 
 -- it is due
 due : (g : Over) (c : In-Some g) → IsExchangeDue c.args.self.now c.args.now c.in-Some.exchange.now
-due g c = rw (found g c) at c.requires.due
+due g c = subst (IsExchangeDue c.args.self.now c.args.now) (same_Some _ _ (sym c.requires.due.found ∙ found g c)) c.requires.due.due
 
 pub give_up-requires-clause-open : goal.give_up-requires-clause-open
 give_up-requires-clause-open g c =
@@ -26,10 +27,25 @@ send-requires-clause-fits g c =
     subst (λ (s : Step). length s.bytes ≤ c.args.out.now.room)
     (queued-step c.args.self.now c.args.now c.args.draw c.args.number c.in-Some.exchange.now (found g k) (sym c.if-is_late.ensures) c.in-Queued.is) c.requires.fits
 
-pub on_request_timeout-requires-clause-due : goal.on_request_timeout-requires-clause-due
-on_request_timeout-requires-clause-due g c =
-    let k = (goal.at.on_request_timeout-requires-clause-due g c).In-Some in
-    rw (found g k) (has-ended c.args.self.now c.args.now c.in-Some.exchange.now (due g k) c.in-Sent.is (sym c.if-is_late.ensures))
+pub on_request_timeout-requires-clause-ended : goal.on_request_timeout-requires-clause-ended
+on_request_timeout-requires-clause-ended g c =
+    let k = (goal.at.on_request_timeout-requires-clause-ended g c).In-Some in
+    record {
+      exchange = c.in-Some.exchange.now;
+      found = found g k;
+      to = refl;
+      holds = has-ended c.args.self.now c.args.now c.in-Some.exchange.now (due g k) c.in-Sent.is (sym c.if-is_late.ensures);
+    }
+
+pub send-requires-clause-queued : goal.send-requires-clause-queued
+send-requires-clause-queued g c =
+    let k = (goal.at.send-requires-clause-queued g c).In-Some in
+    record {
+      exchange = c.in-Some.exchange.now;
+      found = found g k;
+      to = refl;
+      holds = rw c.in-Queued.is refl;
+    }
 
 pub on_request_timeout-requires-clause-fits : goal.on_request_timeout-requires-clause-fits
 on_request_timeout-requires-clause-fits g c =
