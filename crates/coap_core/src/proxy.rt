@@ -8,7 +8,7 @@ ghost use Rattle.coap_dedup.specs.Records.{living_at};
 ghost use Rattle.coap_model.specs.Events.{tick};
 ghost use Rattle.coap_model.specs.Held.{held, most_held};
 ghost use Rattle.coap_model.specs.Setting.{setting_of};
-ghost use Rattle.coap_model.specs.State.{new_world, client_counts, counts};
+ghost use Rattle.coap_model.specs.State.{new_state, client_counts, counts};
 ghost use Rattle.coap_model.specs.Ticks.{next_due, on_tick};
 ghost use Rattle.coap_model.specs.History.{grown_of};
 ghost use Rattle.coap_model.specs.Step.{step_of};
@@ -84,7 +84,7 @@ impl<S: Store + Drop> Core<S> {
     ) -> Result<Core<S>, OutOfMemory>
         // It is made of exactly the arguments, and carries no history.
         ensures exact { IfOk result (λ core.
-            core ≡ new_world (setting_of limits routes first_id salt)) }
+            core ≡ new_state (setting_of limits routes first_id salt)) }
         ensures carries { IfOk result (λ core. Carries [] core) }
     {
         new_proxies_carry_nothing();

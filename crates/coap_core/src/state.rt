@@ -4,7 +4,7 @@ ghost use Rattle.coap_exchange.specs.Ids.{called, left_of};
 ghost use Rattle.coap_exchange.specs.Table.{empty_table};
 ghost use Rattle.coap_limits.specs.Limits.{AreLimits};
 ghost use Rattle.coap_model.specs.Setting.{setting_of};
-ghost use Rattle.coap_model.specs.State.{next_id, later, reserved, has_ids, has_exchange_room, has_waiter_room, has_room_to_join, has_room_to_open, new_world, no_con_records, no_non_records, client_counts, counts};
+ghost use Rattle.coap_model.specs.State.{next_id, later, reserved, has_ids, has_exchange_room, has_waiter_room, has_room_to_join, has_room_to_open, new_state, no_con_records, no_non_records, client_counts, counts};
 ghost use Rattle.coap_core.specs.Steps.{CanGoOn, CanStep};
 
 use crate::request_target::CacheQuery;
@@ -102,7 +102,7 @@ impl<S: Store + Drop> State<S> {
         salt: u64,
     ) -> Result<State<S>, OutOfMemory>
         ensures exact { IfOk result (λ state.
-            state ≡ new_world (setting_of limits routes first_id salt)) }
+            state ≡ new_state (setting_of limits routes first_id salt)) }
         ensures limits { AreLimits limits }
     {
         let (bytes, entries) = (limits.values().cache_bytes, limits.values().cache_entries);

@@ -61,7 +61,7 @@ not_before-number moment m n le = grind (arith, nat_tests)
 not_before-moment : (moment m at n : ℕ) → moment < at → is_before (at, n) (moment, m) ≡ false
 not_before-moment moment m at n lt = grind (arith, nat_tests)
 
-module _ (t : Table Waiter) (r : OrderedIndex) (is : IsTable t) (roll : IsIndexOf awaited_of t.items t.limit r) (moment : ℕ) where
+module _ (t : Table Waiter) (r : OrderedIndex) (is : IsTable t) (index : IsIndexOf awaited_of t.items t.limit r) (moment : ℕ) where
   -- this is due for a waiter for this exchange
   abbrev IsFor : ℕ → Option Pair → Type 0
   IsFor e x = (n : ℕ) × (key_at awaited_of (item_at n t.items) ≡ Some e) × (x ≡ Some (moment, n))
@@ -74,13 +74,13 @@ module _ (t : Table Waiter) (r : OrderedIndex) (is : IsTable t) (roll : IsIndexO
       go false f = omega (arith, leb-false n 0 f)
       go true f = absurd (let none : item_at n t.items ≡ None = none-least n 0 t.items (leb-true n 0 f) is.rising in let g : key_at awaited_of None ≡ Some e = rw none at h in cc)
 
-  -- and stands in the roll
+  -- and stands in the index
   awaiting-in : (n e : ℕ) → key_at awaited_of (item_at n t.items) ≡ Some e → is_in (e, n) r.pairs ≡ true
-  awaiting-in n e h = roll.members e n ∙ some-key e (key_at awaited_of (item_at n t.items)) h
+  awaiting-in n e h = index.members e n ∙ some-key e (key_at awaited_of (item_at n t.items)) h
 
-  -- who stands in the roll waits
+  -- who stands in the index waits
   in-awaiting : (n e : ℕ) → is_in (e, n) r.pairs ≡ true → key_at awaited_of (item_at n t.items) ≡ Some e
-  in-awaiting n e h = key-some e (key_at awaited_of (item_at n t.items)) (sym (roll.members e n) ∙ h)
+  in-awaiting n e h = key-some e (key_at awaited_of (item_at n t.items)) (sym (index.members e n) ∙ h)
 
   -- the next of an exchange is the first that waits for it
   next-first : (e : ℕ) (k : Option ℕ) → IsNextOf e 0 r.pairs k → IsFirst (IsFor e) (due_at moment k)
@@ -216,7 +216,7 @@ got-none exchanges none (x ∷ xs) =
     go w None h = refl
     go w (Some at) h = absurd (let (q, a, g) = answered-waits exchanges w at h in let off = none q in cc)
 
--- ---- the exchanges' roll
+-- ---- the exchanges' index
 
 -- the key of an exchange is the moment of its answer
 got-key : (e : ℕ) (exchanges : List (Numbered Exchange)) → key_at got_of (item_at e exchanges) ≡ got_in e exchanges
@@ -226,10 +226,10 @@ got-key e exchanges = go (item_at e exchanges)
     go None = refl
     go (Some x) = refl
 
-module _ (exchanges : List (Numbered Exchange)) (limit : ℕ) (r : OrderedIndex) (roll : IsIndexOf got_of exchanges limit r) where
-  -- so it stands in the roll at that moment
+module _ (exchanges : List (Numbered Exchange)) (limit : ℕ) (r : OrderedIndex) (index : IsIndexOf got_of exchanges limit r) where
+  -- so it stands in the index at that moment
   got-pair : (moment e : ℕ) → is_in (moment, e) r.pairs ≡ is_key moment (got_in e exchanges)
-  got-pair moment e = roll.members moment e ∙ ap (λ (o : Option ℕ). is_key moment o) (got-key e exchanges)
+  got-pair moment e = index.members moment e ∙ ap (λ (o : Option ℕ). is_key moment o) (got-key e exchanges)
 
   -- its first pair has the first moment
   pub got-least : (o : Option Pair) → IsLeast r.pairs o → IsFirstGot exchanges (option_map (λ p. p.0) o)

@@ -1,4 +1,4 @@
--- What is due first of a table's items, where a roll has them by when they are due.
+-- What is due first of a table's items, where an index has them by when they are due.
 use Rattle.std.proofs.Common.{◌≡◌, ℕ, List, [], ◌∷◌, Bool, true, false, eqb, Option, Some, None, refl, sym, ap, ◌∙◌, arith, inl, inr}
 use Rattle.std.specs.Prelude.{◌⊎◌, map}
 use Rattle.std.proofs.lemmas.Bool.{eqb-true, eq-eqb, ne_eqb}
@@ -46,9 +46,9 @@ module _ {A : Type 0} (due : A → Option ℕ) where
         there = elim f.there [ inl e ↦ inl e | inr i ↦ inr (rows-due least xs (first_due due xs) r i) ];
       }
 
--- ---- by a roll
+-- ---- by an index
 
--- x is a pair of the roll
+-- x is a pair of the index
 abbrev IsPairIn : List Pair → Option Pair → Type 0
 IsPairIn pairs x = (p : Pair) × (x ≡ Some p) × (is_in p pairs ≡ true)
 
@@ -65,7 +65,7 @@ least-first pairs (Some p) l =
       there = inr (p, refl, l.0);
     }
 
-module _ {A : Type 0} (due : A → Option ℕ) (t : Table A) (r : OrderedIndex) (is : IsTable t) (roll : IsIndexOf due t.items t.limit r) where
+module _ {A : Type 0} (due : A → Option ℕ) (t : Table A) (r : OrderedIndex) (is : IsTable t) (index : IsIndexOf due t.items t.limit r) where
   owned : (p : Pair) (o : Option A) → item_at p.1 t.items ≡ o → is_key p.0 (key_at due o) ≡ true → IsDueIn due t.items (Some p)
   owned p None e h = absurd cc
   owned p (Some a) e h = go (due a) refl h
@@ -77,7 +77,7 @@ module _ {A : Type 0} (due : A → Option ℕ) (t : Table A) (r : OrderedIndex) 
   paired : (x : Option Pair) → IsPairIn r.pairs x → IsDueIn due t.items x
   paired x d =
       let (p, f, i) = d in
-      rw f (owned p (item_at p.1 t.items) refl (sym (roll.members p.0 p.1) ∙ i))
+      rw f (owned p (item_at p.1 t.items) refl (sym (index.members p.0 p.1) ∙ i))
 
   listed : (x : Option Pair) → IsDueIn due t.items x → (x ≡ None) ⊎ IsPairIn r.pairs x
   listed x d = let (n, a, there, e) = d in go n a there (due a) refl e
@@ -86,11 +86,11 @@ module _ {A : Type 0} (due : A → Option ℕ) (t : Table A) (r : OrderedIndex) 
       go n a there None f e = inl e
       go n a there (Some m) f e =
           let on : is_key m (key_at due (item_at n t.items)) ≡ true = rw (there, f) (eq-eqb m m refl) in
-          inr ((m, n), e, roll.members m n ∙ on)
+          inr ((m, n), e, index.members m n ∙ on)
 
-  -- the least pair of the roll is what is due first
-  pub roll-first : (o : Option Pair) → IsLeast r.pairs o → o ≡ first_due due t.items
-  roll-first o l = same_first_of o (first_due due t.items) (λ x d. inr (paired x d)) (λ x d. listed x d) (least-first r.pairs o l) (first_due-is due 0 t.items is.rising)
+  -- the least pair of the index is what is due first
+  pub index-first : (o : Option Pair) → IsLeast r.pairs o → o ≡ first_due due t.items
+  index-first o l = same_first_of o (first_due due t.items) (λ x d. inr (paired x d)) (λ x d. listed x d) (least-first r.pairs o l) (first_due-is due 0 t.items is.rising)
 
 -- ---- what is due for one of two reasons
 

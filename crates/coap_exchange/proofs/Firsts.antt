@@ -51,10 +51,10 @@ module _ {A : Type 0} (test : A → Bool) where
           let later : passes test (item_at n xs) ≡ true = rw e at there in
           rw f (rest later)
 
--- ---- by a roll
+-- ---- by an index
 
 -- what passes has this key
-module _ {A : Type 0} (key : A → Option ℕ) (test : A → Bool) (id : ℕ) (only : (a : A) → is_key id (key a) ≡ false → test a ≡ false) (t : Table A) (r : OrderedIndex) (is : IsTable t) (roll : IsIndexOf key t.items t.limit r) where
+module _ {A : Type 0} (key : A → Option ℕ) (test : A → Bool) (id : ℕ) (only : (a : A) → is_key id (key a) ≡ false → test a ≡ false) (t : Table A) (r : OrderedIndex) (is : IsTable t) (index : IsIndexOf key t.items t.limit r) where
   -- none passes up to a number
   abbrev pub NoneUpTo : ℕ → Type 0
   NoneUpTo after = (m : ℕ) → m ≤ after → passes test (item_at m t.items) ≡ false
@@ -63,9 +63,9 @@ module _ {A : Type 0} (key : A → Option ℕ) (test : A → Bool) (id : ℕ) (o
   unowned None e = refl
   unowned (Some a) e = only a e
 
-  -- what isn't in the roll doesn't pass
+  -- what isn't in the index doesn't pass
   not-in : (m : ℕ) → is_in (id, m) r.pairs ≡ false → passes test (item_at m t.items) ≡ false
-  not-in m e = unowned (item_at m t.items) (sym (roll.members id m) ∙ e)
+  not-in m e = unowned (item_at m t.items) (sym (index.members id m) ∙ e)
 
   pub none-start : NoneUpTo 0
   none-start = λ m le. ap (passes test) (none-least m 0 t.items le is.rising)

@@ -173,7 +173,7 @@ module _ (n : ℕ) (xs ys : List (Numbered Exchange)) (at : Option Endpoint) (mo
           go false f = ap (passes (is_queued_to e)) (moves.others m f)
 
   module _ (old : OrderedIndex) (are : AreHeads xs old) where
-    -- the head that was stands in the roll
+    -- the head that was stands in the index
     pub replaced-there : IfSome (head_in xs at) (λ p. is_in p old.pairs ≡ true)
     replaced-there = head-among xs old are at
 
@@ -231,7 +231,7 @@ module _ (n : ℕ) (xs ys : List (Numbered Exchange)) (at : Option Endpoint) (mo
       head-some : (zs : List (Numbered Exchange)) (p : Pair) (a : Option Endpoint) (e : Endpoint) → a ≡ Some e → head_at zs e ≡ Some p → is_some_pair p (head_in zs a) ≡ true
       head-some zs p a e f g = rw (f, g) (pair_itself p)
 
-      -- only heads stand in the roll
+      -- only heads stand in the index
       replaced-only : (p : Pair) → is_in p new.pairs ≡ true → (e : Endpoint) × (head_at ys e ≡ Some p)
       replaced-only p there = go (is_some_pair p (head_in ys at)) refl (is_some_pair p (head_in xs at)) refl (sym (replaced p) ∙ there)
         where
@@ -266,15 +266,15 @@ module _ (n : ℕ) (xs ys : List (Numbered Exchange)) (at : Option Endpoint) (mo
           go false true f never there = absurd (never f)
           go false false f never there = there
 
-      -- so the roll keeps step
+      -- so the index keeps step
       pub heads-moved : length new.pairs ≤ new.limit → AreHeads ys new
       heads-moved room = record { only = replaced-only; all = replaced-all; room = room }
 
 -- ---- all of them change
 
 -- the heads of tables in which as many are sent and the same ones wait are the same
-pub heads-same : (xs ys : List (Numbered Exchange)) (roll : OrderedIndex) → ((e : Endpoint) → head_at ys e ≡ head_at xs e) → AreHeads xs roll → AreHeads ys roll
-heads-same xs ys roll same are = record {
+pub heads-same : (xs ys : List (Numbered Exchange)) (index : OrderedIndex) → ((e : Endpoint) → head_at ys e ≡ head_at xs e) → AreHeads xs index → AreHeads ys index
+heads-same xs ys index same are = record {
   only = λ p there. (let (e, h) = are.only p there in (e, same e ∙ h));
   all = λ e p h. are.all e p (sym (same e) ∙ h);
   room = are.room;

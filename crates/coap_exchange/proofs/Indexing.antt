@@ -100,7 +100,7 @@ module _ {A : Type 0} where
         );
   }
 
--- ---- what a roll keeps
+-- ---- what an index keeps
 
 module _ {A : Type 0} (key_of : A → Option ℕ) where
   pub one-owned : (o : Option A) → one_if (passes (λ a. is_some (key_of a)) o) ≡ one_of (key_at key_of o)
@@ -115,8 +115,8 @@ module _ {A : Type 0} (key_of : A → Option ℕ) where
   empty-is limit = record { members = λ o n. refl; length = refl; limit = refl }
 
   -- there is room for what an item comes to be
-  pub can-pass : (n limit : ℕ) (xs ys : List (Numbered A)) (roll : OrderedIndex) → Moves n xs ys → length ys ≤ limit → IsIndexOf key_of xs limit roll → CanRekey roll n (key_at key_of (item_at n xs)) (key_at key_of (item_at n ys))
-  can-pass n limit xs ys roll moves few is = record {
+  pub can-pass : (n limit : ℕ) (xs ys : List (Numbered A)) (index : OrderedIndex) → Moves n xs ys → length ys ≤ limit → IsIndexOf key_of xs limit index → CanRekey index n (key_at key_of (item_at n xs)) (key_at key_of (item_at n ys))
+  can-pass n limit xs ys index moves few is = record {
     key = λ o. is.members o n;
     room = (
         let counted = moves.counts (λ a. is_some (key_of a)) in

@@ -208,7 +208,7 @@ module _ (nstart : ℕ) (xs : List (Numbered Exchange)) (send_queue : SendQueue)
       go true e true f = inl (rw (e, f) refl)
       go false e c f = inl (rw e refl)
 
-  -- the head of its endpoint stands in the roll
+  -- the head of its endpoint stands in the index
   head-in : (m : ℕ) (y : Exchange) → item_at m xs ≡ Some y → is_queued y ≡ true → (h : ℕ) × (is_in (count (is_sent_to y.key.target.at) xs, h) send_queue.heads.pairs ≡ true) × (h ≤ m)
   head-in m y there q =
       let (h, e, le) = head-there xs r m y there q in
@@ -308,7 +308,7 @@ pub without-off : (n : ℕ) (xs : List (Numbered Exchange)) → passes is_queued
 without-off n xs = ap (passes is_queued) (without-gone n xs)
 
 module _ (n : ℕ) (xs ys : List (Numbered Exchange)) (at : Option Endpoint) (moves : Moves n xs ys) (rx : IsRising 0 xs) (ry : IsRising 0 ys) (wx : IsAt at (item_at n xs)) (wy : IsAt at (item_at n ys)) (send_queue : SendQueue) (are : IsSendQueue xs send_queue) where
-  -- the head that comes doesn't stand in the roll, unless it was there
+  -- the head that comes doesn't stand in the index, unless it was there
   pub send_queue-free : IfSome (head_in ys at) (λ p. is_in p send_queue.heads.pairs ≡ true → head_in xs at ≡ Some p)
   send_queue-free = replaced-free n xs ys at moves rx ry wx wy send_queue.heads are.heads
 
@@ -368,7 +368,7 @@ module _ (t : Table Exchange) (x : Exchange) (is : IsTable t) (little : length t
   at-new : IsAt (Some x.key.target.at) (item_at (t.admitted + 1) (admitted_to x t).items)
   at-new = subst (IsAt (Some x.key.target.at)) (sym (push-at (t.admitted + 1) t.items x (item_at-fresh t is))) refl
 
-  -- the head that comes doesn't stand in the roll, unless it was there
+  -- the head that comes doesn't stand in the index, unless it was there
   pub admitted-free : IfSome (head_at (admitted_to x t).items x.key.target.at) (λ p. is_in p send_queue.heads.pairs ≡ true → head_at t.items x.key.target.at ≡ Some p)
   admitted-free = replaced-free (t.admitted + 1) t.items (admitted_to x t).items (Some x.key.target.at) (moves-admitted t x is) is.rising (admitted-is t x is little).rising at-fresh at-new send_queue.heads are.heads
 

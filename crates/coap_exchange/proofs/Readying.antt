@@ -66,11 +66,12 @@ unawaited e w h = go w.state h
     go (Waiting n) f = ne_eqb n e (λ g. eqb-false e n f (sym g))
     go (Delivering bytes id timer) f = refl
 
+-- the next number of an exchange, from the start, is that of the first who waits for it
 pub first-waiting : (e : ℕ) (t : Table Waiter) (r : OrderedIndex) → IsTable t → IsIndexOf awaited_of t.items t.limit r → (o : Option ℕ) → IsNextOf e 0 r.pairs o → o ≡ first_that (waits_for e) t.items
-first-waiting e t r is roll None next = sym (first-missing awaited_of (waits_for e) e (unawaited e) t r is roll 0 (none-start awaited_of (waits_for e) e (unawaited e) t r is roll) next)
-first-waiting e t r is roll (Some n) next =
-    let there : is_key e (key_at awaited_of (item_at n t.items)) ≡ true = sym (roll.members e n) ∙ next.1 in
-    sym (first-found awaited_of (waits_for e) e (unawaited e) t r is roll 0 n (none-start awaited_of (waits_for e) e (unawaited e) t r is roll) next (on (item_at n t.items) there))
+first-waiting e t r is index None next = sym (first-missing awaited_of (waits_for e) e (unawaited e) t r is index 0 (none-start awaited_of (waits_for e) e (unawaited e) t r is index) next)
+first-waiting e t r is index (Some n) next =
+    let there : is_key e (key_at awaited_of (item_at n t.items)) ≡ true = sym (index.members e n) ∙ next.1 in
+    sym (first-found awaited_of (waits_for e) e (unawaited e) t r is index 0 n (none-start awaited_of (waits_for e) e (unawaited e) t r is index) next (on (item_at n t.items) there))
   where
     on : (o : Option Waiter) → is_key e (key_at awaited_of o) ≡ true → passes (waits_for e) o ≡ true
     on None h = absurd cc
@@ -115,18 +116,18 @@ module _ (t : Tables) (is : IsTable t.waiters) where
 
 -- ---- the first of all
 
-module _ (t : Tables) (is : IsTable t.waiters) (roll : OrderedIndex) (are : AreReady t roll) where
+module _ (t : Tables) (is : IsTable t.waiters) (index : OrderedIndex) (are : AreReady t index) where
   abbrev IsAnswered : Option Pair → Type 0
   IsAnswered x = IsDueIn (answered_of t.exchanges.items) t.waiters.items x
 
   -- whose exchange is answered is not before the one that is ready for it
-  ready-before : (n e at : ℕ) (w : Waiter) → item_at n t.waiters.items ≡ Some w → awaited_of w ≡ Some e → got_in e t.exchanges.items ≡ Some at → (h : ℕ) × (is_in (at, h) roll.pairs ≡ true) × (h ≤ n)
+  ready-before : (n e at : ℕ) (w : Waiter) → item_at n t.waiters.items ≡ Some w → awaited_of w ≡ Some e → got_in e t.exchanges.items ≡ Some at → (h : ℕ) × (is_in (at, h) index.pairs ≡ true) × (h ≤ n)
   ready-before n e at w there waits got = go (first_that (waits_for e) t.waiters.items) refl (that-is (waits_for e) 0 t.waiters.items is.rising)
     where
       on : passes (waits_for e) (item_at n t.waiters.items) ≡ true
       on = whom-waits e (item_at n t.waiters.items) (ap awaited_by there ∙ waits)
 
-      go : (o : Option ℕ) → first_that (waits_for e) t.waiters.items ≡ o → IsThat (waits_for e) t.waiters.items o → (h : ℕ) × (is_in (at, h) roll.pairs ≡ true) × (h ≤ n)
+      go : (o : Option ℕ) → first_that (waits_for e) t.waiters.items ≡ o → IsThat (waits_for e) t.waiters.items o → (h : ℕ) × (is_in (at, h) index.pairs ≡ true) × (h ≤ n)
       go None f that = absurd (let off = that n in let here = on in cc)
       go (Some h) f that = (h, are.all e (at, h) (rw (got, f) refl), least (leb h n) refl)
         where
@@ -134,10 +135,11 @@ module _ (t : Tables) (is : IsTable t.waiters) (roll : OrderedIndex) (are : AreR
           least true g = leb-true h n g
           least false g = absurd (let off = that.1 n (omega (arith, leb-false h n g)) in let here = on in cc)
 
-  ready-least : (o : Option Pair) → IsLeast roll.pairs o → (x : Option Pair) → IsAnswered x → sooner o x ≡ o
+  -- what is answered comes no sooner than the least pair
+  ready-least : (o : Option Pair) → IsLeast index.pairs o → (x : Option Pair) → IsAnswered x → sooner o x ≡ o
   ready-least o least x d = let (n, w, there, e) = d in go n w there (answered_of t.exchanges.items w) refl e
     where
-      under : (n at h : ℕ) → is_in (at, h) roll.pairs ≡ true → h ≤ n → (q : Option Pair) → IsLeast roll.pairs q → sooner q (Some (at, n)) ≡ q
+      under : (n at h : ℕ) → is_in (at, h) index.pairs ≡ true → h ≤ n → (q : Option Pair) → IsLeast index.pairs q → sooner q (Some (at, n)) ≡ q
       under n at h i le None none = absurd (let f : is_in (at, h) [] ≡ true = rw none at i in cc)
       under n at h i le (Some p) first =
           let off = first.1 (at, h) i in
@@ -150,7 +152,8 @@ module _ (t : Tables) (is : IsTable t.waiters) (roll : OrderedIndex) (are : AreR
           let (h, i, le) = ready-before n k at w there waits got in
           rw e (under n at h i le o least)
 
-  ready-there : (o : Option Pair) → IsLeast roll.pairs o → (o ≡ None) ⊎ IsAnswered o
+  -- and the least pair is answered
+  ready-there : (o : Option Pair) → IsLeast index.pairs o → (o ≡ None) ⊎ IsAnswered o
   ready-there None least = inl refl
   ready-there (Some p) least =
       let (e, h) = are.only p least.0 in
@@ -160,7 +163,7 @@ module _ (t : Tables) (is : IsTable t.waiters) (roll : OrderedIndex) (are : AreR
       inr (p.1, w, there, ap (as_due p.1) (sym (waits-answered t.exchanges.items w e waits ∙ parts.0)))
 
   -- the first that is ready is the first whose exchange is answered
-  pub ready-first : (o : Option Pair) → IsLeast roll.pairs o → o ≡ first_due (answered_of t.exchanges.items) t.waiters.items
+  pub ready-first : (o : Option Pair) → IsLeast index.pairs o → o ≡ first_due (answered_of t.exchanges.items) t.waiters.items
   ready-first o least = same_first o (first_due (answered_of t.exchanges.items) t.waiters.items) (λ x d. d) (λ x d. d) (record { least = ready-least o least; there = ready-there o least }) (first_due-is (answered_of t.exchanges.items) 0 t.waiters.items is.rising)
 
 -- ---- one exchange gets another that is ready
@@ -183,6 +186,7 @@ some-ready t p (Some e) f = go (ready_at t e) refl f
     go None g h = absurd cc
     go (Some q) g h = (e, refl, g ∙ ap (λ (x : Pair). Some x) (sym (pair_only p q h)))
 
+-- what is ready at an exchange is ready in it
 ready-some : (t : Tables) (p : Pair) (a : Option ℕ) (e : ℕ) → a ≡ Some e → ready_at t e ≡ Some p → is_some_pair p (ready_in t a) ≡ true
 ready-some t p a e f g = rw (f, g) (pair_itself p)
 
@@ -192,10 +196,10 @@ ready-at t None p f = absurd cc
 ready-at t (Some e) p f = (e, refl, f)
 
 -- what is ready for an exchange is among them
-pub ready-among : (t : Tables) (roll : OrderedIndex) → AreReady t roll → (at : Option ℕ) → IfSome (ready_in t at) (λ p. is_in p roll.pairs ≡ true)
-ready-among t roll are at = go (ready_in t at) refl
+pub ready-among : (t : Tables) (index : OrderedIndex) → AreReady t index → (at : Option ℕ) → IfSome (ready_in t at) (λ p. is_in p index.pairs ≡ true)
+ready-among t index are at = go (ready_in t at) refl
   where
-    go : (o : Option Pair) → ready_in t at ≡ o → IfSome o (λ p. is_in p roll.pairs ≡ true)
+    go : (o : Option Pair) → ready_in t at ≡ o → IfSome o (λ p. is_in p index.pairs ≡ true)
     go None f = tt
     go (Some p) f = let (e, a, h) = ready-at t at p f in are.all e p h
 
@@ -203,12 +207,12 @@ ready-among t roll are at = go (ready_in t at) refl
 abbrev pub AreElsewhere : Tables → Tables → Option ℕ → Type 0
 AreElsewhere old new at = (e : ℕ) → (at ≡ Some e → ⊥) → ready_at new e ≡ ready_at old e
 
-module _ (old new : Tables) (oldw : IsTable old.waiters) (neww : IsTable new.waiters) (at : Option ℕ) (elsewhere : AreElsewhere old new at) (roll : OrderedIndex) (are : AreReady old roll) where
+module _ (old new : Tables) (oldw : IsTable old.waiters) (neww : IsTable new.waiters) (at : Option ℕ) (elsewhere : AreElsewhere old new at) (index : OrderedIndex) (are : AreReady old index) where
   -- what comes isn't there, unless it was
-  pub ready-free : IfSome (ready_in new at) (λ p. is_in p roll.pairs ≡ true → ready_in old at ≡ Some p)
+  pub ready-free : IfSome (ready_in new at) (λ p. is_in p index.pairs ≡ true → ready_in old at ≡ Some p)
   ready-free = go (ready_in new at) refl
     where
-      same : (p : Pair) → ready_in new at ≡ Some p → is_in p roll.pairs ≡ true → ready_in old at ≡ Some p
+      same : (p : Pair) → ready_in new at ≡ Some p → is_in p index.pairs ≡ true → ready_in old at ≡ Some p
       same p f there =
           let (e, a, h) = ready-at new at p f in
           let (d, g) = are.only p there in
@@ -217,20 +221,21 @@ module _ (old new : Tables) (oldw : IsTable old.waiters) (neww : IsTable new.wai
             | inr k ↦ absurd (k (a ∙ ap (λ (x : ℕ). Some x) (ready-key new neww e d p p h (elsewhere d k ∙ g) refl)))
           ]
 
-      go : (o : Option Pair) → ready_in new at ≡ o → IfSome o (λ p. is_in p roll.pairs ≡ true → ready_in old at ≡ Some p)
+      go : (o : Option Pair) → ready_in new at ≡ o → IfSome o (λ p. is_in p index.pairs ≡ true → ready_in old at ≡ Some p)
       go None f = tt
       go (Some p) f = same p f
 
   -- no more are ready than wait
-  ready-apart : AreRising roll.pairs → AreApart roll.pairs
-  ready-apart r = rising-apart roll.pairs r (λ p q i j e. (let (d, f) = are.only p i in let (k, g) = are.only q j in ready-one old oldw d k p q f g e))
+  ready-apart : AreRising index.pairs → AreApart index.pairs
+  ready-apart r = rising-apart index.pairs r (λ p q i j e. (let (d, f) = are.only p i in let (k, g) = are.only q j in ready-one old oldw d k p q f g e))
 
-  ready-fewer : AreRising roll.pairs → length roll.pairs ≤ length old.waiters.items
-  ready-fewer r = apart-fewer roll.pairs old.waiters.items (ready-apart r) (λ p i. (let (d, f) = are.only p i in ready-item old oldw d p f))
+  -- no more pairs are ready than there are clients
+  ready-fewer : AreRising index.pairs → length index.pairs ≤ length old.waiters.items
+  ready-fewer r = apart-fewer index.pairs old.waiters.items (ready-apart r) (λ p i. (let (d, f) = are.only p i in ready-item old oldw d p f))
 
   -- one more too
-  ready-more : AreRising roll.pairs → (q : Pair) → ready_in new at ≡ Some q → ready_in old at ≡ None → length roll.pairs + 1 ≤ length new.waiters.items
-  ready-more r q f none = let fewer = apart-fewer (q ∷ roll.pairs) new.waiters.items (apart, ready-apart r) (λ p i. there p (is_pair p q) refl i) in omega arith
+  ready-more : AreRising index.pairs → (q : Pair) → ready_in new at ≡ Some q → ready_in old at ≡ None → length index.pairs + 1 ≤ length new.waiters.items
+  ready-more r q f none = let fewer = apart-fewer (q ∷ index.pairs) new.waiters.items (apart, ready-apart r) (λ p i. there p (is_pair p q) refl i) in omega arith
     where
       -- the others are ready for other exchanges
       stays : (p : Pair) (d : ℕ) → ready_at old d ≡ Some p → (at ≡ Some d → ⊥) × (ready_at new d ≡ Some p)
@@ -238,14 +243,14 @@ module _ (old new : Tables) (oldw : IsTable old.waiters) (neww : IsTable new.wai
           let other : at ≡ Some d → ⊥ = (λ k. let on : ready_in old at ≡ Some p = rw k g in cc) in
           (other, elsewhere d other ∙ g)
 
-      apart : (p : Pair) → is_in p roll.pairs ≡ true → q.1 ≡ p.1 → ⊥
+      apart : (p : Pair) → is_in p index.pairs ≡ true → q.1 ≡ p.1 → ⊥
       apart p i e =
           let (k, a, h) = ready-at new at q f in
           let (d, g) = are.only p i in
           let (other, now) = stays p d g in
           other (a ∙ ap (λ (x : ℕ). Some x) (ready-key new neww k d q p h now e))
 
-      there : (p : Pair) (b : Bool) → is_pair p q ≡ b → (b || is_in p roll.pairs) ≡ true → (w : Waiter) × (item_at p.1 new.waiters.items ≡ Some w)
+      there : (p : Pair) (b : Bool) → is_pair p q ≡ b → (b || is_in p index.pairs) ≡ true → (w : Waiter) × (item_at p.1 new.waiters.items ≡ Some w)
       there p true g i =
           let (k, a, h) = ready-at new at q f in
           let same : p ≡ q = pair_only p q g in
@@ -253,19 +258,19 @@ module _ (old new : Tables) (oldw : IsTable old.waiters) (neww : IsTable new.wai
       there p false g i = let (d, h) = are.only p i in ready-item new neww d p (stays p d h).1
 
   -- so there is room for what comes
-  pub ready-room : AreRising roll.pairs → new.waiters.limit ≡ old.waiters.limit → length roll.pairs + one_of (ready_in new at) ≤ roll.limit + one_of (ready_in old at)
+  pub ready-room : AreRising index.pairs → new.waiters.limit ≡ old.waiters.limit → length index.pairs + one_of (ready_in new at) ≤ index.limit + one_of (ready_in old at)
   ready-room r limit = go (ready_in new at) refl (ready_in old at) refl
     where
-      go : (o : Option Pair) → ready_in new at ≡ o → (p : Option Pair) → ready_in old at ≡ p → length roll.pairs + one_of o ≤ roll.limit + one_of p
+      go : (o : Option Pair) → ready_in new at ≡ o → (p : Option Pair) → ready_in old at ≡ p → length index.pairs + one_of o ≤ index.limit + one_of p
       go None f p g = let fewer = ready-fewer r in let within = oldw.within in let same = are.limit in omega arith
       go (Some q) f (Some p) g = let fewer = ready-fewer r in let within = oldw.within in let same = are.limit in omega arith
       go (Some q) f None g = let more = ready-more r q f g in let within = neww.within in let same = are.limit in omega arith
 
-  module _ (next : OrderedIndex) (replaced : IsReplaced roll.pairs next.pairs (ready_in old at) (ready_in new at)) where
+  module _ (next : OrderedIndex) (replaced : IsReplaced index.pairs next.pairs (ready_in old at) (ready_in new at)) where
     ready-only : (p : Pair) → is_in p next.pairs ≡ true → (e : ℕ) × (ready_at new e ≡ Some p)
     ready-only p there = go (is_some_pair p (ready_in new at)) refl (is_some_pair p (ready_in old at)) refl (sym (replaced p) ∙ there)
       where
-        go : (b : Bool) → is_some_pair p (ready_in new at) ≡ b → (c : Bool) → is_some_pair p (ready_in old at) ≡ c → (b || (not c && is_in p roll.pairs)) ≡ true → (e : ℕ) × (ready_at new e ≡ Some p)
+        go : (b : Bool) → is_some_pair p (ready_in new at) ≡ b → (c : Bool) → is_some_pair p (ready_in old at) ≡ c → (b || (not c && is_in p index.pairs)) ≡ true → (e : ℕ) × (ready_at new e ≡ Some p)
         go true f c g h = let found = some-ready new p at f in (found.0, found.2)
         go false f true g h = absurd cc
         go false f false g h =
@@ -286,13 +291,13 @@ module _ (old new : Tables) (oldw : IsTable old.waiters) (neww : IsTable new.wai
             let (d, k, g) = some-ready old p at f in
             k ∙ ap (λ (x : ℕ). Some x) (ready-key old oldw d e p p g (sym (elsewhere e l) ∙ h) refl)
 
-        go : (b : Bool) (c : Bool) → is_some_pair p (ready_in old at) ≡ c → (is_some_pair p (ready_in old at) ≡ true → ⊥) → is_in p roll.pairs ≡ true → (b || (not c && is_in p roll.pairs)) ≡ true
+        go : (b : Bool) (c : Bool) → is_some_pair p (ready_in old at) ≡ c → (is_some_pair p (ready_in old at) ≡ true → ⊥) → is_in p index.pairs ≡ true → (b || (not c && is_in p index.pairs)) ≡ true
         go true c f never there = refl
         go false true f never there = absurd (never f)
         go false false f never there = there
 
-    -- so the roll keeps step
-    pub ready-moved : next.limit ≡ roll.limit → new.waiters.limit ≡ old.waiters.limit → AreReady new next
+    -- so the index keeps step
+    pub ready-moved : next.limit ≡ index.limit → new.waiters.limit ≡ old.waiters.limit → AreReady new next
     ready-moved limit same = record { only = ready-only; all = ready-all; limit = limit ∙ are.limit ∙ sym same }
 
 -- ---- what stays where one item changes
@@ -307,6 +312,7 @@ exchange-elsewhere n t ys others e other =
 abbrev pub WaitsAt : Option ℕ → Option Waiter → Type 0
 WaitsAt at o = IfSome (awaited_by o) (λ e. at ≡ Some e)
 
+-- who waits at one exchange doesn't wait for another
 waits-off : (at : Option ℕ) (o : Option Waiter) → WaitsAt at o → (e : ℕ) → (at ≡ Some e → ⊥) → passes (waits_for e) o ≡ false
 waits-off at o is e other = go (awaited_by o) refl is
   where
@@ -335,9 +341,9 @@ waits-its o = go (awaited_by o)
 
 -- ---- nothing is answered by it
 
--- where nothing else is ready the roll stays
-pub ready-same : (t new : Tables) (roll : OrderedIndex) → ((e : ℕ) → ready_at new e ≡ ready_at t e) → new.waiters.limit ≡ t.waiters.limit → AreReady t roll → AreReady new roll
-ready-same t new roll same limit are = record {
+-- where nothing else is ready the index stays
+pub ready-same : (t new : Tables) (index : OrderedIndex) → ((e : ℕ) → ready_at new e ≡ ready_at t e) → new.waiters.limit ≡ t.waiters.limit → AreReady t index → AreReady new index
+ready-same t new index same limit are = record {
   only = λ p there. (let (e, h) = are.only p there in (e, same e ∙ h));
   all = λ e p h. are.all e p (sym (same e) ∙ h);
   limit = are.limit ∙ sym limit;
@@ -395,6 +401,7 @@ got-sent n s xs queued = go (item_at n xs) queued
     go None q = tt
     go (Some x) q = none x.state q
 
+-- an acknowledgement leaves the moment of an answer as it is
 pub got-acked : (n : ℕ) (xs : List (Numbered Exchange)) → IfSome (item_at n xs) (λ x. is_sent x ≡ true) → IfSome (item_at n xs) (λ x. got_of (acked x) ≡ got_of x)
 got-acked n xs was = go (item_at n xs) was
   where
@@ -408,6 +415,7 @@ got-acked n xs was = go (item_at n xs) was
     go None q = tt
     go (Some x) q = none x.state q
 
+-- so does a timeout
 pub got-fired : (n now : ℕ) (xs : List (Numbered Exchange)) → IfSome (item_at n xs) (λ x. got_of (fired_exchange now x) ≡ got_of x)
 got-fired n now xs = go (item_at n xs)
   where
@@ -415,6 +423,7 @@ got-fired n now xs = go (item_at n xs)
     go None = tt
     go (Some x) = refl
 
+-- and a taint
 pub got-tainted : (target : Target) (x : Exchange) → got_of (tainted_by target x) ≡ got_of x
 got-tainted target x = go (is_changed_with target x)
   where
@@ -441,6 +450,7 @@ waits-fired e now w = go w.state
     go (Waiting n) = refl
     go (Delivering bytes id timer) = refl
 
+-- a client whose timeout ended leaves who is ready as it was
 pub ready-fired : (n now : ℕ) (t : Tables) (vs : Table Waiter) → IsTable t.waiters → IsTable vs → vs.items ≡ changed_at n (fired_waiter now) t.waiters.items → (e : ℕ) → ready_at (record t { waiters = vs }) e ≡ ready_at t e
 ready-fired n now t vs old new is e = ap (ready_of (got_in e t.exchanges.items)) (that-same (waits_for e) t.waiters.items vs.items old.rising new.rising each)
   where

@@ -1,4 +1,4 @@
--- What is sought stands first of those in a roll; what is due first stands first in one.
+-- What is sought stands first of those in an index; what is due first stands first in one.
 use Rattle.std.proofs.Common.{◌≡◌, ℕ, ◌+◌, ◌-◌, ◌≤◌, ◌<◌, ◌&&◌, ◌^◌, List, [], ◌∷◌, map, min, Bool, true, false, cond, eqb, ltb, leb, Option, Some, None, refl, sym, ap, ◌∙◌, subst, arith, inl, inr}
 use Rattle.std.specs.Prelude.{◌⊎◌, not, IfSome}
 use Rattle.std.proofs.lemmas.Bool.{eqb-true, eq-eqb, ne_eqb}
@@ -78,7 +78,7 @@ module _ {A : Type 0} where
           let above : x.0 < n = (let le = passes-above test n x.0 xs r.1 h in omega arith) in
           skip test x xs (sym (head-at test x xs) ∙ none x.0 above) ∙ rest h (λ m lt. rest-none test x xs r.1 m (none m lt))
 
-  -- those before the next of a roll don't pass, and where there is no next, none does
+  -- those before the next of an index don't pass, and where there is no next, none does
   pub listed-before : (test : A → Bool) (key after n : ℕ) (xs : List (Numbered A)) (pairs : List Pair) → AreListed test key xs pairs → IsNextOf key after pairs (Some n) → ((m : ℕ) → m ≤ after → passes test (item_at m xs) ≡ false) → (m : ℕ) → m < n → passes test (item_at m xs) ≡ false
   listed-before test key after n xs pairs listed next done m lt = go (passes test (item_at m xs)) refl (leb m after) refl
     where
@@ -87,7 +87,7 @@ module _ {A : Type 0} where
       go true e true f = absurd (let none = done m (grind (arith, nat_tests)) in cc)
       go true e false f = absurd (let least : n ≤ m = next.2 m (grind (arith, nat_tests)) (listed m e) in omega arith)
 
-  -- where no number is left in the roll none passes
+  -- where no number is left in the index none passes
   pub listed-none : (test : A → Bool) (key after : ℕ) (xs : List (Numbered A)) (pairs : List Pair) → AreListed test key xs pairs → IsNextOf key after pairs None → ((m : ℕ) → m ≤ after → passes test (item_at m xs) ≡ false) → (m : ℕ) → passes test (item_at m xs) ≡ false
   listed-none test key after xs pairs listed next done m = go (passes test (item_at m xs)) refl (leb m after) refl
     where
@@ -96,19 +96,19 @@ module _ {A : Type 0} where
       go true e true f = absurd (let none = done m (grind (arith, nat_tests)) in cc)
       go true e false f = absurd (let none = next m (grind (arith, nat_tests)) in let there = listed m e in cc)
 
--- ---- the first of a roll is due first
+-- ---- the first of an index is due first
 
 module _ {A : Type 0} (key_of : A → Option ℕ) where
   -- what is due of each item
   abbrev Rows : List (Numbered A) → List (Option Pair)
   Rows xs = map (due_row key_of) xs
 
-  -- a pair stands in the roll
+  -- a pair stands in the index
   abbrev Tells : List Pair → Option Pair → Type 0
   Tells pairs None = ⊥
   Tells pairs (Some p) = is_in p pairs ≡ true
 
-  -- the least of a roll is its first
+  -- the least of an index is its first
   least-first : (pairs : List Pair) (o : Option Pair) → IsLeast pairs o → IsFirst (Tells pairs) o
   least-first pairs None e = record { least = λ x t. nothing x t; there = inl refl }
     where
@@ -150,28 +150,28 @@ module _ {A : Type 0} (key_of : A → Option ℕ) where
       go None f h = absurd cc
       go (Some q) f h = (a, refl, f ∙ ap (λ (m : ℕ). Some m) (sym (eqb-true o q h)))
 
-  -- so the first of a roll is what is due first
-  pub roll-first : (most : ℕ) (xs : List (Numbered A)) (roll : OrderedIndex) (o : Option Pair) → IsRising 0 xs → IsIndexOf key_of xs most roll → IsLeast roll.pairs o → o ≡ first_due key_of xs
-  roll-first most xs roll o r is least = same_first_of o (first_due key_of xs) (λ x t. to x t) (λ x i. from x i) (least-first roll.pairs o least) (first_of-is (Rows xs))
+  -- so the first of an index is what is due first
+  pub index-first : (most : ℕ) (xs : List (Numbered A)) (index : OrderedIndex) (o : Option Pair) → IsRising 0 xs → IsIndexOf key_of xs most index → IsLeast index.pairs o → o ≡ first_due key_of xs
+  index-first most xs index o r is least = same_first_of o (first_due key_of xs) (λ x t. to x t) (λ x i. from x i) (least-first index.pairs o least) (first_of-is (Rows xs))
     where
-      to : (x : Option Pair) → Tells roll.pairs x → (x ≡ None) ⊎ IsIn x (Rows xs)
+      to : (x : Option Pair) → Tells index.pairs x → (x ≡ None) ⊎ IsIn x (Rows xs)
       to None t = inl refl
       to (Some p) t =
           let found = key-found p.0 p.1 (item_at p.1 xs) (sym (is.members p.0 p.1) ∙ t) in
           inr (subst (λ (q : Option Pair). IsIn q (Rows xs)) (ap (λ (q : Option ℕ). as_due p.1 q) found.2) (row-in p.1 xs found.0 found.1))
 
-      from : (x : Option Pair) → IsIn x (Rows xs) → (x ≡ None) ⊎ Tells roll.pairs x
+      from : (x : Option Pair) → IsIn x (Rows xs) → (x ≡ None) ⊎ Tells index.pairs x
       from x i = let found = in-row 0 xs x r i in told x found.0 found.1 found.2 found.3 (key_of found.1) refl
         where
-          told : (y : Option Pair) (n : ℕ) (a : A) → item_at n xs ≡ Some a → y ≡ as_due n (key_of a) → (p : Option ℕ) → key_of a ≡ p → (y ≡ None) ⊎ Tells roll.pairs y
+          told : (y : Option Pair) (n : ℕ) (a : A) → item_at n xs ≡ Some a → y ≡ as_due n (key_of a) → (p : Option ℕ) → key_of a ≡ p → (y ≡ None) ⊎ Tells index.pairs y
           told y n a at e None f = inl (e ∙ ap (λ (q : Option ℕ). as_due n q) f)
           told y n a at e (Some o) f =
-              inr (subst (λ (q : Option Pair). Tells roll.pairs q) (sym (e ∙ ap (λ (q : Option ℕ). as_due n q) f)) (is.members o n ∙ ap (λ (q : Option A). is_key o (key_at key_of q)) at ∙ ap (λ (q : Option ℕ). is_key o q) f ∙ eq-eqb o o refl))
+              inr (subst (λ (q : Option Pair). Tells index.pairs q) (sym (e ∙ ap (λ (q : Option ℕ). as_due n q) f)) (is.members o n ∙ ap (λ (q : Option A). is_key o (key_at key_of q)) at ∙ ap (λ (q : Option ℕ). is_key o q) f ∙ eq-eqb o o refl))
 
   -- and it is early where all are
-  pub first-early : (most bound : ℕ) (xs : List (Numbered A)) (roll : OrderedIndex) (o : Option Pair) → IsIndexOf key_of xs most roll → IsLeast roll.pairs o → ((n : ℕ) → IfSome (item_at n xs) (λ a. IfSome (key_of a) (λ m. m ≤ bound))) → IfSome o (λ d. d.0 ≤ bound)
-  first-early most bound xs roll None is least early = tt
-  first-early most bound xs roll (Some p) is least early =
+  pub first-early : (most bound : ℕ) (xs : List (Numbered A)) (index : OrderedIndex) (o : Option Pair) → IsIndexOf key_of xs most index → IsLeast index.pairs o → ((n : ℕ) → IfSome (item_at n xs) (λ a. IfSome (key_of a) (λ m. m ≤ bound))) → IfSome o (λ d. d.0 ≤ bound)
+  first-early most bound xs index None is least early = tt
+  first-early most bound xs index (Some p) is least early =
       let found = key-found p.0 p.1 (item_at p.1 xs) (sym (is.members p.0 p.1) ∙ least.0) in
       let at = subst (λ (o : Option A). IfSome o (λ a. IfSome (key_of a) (λ m. m ≤ bound))) found.1 (early p.1) in
       subst (λ (o : Option ℕ). IfSome o (λ m. m ≤ bound)) found.2 at
@@ -274,11 +274,11 @@ openings-early xs timely n = all-at (λ x. IfSome (opening_of x) (λ m. m ≤ 2 
     each [] t = tt
     each (y ∷ ys) t = (one y.1 t.0 (not (is_missing (answer_in_state y.1.state))), each ys t.1)
 
--- ---- who stands in a roll
+-- ---- who stands in an index
 
 -- those that pass, if all of them have this key
-pub key-listed : {A : Type 0} (key_of : A → Option ℕ) (test : A → Bool) (key most : ℕ) (xs : List (Numbered A)) (roll : OrderedIndex) → ((a : A) → test a ≡ true → key_of a ≡ Some key) → IsIndexOf key_of xs most roll → AreListed test key xs roll.pairs
-key-listed {A} key_of test key most xs roll owns is = λ n e. is.members key n ∙ go (item_at n xs) e
+pub key-listed : {A : Type 0} (key_of : A → Option ℕ) (test : A → Bool) (key most : ℕ) (xs : List (Numbered A)) (index : OrderedIndex) → ((a : A) → test a ≡ true → key_of a ≡ Some key) → IsIndexOf key_of xs most index → AreListed test key xs index.pairs
+key-listed {A} key_of test key most xs index owns is = λ n e. is.members key n ∙ go (item_at n xs) e
   where
     go : (o : Option A) → passes test o ≡ true → is_key key (key_at key_of o) ≡ true
     go None e = absurd cc

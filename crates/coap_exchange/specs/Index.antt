@@ -1,4 +1,4 @@
--- What exchanges are looked up by: rolls that are kept in step with a table.
+-- What exchanges are looked up by: indexes that are kept in step with a table.
 use Rattle.std.specs.Prelude.{◌≡◌, ℕ, ◌+◌, ◌≤◌, ◌&&◌, ◌||◌, Bool, true, not, if◌then◌else◌, nat_le, map, List, length, Option, Some, None}
 use Rattle.std.specs.Option.{is_some}
 use Rattle.coap_exchange.specs.declared.exchange.Exchange.{Exchange}
@@ -14,25 +14,25 @@ use Rattle.ordered_index.specs.Ordered.{Pair, OrderedIndex, is_in, is_key, one_o
 use Rattle.coap_exchange.specs.Table.{Numbered, IsRising, count, item_at, passes}
 use Rattle.coap_exchange.specs.Waiters.{moment_of}
 
--- ---- a roll next to a table
+-- ---- an index next to a table
 
 abbrev pub key_at : {A : Type 0} → (A → Option ℕ) → Option A → Option ℕ
 key_at key_of None = None
 key_at key_of (Some a) = key_of a
 
--- the roll pairs each item's number with the item's key, if it has one
+-- the index pairs each item's number with the item's key, if it has one
 pub record IsIndexOf {A : Type 0} (key_of : A → Option ℕ) (items : List (Numbered A)) (most : ℕ)
-    (roll : OrderedIndex)
+    (index : OrderedIndex)
     : Type 0 where
   pub members :
-      (o n : ℕ) → is_in (o, n) roll.pairs ≡ is_key o (key_at key_of (item_at n items))
-  pub length : length roll.pairs ≡ count (λ a. is_some (key_of a)) items
-  pub limit : roll.limit ≡ most
+      (o n : ℕ) → is_in (o, n) index.pairs ≡ is_key o (key_at key_of (item_at n items))
+  pub length : length index.pairs ≡ count (λ a. is_some (key_of a)) items
+  pub limit : index.limit ≡ most
 
 -- a number can pass to another key, and has passed to it
-pub record CanRekey (roll : OrderedIndex) (number : ℕ) (was is : Option ℕ) : Type 0 where
-  pub key : IsKeyIn roll.pairs number was
-  pub room : length roll.pairs + one_of is ≤ roll.limit + one_of was
+pub record CanRekey (index : OrderedIndex) (number : ℕ) (was is : Option ℕ) : Type 0 where
+  pub key : IsKeyIn index.pairs number was
+  pub room : length index.pairs + one_of is ≤ index.limit + one_of was
 
 pub record HasRekeyed (old new : OrderedIndex) (number : ℕ) (was is : Option ℕ) : Type 0 where
   pub limit : new.limit ≡ old.limit
@@ -128,7 +128,7 @@ is_met (SentAs at id now) = was_sent_as at id now
 is_met (Joinable key) = is_joinable key.now
 is_met (Queued at) = is_queued_to at
 
--- the roll has the numbers of the items that pass, under this key
+-- the index has the numbers of the items that pass, under this key
 abbrev pub AreListed : {A : Type 0} → (A → Bool) → ℕ → List (Numbered A) → List Pair → Type 0
 AreListed test key items pairs =
     (n : ℕ) → passes test (item_at n items) ≡ true → is_in (key, n) pairs ≡ true

@@ -27,8 +27,8 @@ abbrev pub ready_in : Tables → Option ℕ → Option Pair
 ready_in t None = None
 ready_in t (Some number) = ready_at t number
 
--- the roll holds that of each exchange, and nothing else
-pub record AreReady (t : Tables) (roll : OrderedIndex) : Type 0 where
-  pub only : (p : Pair) → is_in p roll.pairs ≡ true → (e : ℕ) × (ready_at t e ≡ Some p)
-  pub all : (e : ℕ) (p : Pair) → ready_at t e ≡ Some p → is_in p roll.pairs ≡ true
-  pub limit : roll.limit ≡ t.waiters.limit
+-- the index holds that of each exchange, and nothing else
+pub record AreReady (t : Tables) (index : OrderedIndex) : Type 0 where
+  pub only : (p : Pair) → is_in p index.pairs ≡ true → (e : ℕ) × (ready_at t e ≡ Some p)
+  pub all : (e : ℕ) (p : Pair) → ready_at t e ≡ Some p → is_in p index.pairs ≡ true
+  pub limit : index.limit ≡ t.waiters.limit

@@ -24,7 +24,7 @@ head_in items (Some at) = head_at items at
 abbrev pub endpoint_in : Option Exchange → Option Endpoint
 endpoint_in found = option_map (λ x. x.key.target.at) found
 
--- the roll holds the heads of all endpoints, and nothing else
+-- the index holds the heads of all endpoints, and nothing else
 pub record AreHeads (items : List (Numbered Exchange)) (heads : OrderedIndex) : Type 0 where
   pub only : (p : Pair) → is_in p heads.pairs ≡ true → (at : Endpoint) × (head_at items at ≡ Some p)
   pub all : (at : Endpoint) (p : Pair) → head_at items at ≡ Some p → is_in p heads.pairs ≡ true

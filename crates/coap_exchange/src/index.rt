@@ -189,20 +189,20 @@ fn end_of(exchange: &Exchange) -> Option<u64>
     }
 }
 
-/// The number of the first exchange that is looked for. All of those are in the roll, under this
+/// The number of the first exchange that is looked for. All of those are in the index, under this
 /// key.
 pub(crate) fn first_sought(
     exchanges: &Table<IndexedExchange>,
-    roll: &HashedIndex,
+    index: &HashedIndex,
     key: u64,
     sought: &Sought,
 ) -> Option<u64>
     requires rising { IsRising 0 exchanges.now.items }
-    requires listed { AreListed (is_met sought.now) key exchanges.now.items roll.now.pairs }
+    requires listed { AreListed (is_met sought.now) key exchanges.now.items index.now.pairs }
     ensures exact { result ≡ first_that (is_met sought.now) exchanges.now.items }
 {
     let mut after = 0;
-    while let Some(number) = roll.next_of(key, after) {
+    while let Some(number) = index.next_of(key, after) {
         if is_sought_at(exchanges, number, sought) {
             return Some(number);
         }

@@ -5,7 +5,7 @@ use Rattle.std.specs.Prelude.{◌/◌}
 use Rattle.coap_target.specs.Routes.{AreRoutes}
 use Rattle.coap_model.specs.Setting.{Setting}
 use Rattle.coap_model.specs.Events.{Event, IsEvent}
-use Rattle.coap_model.specs.State.{State, Step, new_world}
+use Rattle.coap_model.specs.State.{State, Step, new_state}
 use Rattle.coap_model.specs.Step.{step_of}
 use Rattle.coap_model.specs.History.{Entry, Act, no_item, admits, moves, serves, Deed, opened_in, admitted_in}
 use Rattle.coap_model.specs.Runs.{entry_of}
@@ -65,7 +65,7 @@ keeps_step w history now draw grown event c onward fits =
     record { deeds = doing k.act e ∷ c.deeds; told = ap (λ (past : List Entry). e ∷ past) c.told; bears = k.bears }
 
 -- a new proxy has given out no ids
-new_ids-are : (setting : Setting) → Ids [] (new_world setting)
+new_ids-are : (setting : Setting) → Ids [] (new_state setting)
 new_ids-are setting = record { following = omega arith; given = λ now later. none (eqb 0 (now / 247000)); windows = λ v. omega arith; are_ids = tt }
   where
     none : (b : Bool) → ◌≡◌ {A = ℕ} (cond b 0 0) 0
@@ -73,7 +73,7 @@ new_ids-are setting = record { following = omega arith; given = λ now later. no
     none false = refl
 
 -- a new proxy carries the empty history
-pub starts : (setting : Setting) → AreRoutes setting.routes → Carries [] (new_world setting)
+pub starts : (setting : Setting) → AreRoutes setting.routes → Carries [] (new_state setting)
 starts setting are =
     record {
       deeds = [];

@@ -13,7 +13,7 @@ use Rattle.coap_model.specs.declared.report.Storing.TheVariants.{Kept, NotStored
 use Rattle.coap_model.specs.declared.report.Report.{Report}
 use Rattle.coap_limits.specs.Limits.{default_limits}
 use Rattle.coap_model.specs.Events.{arrival, tick}
-use Rattle.coap_model.specs.State.{State, Step, new_world}
+use Rattle.coap_model.specs.State.{State, Step, new_state}
 use Rattle.coap_model.specs.Step.{step_of}
 use Rattle.coap_model.specs.Runs.{Turn}
 
@@ -51,13 +51,13 @@ abbrev pub to : Outcome → Endpoint → List ℕ → Sent
 to outcome at bytes = (record { send = Some at; outcome = outcome }, bytes)
 
 abbrev pub proxy : State
-proxy = new_world
+proxy = new_state
     (record { limits = default_limits; routes = fixed_routes; first_id = 1; salt = 0 })
 
 -- a proxy with room for one exchange
 abbrev pub small_proxy : State
 small_proxy =
-    new_world (record {
+    new_state (record {
       limits = record default_limits { exchanges = 1 };
       routes = fixed_routes;
       first_id = 1;
@@ -67,7 +67,7 @@ small_proxy =
 -- a proxy whose datagrams have at most 128 bytes
 abbrev pub narrow_proxy : State
 narrow_proxy =
-    new_world (record {
+    new_state (record {
       limits = record default_limits { datagram = 128 };
       routes = fixed_routes;
       first_id = 1;
@@ -294,7 +294,7 @@ last_id_sent =
 -- ids and tokens wrap to 0 after the greatest
 abbrev pub wrapping_proxy : State
 wrapping_proxy =
-    new_world (record {
+    new_state (record {
       limits = default_limits;
       routes = fixed_routes;
       first_id = 65535;

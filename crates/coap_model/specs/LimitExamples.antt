@@ -6,14 +6,14 @@ use Rattle.coap_target.specs.Routes.{fixed_routes}
 use Rattle.coap_model.specs.declared.report.Outcome.TheVariants.{Ignored, Rejected, Refused, Opened, Overloaded, NoId, Answered, SentRequest, Delivered}
 use Rattle.coap_model.specs.declared.report.Storing.TheVariants.{Kept, NotStored}
 use Rattle.coap_limits.specs.Limits.{Limits, default_limits}
-use Rattle.coap_model.specs.State.{State, new_world}
+use Rattle.coap_model.specs.State.{State, new_state}
 use Rattle.coap_model.specs.Runs.{Turn}
 use Rattle.coap_model.specs.Examples.{get_t_as, Sent, origin, client, from, tick_at, nothing, to, proxy, get_t, answer}
 
 -- a proxy with these limits
 abbrev pub proxy_of : Limits → State
 proxy_of limits =
-    new_world (record {
+    new_state (record {
       limits = limits;
       routes = fixed_routes;
       first_id = 1;
@@ -111,7 +111,7 @@ long_datagrams_sent =
 -- ids and tokens count up from the first id and the salt
 abbrev pub later_proxy : State
 later_proxy =
-    new_world (record {
+    new_state (record {
       limits = default_limits;
       routes = fixed_routes;
       first_id = 0x1234;

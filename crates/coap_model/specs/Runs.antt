@@ -2,7 +2,7 @@
 use Rattle.std.specs.Prelude.{ℕ, ◌≤◌, Bool, List, [], ◌∷◌, map}
 use Rattle.coap_model.specs.Setting.{Setting}
 use Rattle.coap_model.specs.Events.{Event, IsEvent}
-use Rattle.coap_model.specs.State.{State, Step, new_world}
+use Rattle.coap_model.specs.State.{State, Step, new_state}
 use Rattle.coap_model.specs.Step.{step_of}
 use Rattle.coap_model.specs.History.{Entry}
 
@@ -41,7 +41,7 @@ pub record Run : Type 0 where
   pub history : List Entry
 
 abbrev pub new_run : Setting → Run
-new_run setting = record { state = new_world setting; history = [] }
+new_run setting = record { state = new_state setting; history = [] }
 
 abbrev pub step_taken : State → Taken → Step
 step_taken w t = step_of w t.turn.now t.turn.draw t.grown t.turn.event

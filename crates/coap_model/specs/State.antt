@@ -59,8 +59,8 @@ abbrev pub no_non_records : Limits → Records
 no_non_records l = no_records l.non_records l.client_non_records NON_LIFETIME
 
 -- a proxy that has done nothing
-abbrev pub new_world : Setting → State
-new_world setting = record {
+abbrev pub new_state : Setting → State
+new_state setting = record {
   setting = setting;
   exchanges = [];
   waiters = [];

@@ -12,7 +12,7 @@ ghost use Rattle.coap_model.specs.Keys.{key_sent};
 ghost use Rattle.coap_model.specs.Verdicts.{may_ask};
 ghost use Rattle.coap_forward.specs.Answers.{left_of};
 ghost use Rattle.coap_model.specs.Events.{tick, arrival, Event, IsEvent};
-ghost use Rattle.coap_model.specs.State.{client_counts, counts, State, new_world};
+ghost use Rattle.coap_model.specs.State.{client_counts, counts, State, new_state};
 ghost use Rattle.coap_model.specs.Ticks.{next_due};
 ghost use Rattle.coap_model.specs.History.{Act, no_item, serves, takes, opened_in, Deed, Place, IsPlaceOf, Somewhere, Sends, Ends, Serves, LetsGo, Never, last_of, IsInOrder, IsRequestOf, Entry, grown_of, gives_id, ids_in, Gives};
 ghost use Rattle.coap_forward.specs.Messages.{told_again, brings_requests, acknowledgement};
@@ -140,7 +140,7 @@ pub fn steps_are_carried()
 pub fn new_proxies_carry_nothing()
     ensures carried { (setting : Setting)
         → AreRoutes setting.routes
-        → Carries [] (new_world setting) }
+        → Carries [] (new_state setting) }
 {}
 
 /// No step changes the limits, the routes, the first Message ID or the salt, if datagrams consist

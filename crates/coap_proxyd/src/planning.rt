@@ -1,6 +1,6 @@
 //! What the program is to do, by its words and its configuration.
 ghost use Rattle.std.specs.Prelude.{◌≡◌, IfOk, Ok, option_map, string_bytes};
-ghost use Rattle.coap_model.specs.State.{new_world};
+ghost use Rattle.coap_model.specs.State.{new_state};
 ghost use Rattle.coap_target.specs.RouteTexts.{pair_of};
 ghost use Rattle.coap_uri.specs.Answer.{Says};
 ghost use Rattle.coap_words.specs.ConfigView as view;
@@ -162,7 +162,7 @@ pub(crate) fn core_of<S: Store + Drop>(
     first_id: u16,
     salt: u64,
 ) -> Result<Core<S>, OutOfMemory>
-    ensures { IfOk result (λ core. core ≡ new_world (spec.setting_of plan first_id salt)) }
+    ensures { IfOk result (λ core. core ≡ new_state (spec.setting_of plan first_id salt)) }
 {
     let first_id = plan.first_id.unwrap_or(first_id);
     let salt = plan.salt.unwrap_or(salt);

@@ -1,6 +1,6 @@
 //! What the program does for its plan: over an input, or over a port.
 ghost use Rattle.std.specs.Prelude.{◌≡◌, ◌<◌, ◌+◌, ◌^◌};
-ghost use Rattle.coap_model.specs.State.{new_world};
+ghost use Rattle.coap_model.specs.State.{new_state};
 ghost use Rattle.coap_proxyd.specs.Planning.{setting_of};
 ghost use Rattle.coap_proxyd.specs.Serving as spec;
 
@@ -37,7 +37,7 @@ pub fn serve_events<R: Read + Drop, W: Write, S: Store + Drop>(
     input: R,
     output: &mut Output<W>,
 ) -> Result<(), Fault>
-    ensures { spec.IsServed (spec.turns_of plan) (new_world (setting_of plan 1 0))
+    ensures { spec.IsServed (spec.turns_of plan) (new_state (setting_of plan 1 0))
         (R.remaining input) (W.contents output.old.writer) (W.contents output.new.writer) result }
 {
     serve_events_watched::<_, _, S, _>(alloc, seed, plan, input, output, &mut Unwatched)
@@ -56,9 +56,9 @@ pub fn serve_events_watched<R: Read + Drop, W: Write, S: Store + Drop, V: Watch>
     output: &mut Output<W>,
     watcher: &mut V,
 ) -> Result<(), Fault>
-    ensures served { spec.IsServed (spec.turns_of plan) (new_world (setting_of plan 1 0))
+    ensures served { spec.IsServed (spec.turns_of plan) (new_state (setting_of plan 1 0))
         (R.remaining input) (W.contents output.old.writer) (W.contents output.new.writer) result }
-    ensures told { spec.IsTold V.sees (new_world (setting_of plan 1 0)) watcher.old watcher.new }
+    ensures told { spec.IsTold V.sees (new_state (setting_of plan 1 0)) watcher.old watcher.new }
 {
     let turns = turns_of(&plan);
     let Ok(mut core) = core_of::<S>(alloc, seed, plan, 1, 0) else {
@@ -112,7 +112,7 @@ pub fn serve_port<P: Port, S: Store + Drop>(
 ) -> Result<(), Fault>
     requires failures { P.failures port.old < 2 ^ 63 }
     ensures { spec.IsServedOver (P.gives (plan.limits.datagram + 1)) P.takes P.clock P.failures
-        (spec.turns_of plan) (new_world (setting_of plan first_id salt)) port.old port.new result }
+        (spec.turns_of plan) (new_state (setting_of plan first_id salt)) port.old port.new result }
 {
     let turns = turns_of(&plan);
     let Ok(mut core) = core_of::<S>(alloc, seed, plan, first_id, salt) else {
@@ -137,7 +137,7 @@ pub fn serve_watched<P: Port, S: Store + Drop, W: Watch>(
 ) -> Result<Counts, Fault>
     requires failures { P.failures port.old < 2 ^ 63 }
     ensures { spec.IsWatchedOver (P.gives (plan.limits.datagram + 1)) P.takes W.sees P.clock
-        P.failures (spec.turns_of plan) (new_world (setting_of plan first_id salt))
+        P.failures (spec.turns_of plan) (new_state (setting_of plan first_id salt))
         port.old watcher.old port.new watcher.new result }
 {
     let turns = turns_of(&plan);

@@ -2,7 +2,7 @@
 //! of `coap_port`.
 ghost use Rattle.std.specs.Prelude.{◌≡◌, ◌∷◌, [], None, Some, false, true};
 ghost use Rattle.coap_model.specs.Setting.{Setting};
-ghost use Rattle.coap_model.specs.State.{State, new_world};
+ghost use Rattle.coap_model.specs.State.{State, new_state};
 ghost use Rattle.coap_port.specs.Driven.{stats_of, wait_for};
 ghost use Rattle.coap_port.specs.Stats.{no_stats, with_turn};
 ghost use Rattle.test_ports.specs.Computed.{counts, tick_given};
@@ -33,5 +33,5 @@ pub fn counted()
     ensures two_lost { (w : State)
         → stats_of w (tick_given true ∷ tick_given true ∷ []) ≡ counts 2 0 0 2 }
     ensures one_lost { (s : Setting)
-        → stats_of (new_world s) (tick_given true ∷ tick_given false ∷ []) ≡ counts 2 0 0 1 }
+        → stats_of (new_state s) (tick_given true ∷ tick_given false ∷ []) ≡ counts 2 0 0 1 }
 {}

@@ -1,7 +1,7 @@
 use Rattle.std.proofs.Common.{◌≡◌, ◌+◌, ℕ, Bool, List, Result, inr, refl, subst}
 use Rattle.coap_endpoint.specs.declared.endpoint.Endpoint.{Endpoint}
 use Rattle.coap_model.specs.Runs.{Turn}
-use Rattle.coap_model.specs.State.{State, new_world}
+use Rattle.coap_model.specs.State.{State, new_state}
 use Rattle.coap_port.specs.Driven.{Ends}
 use Rattle.coap_port.specs.declared.error.DriveError.{DriveError}
 use Rattle.coap_port.specs.declared.stats.Stats.{Stats}
@@ -25,5 +25,5 @@ driven gives takes clock failures turns asked proxy core after p q r new same en
 pub returns : goal.returns
 returns g c =
     rw c.driven.ensures
-    (driven g.P.Port.gives g.P.Port.takes g.P.Port.clock g.P.Port.failures _ _ (new_world (setting_of c.args.plan c.args.first_id c.args.salt)) c.in-Ok.core _ c.args.port.now c.drive.new.port c.drive.result
+    (driven g.P.Port.gives g.P.Port.takes g.P.Port.clock g.P.Port.failures _ _ (new_state (setting_of c.args.plan c.args.first_id c.args.salt)) c.in-Ok.core _ c.args.port.now c.drive.new.port c.drive.result
     c.in-Ok.ensures c.turns_of-turns.ensures c.drive.ensures.ends)

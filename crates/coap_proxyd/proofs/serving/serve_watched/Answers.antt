@@ -1,7 +1,7 @@
 use Rattle.std.proofs.Common.{◌≡◌, ◌+◌, ℕ, Bool, List, Result, inr, refl, subst}
 use Rattle.coap_endpoint.specs.declared.endpoint.Endpoint.{Endpoint}
 use Rattle.coap_model.specs.Runs.{Turn}
-use Rattle.coap_model.specs.State.{State, new_world}
+use Rattle.coap_model.specs.State.{State, new_state}
 use Rattle.coap_watch.specs.Told.{Told}
 use Rattle.coap_port.specs.Driven.{EndsWatched}
 use Rattle.coap_port.specs.declared.error.DriveError.{DriveError}
@@ -26,5 +26,5 @@ driven gives takes sees clock failures turns asked proxy core after p q a b r ne
 pub returns : goal.returns
 returns g c =
     rw c.counted.ensures
-    (driven g.P.Port.gives g.P.Port.takes g.W.Watch.sees g.P.Port.clock g.P.Port.failures _ _ (new_world (setting_of c.args.plan c.args.first_id c.args.salt)) c.in-Ok.core _ c.args.port.now c.drive_watched-driven.new.port
+    (driven g.P.Port.gives g.P.Port.takes g.W.Watch.sees g.P.Port.clock g.P.Port.failures _ _ (new_state (setting_of c.args.plan c.args.first_id c.args.salt)) c.in-Ok.core _ c.args.port.now c.drive_watched-driven.new.port
     c.args.watcher.now c.drive_watched-driven.new.watcher c.drive_watched-driven.result c.in-Ok.ensures c.turns_of-turns.ensures c.drive_watched-driven.ensures.ends)

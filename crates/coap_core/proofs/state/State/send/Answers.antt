@@ -9,7 +9,7 @@ use Rattle.coap_model.specs.declared.report.Outcome.TheVariants.{SentRequest}
 use Rattle.coap_model.specs.State.{State, next_id, later}
 use Rattle.coap_core.specs.Steps.{sending_at, form_at}
 use Rattle.coap_core.proofs.Keeping.{id-for-queued}
-use Rattle.coap_core.proofs.Ticking.{sent-form, sent-world}
+use Rattle.coap_core.proofs.Ticking.{sent-form, sent-state}
 use Rattle.coap_core.proofs.state.State.send.Goals as goal
 
 pub take_id-id-requires : goal.take_id-id-requires
@@ -42,6 +42,6 @@ returns g c =
     let form : form_at c.args.due.number (changed_at c.args.due.number (sent s) w.exchanges) ≡ (sending_at w c.args.now c.args.draw c.args.due.number).bytes = sent-form w c.args.now c.args.draw c.args.due.number s x found c.take_id-id.ensures.id in
     let put : c.put_form.new.out ≡ holding c.args.out.now (form_at c.args.due.number (changed_at c.args.due.number (sent s) w.exchanges)) = rw (c.send.ensures.sent, items) at c.put_form.ensures in
     let after : c.advance.new.self ≡ later (record v { exchanges = changed_at c.args.due.number (sent s) v.exchanges }) c.args.now = rw (← c.self-2.view_is) (rw c.send.ensures.sent at c.advance.ensures) in
-    let state : c.advance.new.self ≡ (sends w c.args.now c.args.draw c.args.due.number x).state = after ∙ sent-world w v c.args.now c.args.draw c.args.due.number s x found c.take_id-id.ensures.given is in
+    let state : c.advance.new.self ≡ (sends w c.args.now c.args.draw c.args.due.number x).state = after ∙ sent-state w v c.args.now c.args.draw c.args.due.number s x found c.take_id-id.ensures.given is in
     let bytes : c.put_form.new.out ≡ holding c.args.out.now (sending_at w c.args.now c.args.draw c.args.due.number).bytes = put ∙ ap (λ (b : List ℕ). holding c.args.out.now b) form in
     rw found ((λ i. record { send = Some (c.requires.queued.to i); outcome = SentRequest }), rw found at bytes, state)

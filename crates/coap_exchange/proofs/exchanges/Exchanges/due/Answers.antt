@@ -1,7 +1,7 @@
 use Rattle.std.proofs.Common.{◌≡◌, ◌^◌, sym}
 use Rattle.coap_exchange.specs.Due.{first_due}
 use Rattle.coap_exchange.specs.Index.{opening_of, end_of}
-use Rattle.coap_exchange.proofs.Seeking.{first-early, openings-early, roll-first, split-due}
+use Rattle.coap_exchange.proofs.Seeking.{first-early, openings-early, index-first, split-due}
 use Rattle.coap_exchange.proofs.exchanges.Exchanges.due.Goals as goal
 
 pub later-deadline-requires-clause-early : goal.later-deadline-requires-clause-early
@@ -10,8 +10,8 @@ later-deadline-requires-clause-early c =
 
 pub returns : goal.returns
 returns c =
-    let opening : c.first.result ≡ first_due opening_of c.self.inside.table.items = roll-first opening_of c.self.inside.table.limit c.self.inside.table.items c.self.inside.index.openings c.first.result c.self.invariant.2.rising c.self.invariant.2.openings c.first.ensures.exact in
-    let end : c.first-end.result ≡ first_due end_of c.self.inside.table.items = roll-first end_of c.self.inside.table.limit c.self.inside.table.items c.self.inside.index.ends c.first-end.result c.self.invariant.2.rising c.self.invariant.2.ends c.first-end.ensures.exact in
+    let opening : c.first.result ≡ first_due opening_of c.self.inside.table.items = index-first opening_of c.self.inside.table.limit c.self.inside.table.items c.self.inside.index.openings c.first.result c.self.invariant.2.rising c.self.invariant.2.openings c.first.ensures.exact in
+    let end : c.first-end.result ≡ first_due end_of c.self.inside.table.items = index-first end_of c.self.inside.table.limit c.self.inside.table.items c.self.inside.index.ends c.first-end.result c.self.invariant.2.rising c.self.invariant.2.ends c.first-end.ensures.exact in
     record {
       exact = rw (← c.self.view_is, c.sooner-2.ensures.exact, c.sooner.ensures.exact, c.later-deadline.ensures.exact, c.first_turn-turn.ensures.exact, opening, end) (sym (split-due c.args.nstart c.args.exchange_ms c.self.inside.table.items c.self.inside.table.items));
     }
