@@ -3,7 +3,7 @@
 
 use coap_core::{Core, LimitValues};
 use coap_endpoint::Endpoint;
-use coap_forward::answer_of;
+use coap_forward::{SentRequest, answer_of};
 use coap_message::{Code, Kind, MessageRef};
 use coap_option::{screen_request_ref, screen_response_ref};
 use coap_store::Store;
@@ -146,7 +146,11 @@ pub(crate) fn put_bad_gateway(
         put_option_number(line, bad.number)?;
         return Ok(true);
     }
-    match answer_of(alloc, most as usize, false, None, 0, response) {
+    let request = SentRequest {
+        is_get: false,
+        copy: None,
+    };
+    match answer_of(alloc, most as usize, request, 0, response) {
         Ok(answer) if answer.own => {
             line.write_all(b" 5.02 doesn't fit")?;
             Ok(true)

@@ -27,12 +27,12 @@ use crate::request_target::{CacheQuery, RequestTarget};
 use crate::state::{State, silent};
 use coap_endpoint::{Endpoint, Target};
 use coap_forward::{
-    put_bare, put_forwarded, put_stored, put_with_max_age, token_of, validating_tag,
+    Form, put_bare, put_forwarded, put_stored, put_with_max_age, token_of, validating_tag,
 };
 use coap_message::{Code, Datagram, Full, MessageRef, OutOfMemory, Pieces, Seq, Token};
 use coap_model::{Outcome, Report};
 use coap_option::screen_request_ref;
-use coap_store::{CacheKey, Store, Stored};
+use coap_store::{CacheKey, Reply, Store, Stored};
 use coap_target::laws::{requests_to_the_proxy_are_mapped, targets_fit_options};
 use coap_target::{TargetError, says_uri};
 
@@ -210,7 +210,13 @@ impl<S: Store + Drop> State<S> {
                 let id = self.reply_id(arrival.message);
                 let kind = reply_kind(arrival.message.kind());
                 let token = Token::new(arrival.message.token());
-                put_stored(arrival.now, stored, kind, id, &token, &asked.tags, out);
+                let reply = Reply {
+                    kind,
+                    id,
+                    token: &token,
+                    tags: &asked.tags,
+                };
+                put_stored(arrival.now, stored, reply, out);
                 true
             }
             _ => false,
@@ -421,7 +427,12 @@ impl<S: Store + Drop> State<S> {
     {
         let token = token_of(self.salt, self.under_way.exchanges().admitted() + 1);
         let room = self.limits.values().datagram as usize;
-        put_forwarded(&token, request, target, tag, out, room)
+        let form = Form {
+            request,
+            target,
+            tag,
+        };
+        put_forwarded(&token, form, out, room)
     }
 
     /// Refuses the request with a code.

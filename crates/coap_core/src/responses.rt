@@ -19,7 +19,7 @@ use crate::known::put_acceptance;
 use crate::state::State;
 use coap_endpoint::{Endpoint, Target};
 use coap_exchange::{Answer, Exchange, Sending};
-use coap_forward::{answer_of, created_by, is_change, is_storable, number_of};
+use coap_forward::{SentRequest, answer_of, created_by, is_change, is_storable, number_of};
 use coap_message::{Datagram, Kind, MessageRef, OutOfMemory};
 use coap_model::{Outcome, Report, Storing};
 use coap_store::{CacheKey, Put, Store, Stored};
@@ -300,8 +300,11 @@ impl<S: Store + Drop> State<S> {
             answer ≡ answer_for self.now now response.now exchange.now) }
     {
         let most = self.limits.values().datagram as usize;
-        let (to_get, copy) = (exchange.is_get, exchange.copy.as_ref());
-        answer_of(self.alloc, most, to_get, copy, now, response)
+        let request = SentRequest {
+            is_get: exchange.is_get,
+            copy: exchange.copy.as_ref(),
+        };
+        answer_of(self.alloc, most, request, now, response)
     }
 
     /// The entry to be stored for the answer of an exchange, if it may be stored.

@@ -16,7 +16,7 @@ use coap_exchange::{Exchange, ExchangeState, Fire, Sending, Timer, WaiterState};
 use coap_forward::{gateway_timeout, put_shown};
 use coap_message::{Datagram, Kind, OutOfMemory, Seq, Token};
 use coap_model::{DueItem, Outcome, Report};
-use coap_store::Store;
+use coap_store::{Reply, Store};
 
 // Does nothing: it lets a proof conclude that a token has at most eight bytes.
 fn is_short(token: &Token)
@@ -286,7 +286,13 @@ impl<S: Store + Drop> State<S> {
         let (client, kind, id) = (waiter.client, waiter.kind, self.next_id());
         let (token, tags) = (&waiter.token, &waiter.tags);
         is_short(token);
-        put_shown(now, answer, kind, awaited.is_get, id, token, tags, out);
+        let reply = Reply {
+            kind,
+            id,
+            token,
+            tags,
+        };
+        put_shown(now, answer, awaited.is_get, reply, out);
         self.record_delivery(now, draw, number, kind, out)?;
         self.take_id(now);
         self.close_if_unused(exchange);

@@ -1,9 +1,9 @@
 -- The request that is sent on, as it is written: its head, then its options, part by part.
-use Rattle.std.proofs.Common.{◌≡◌, ℕ, ◌<◌, ◌≤◌, Bool, true, false, cond, ltb, leb, List, [], ◌∷◌, ◌++◌, length, codes, map, filter, Option, Some, None, Result, Ok, Err, refl, sym, ap, ◌∙◌, subst, append_assoc, arith, lit≤, Bor}
+use Rattle.std.proofs.Common.{◌≡◌, ℕ, ◌<◌, ◌≤◌, Bool, true, false, cond, ltb, leb, List, [], ◌∷◌, ◌++◌, length, map, filter, Option, Some, None, Result, Ok, Err, refl, sym, ap, ◌∙◌, subst, append_assoc, arith, lit≤, Bor}
 use Rattle.std.specs.Prelude.{◌&&◌, IfSome, IfOk, option_map, unwrap_or}
 use Rattle.std.specs.List.{AllByRecursion}
 use Rattle.std.proofs.lemmas.Bool.{lt-leb, le-leb, leb-false, ltb-true, ltb-false, le-ltb}
-use Rattle.std.proofs.lemmas.List.{append-nil, length-append}
+use Rattle.std.proofs.lemmas.List.{length-append}
 use Rattle.coap_message.specs.declared.error.Full.{Full}
 use Rattle.coap_message.specs.declared.code.Code.{Code}
 use Rattle.coap_message.specs.declared.options.Opt.{Opt}
@@ -27,7 +27,7 @@ use Rattle.coap_forward.specs.Forms.{is_used_up, goes_on, put_in, merged, host_o
 use Rattle.coap_forward.proofs.Forms.{AreUnused, IsShortTag, AreOptions-merged, filter-put_in, sent-screened, sent-unused, sent-options, tagged-options, tagged-unused}
 use Rattle.coap_forward.specs.declared.form.Gap.{Gap}
 use Rattle.coap_forward.specs.declared.form.Gap.TheVariants.{BeforeHost, BeforePort, BeforePath, BeforeQuery, BeforeScheme, Last}
-use Rattle.coap_forward.specs.Gaps.{given, is_in, floor_of, end_of, others_in, part_of, port_value, scheme_value, tag_options, front_options, back_options}
+use Rattle.coap_forward.specs.Gaps.{given, is_in, floor_of, end_of, others_in, port_value, scheme_value, tag_options, front_options, back_options}
 
 -- ---- writing
 

@@ -8,8 +8,10 @@ use Rattle.coap_message.specs.Message.{Message}
 use Rattle.coap_message.specs.Options.{option_of}
 use Rattle.coap_message.specs.Uint.{uint_spelling}
 use Rattle.coap_option.specs.declared.numbers.TheConstants.{URI_HOST, ETAG, URI_PORT, URI_PATH, URI_QUERY, PROXY_SCHEME}
+use Rattle.coap_option.specs.Selection.{sent_on}
 use Rattle.coap_endpoint.specs.declared.target.Target.{Target}
-use Rattle.coap_forward.specs.Forms.{goes_on}
+use Rattle.coap_forward.specs.Forms.{forwarded, goes_on, merged, tagged, target_options}
+use Rattle.coap_forward.specs.declared.form.Form.{Form}
 use Rattle.coap_forward.specs.declared.form.Gap.{Gap}
 use Rattle.coap_forward.specs.declared.form.Gap.TheVariants.{BeforeHost, BeforePort, BeforePath, BeforeQuery, BeforeScheme, Last}
 use Rattle.coap_forward.specs.declared.part.PartValues.{PartValues}
@@ -83,3 +85,21 @@ back_options t m =
     part_of m BeforePath t.path
     ++ (part_of m BeforeQuery t.query
     ++ (part_of m BeforeScheme (given (scheme_value t.port)) ++ others_in m.code Last m.options))
+
+-- the tag of a form, its options up to the Uri-Port, those after it, and all of them
+abbrev pub tag_in : Form → Option (List ℕ)
+tag_in form = option_map (λ tag. tag.now) form.tag
+
+abbrev pub front_in : Form → List Opt
+front_in form = front_options form.target.now (tag_in form) form.request.now
+
+abbrev pub back_in : Form → List Opt
+back_in form = back_options form.target.now form.request.now
+
+abbrev pub options_in : Form → List Opt
+options_in form =
+    merged (target_options form.target.now) (tagged (tag_in form) (sent_on form.request.now))
+
+-- the request with this token that is forwarded for a form, with Message ID 0
+abbrev pub request_in : Form → List ℕ → Message
+request_in form token = forwarded token form.target.now (tag_in form) form.request.now 0

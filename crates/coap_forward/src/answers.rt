@@ -5,7 +5,7 @@ ghost use Rattle.coap_message.specs.declared.code.Code.{Code};
 ghost use Rattle.coap_message.specs.declared.kind.Kind.{Kind};
 ghost use Rattle.coap_message.specs.declared.kind.Kind.TheVariants.{Non};
 ghost use Rattle.coap_option.specs.declared.numbers.TheConstants.{OBSERVE};
-ghost use Rattle.coap_forward.specs.Answers.{is_storable, without_observe, taken_of, validates, fits, answer_if_fits, answer_of, validated, left_of, left_told, bad_gateway, gateway_timeout, origin_answer, own_answer};
+ghost use Rattle.coap_forward.specs.Answers.{is_storable, without_observe, taken_of, validates, fits, answer_if_fits, answer_of, copy_in, validated, left_of, left_told, bad_gateway, gateway_timeout, origin_answer, own_answer};
 
 use coap_message::{Code, Kind, Message, MessageRef, OptionList, Options, OutOfMemory, Seq, Token};
 use coap_option::{max_age, numbers, screen_response_ref};
@@ -161,10 +161,18 @@ fn validated(
     }
 }
 
-/// The answer for a message that came in reply to a request, a GET or another method (RFC 7252,
-/// 5.7.1). What may be passed on is copied. A 2.03 to a GET renews `copy`, the stored response
-/// whose tag the request carried (RFC 7252, 5.6.2). Everything else gives 5.02; for a Reset it
-/// doesn't allocate.
+/// What the answer for a response depends on of the request that was forwarded.
+#[derive(Clone, Copy)]
+pub struct SentRequest<'c> {
+    /// Whether it is a GET.
+    pub is_get: bool,
+    /// The stored response whose tag it carried (RFC 7252, 5.6.2).
+    pub copy: Option<&'c Stored>,
+}
+
+/// The answer for a message that came in reply to a request (RFC 7252, 5.7.1). What may be passed
+/// on is copied. A 2.03 to a GET renews the stored response whose tag the request carried (RFC
+/// 7252, 5.6.2). Everything else gives 5.02; for a Reset it doesn't allocate.
 ///
 /// # Errors
 /// Out of memory.
@@ -172,30 +180,27 @@ fn validated(
 pub fn answer_of(
     alloc: Global,
     most: usize,
-    to_get: bool,
-    copy: Option<&Stored>,
+    request: SentRequest<'_>,
     now: u64,
     response: &MessageRef<'_>,
 ) -> Result<Answer, OutOfMemory>
     ensures exact { IfOk result (λ answer.
-        answer
-        ≡ answer_of most to_get (option_map (λ stored. stored.now.response) copy.entry) now
-        response.now) }
+        answer ≡ answer_of most request.entry.is_get (copy_in request.entry) now response.now) }
     ensures reset { response.now.kind ≡ Kind.Rst → IsOk result }
 {
     if response.kind() == Kind::Rst || screen_response_ref(response).is_err() {
         return Ok(bad_gateway(alloc, now));
     }
-    let valid = validates(to_get, response);
-    if valid && copy.is_none() {
+    let valid = validates(request.is_get, response);
+    if valid && request.copy.is_none() {
         return Ok(bad_gateway(alloc, now));
     }
-    let message = taken_of(alloc, to_get, response)?;
+    let message = taken_of(alloc, request.is_get, response)?;
     if !fits(&message, most) {
         return Ok(bad_gateway(alloc, now));
     }
     if valid {
-        validated(alloc, most, now, copy, &message)
+        validated(alloc, most, now, request.copy, &message)
     } else {
         Ok(origin_answer(now, message))
     }

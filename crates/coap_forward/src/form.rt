@@ -9,11 +9,10 @@ ghost use Rattle.coap_message.specs.OptRef as opt;
 ghost use Rattle.coap_message.specs.Spelling.{spelling, options_spelling};
 ghost use Rattle.coap_option.specs.declared.side.Side.{Side};
 ghost use Rattle.coap_option.specs.Screening.{first_refused};
-ghost use Rattle.coap_option.specs.Selection.{sent_on};
 ghost use Rattle.coap_endpoint.specs.Target.{IsTarget, IsShort};
 ghost use Rattle.coap_endpoint.specs.declared.target.Target.{Target};
-ghost use Rattle.coap_forward.specs.Forms.{merged, target_options, tagged, forwarded, goes_on, payload_sent, tag_if_fits, tag_to_send};
-ghost use Rattle.coap_forward.specs.Gaps.{back_options, end_of, floor_of, front_options, is_in, others_in, part_of, values_left};
+ghost use Rattle.coap_forward.specs.Forms.{goes_on, payload_sent, tag_if_fits, tag_to_send};
+ghost use Rattle.coap_forward.specs.Gaps.{back_in, end_of, floor_of, front_in, is_in, options_in, others_in, part_of, request_in, values_left};
 ghost use Rattle.coap_forward.specs.Messages.{is_method};
 ghost use Rattle.coap_forward.specs.declared.form.Gap.TheVariants as TheGap;
 
@@ -71,6 +70,25 @@ impl Gap {
             Gap::Last => u16::MAX,
         }
     }
+}
+
+/// A part of a target, and the gap before it.
+#[derive(Drop)]
+struct Part<'a> {
+    gap: Gap,
+    values: PartValues<'a>,
+}
+
+/// What a forwarded request is made of beside its token.
+#[derive(Clone, Copy)]
+pub struct Form<'f, 'a, 't> {
+    /// The request of the client.
+    pub request: &'f MessageRef<'a>,
+    /// Its target.
+    pub target: &'f Target,
+    /// The tag of the stored response that the origin may validate, sent as an ETag before all
+    /// others (RFC 7252, 5.6.2 and 5.10.6.2).
+    pub tag: Option<&'t [u8]>,
 }
 
 /// Whether an option of a request with this code is forwarded, given that no option of the request
@@ -159,54 +177,54 @@ fn put_part(
     room: usize,
     before: u16,
     request: &MessageRef<'_>,
-    gap: Gap,
-    part: PartValues<'_>,
+    part: Part<'_>,
 ) -> Result<u16, Full>
     requires room { room ≤ out.old.room }
     requires held { length out.old.bytes ≤ room }
-    requires above { before ≤ floor_of gap }
-    requires within { AllByRecursion IsShort (values_left part) }
+    requires above { before ≤ floor_of part.gap }
+    requires within { AllByRecursion IsShort (values_left part.values) }
     ensures written { Appends out.old out.new room
-        (options_spelling before (part_of request.now gap (values_left part.entry)))
+        (options_spelling before
+        (part_of request.now part.entry.gap (values_left part.entry.values)))
         (unit_of result) }
     ensures last { IfOk result (λ last.
-        last ≡ last_number before (part_of request.now gap (values_left part.entry))) }
-    ensures below { IfOk result (λ last. last ≤ end_of gap) }
+        last
+        ≡ last_number before
+        (part_of request.now part.entry.gap (values_left part.entry.values))) }
+    ensures below { IfOk result (λ last. last ≤ end_of part.entry.gap) }
     ensures in_order { AreOptions 0 request.now.options }
 {
+    let Part { gap, values } = part;
     let last = put_others(out, room, before, request, gap)?;
-    put_values(out, room, last, gap.end(), part)
+    put_values(out, room, last, gap.end(), values)
 }
 
 /// Adds the options up to the Uri-Port, and the tag right after the Uri-Host, so that it comes
 /// before other ETags.
-fn put_front(
-    out: &mut Datagram,
-    room: usize,
-    request: &MessageRef<'_>,
-    target: &Target,
-    tag: Option<&[u8]>,
-) -> Result<u16, Full>
+fn put_front(out: &mut Datagram, room: usize, form: Form<'_, '_, '_>) -> Result<u16, Full>
     requires room { room ≤ out.old.room }
     requires held { length out.old.bytes ≤ room }
-    requires target { IsTarget target.now }
-    requires short { IfSome tag (λ tag. length tag.now ≤ 8) }
-    ensures written { Appends out.old out.new room
-        (options_spelling 0
-        (front_options target.now (option_map (λ tag. tag.now) tag.entry) request.now))
+    requires target { IsTarget form.target.now }
+    requires short { IfSome form.tag (λ tag. length tag.now ≤ 8) }
+    ensures written { Appends out.old out.new room (options_spelling 0 (front_in form.entry))
         (unit_of result) }
-    ensures last { IfOk result (λ last.
-        last
-        ≡ last_number 0
-        (front_options target.now (option_map (λ tag. tag.now) tag.entry) request.now)) }
+    ensures last { IfOk result (λ last. last ≡ last_number 0 (front_in form.entry)) }
     ensures below { IfOk result (λ last. last ≤ floor_of TheGap.BeforePath) }
-    ensures in_order { AreOptions 0 request.now.options }
+    ensures in_order { AreOptions 0 form.entry.request.now.options }
 {
-    let last = put_part(out, room, 0, request, Gap::BeforeHost, host_of(target))?;
-    let last = put_values(out, room, last, numbers::ETAG, PartValues::Given(tag))?;
+    let (request, target) = (form.request, form.target);
+    let host = Part {
+        gap: Gap::BeforeHost,
+        values: host_of(target),
+    };
+    let last = put_part(out, room, 0, request, host)?;
+    let last = put_values(out, room, last, numbers::ETAG, PartValues::Given(form.tag))?;
     let bytes = u64::from(target.port.unwrap_or(0)).to_be_bytes();
-    let port = port_of(target.port, without_zeros(&bytes));
-    put_part(out, room, last, request, Gap::BeforePort, port)
+    let port = Part {
+        gap: Gap::BeforePort,
+        values: port_of(target.port, without_zeros(&bytes)),
+    };
+    put_part(out, room, last, request, port)
 }
 
 /// Adds the options after the Uri-Port.
@@ -214,52 +232,46 @@ fn put_back(
     out: &mut Datagram,
     room: usize,
     before: u16,
-    request: &MessageRef<'_>,
-    target: &Target,
+    form: Form<'_, '_, '_>,
 ) -> Result<u16, Full>
     requires room { room ≤ out.old.room }
     requires held { length out.old.bytes ≤ room }
     requires above { before ≤ floor_of TheGap.BeforePath }
-    requires target { IsTarget target.now }
-    ensures { Appends out.old out.new room
-        (options_spelling before (back_options target.now request.now)) (unit_of result) }
+    requires target { IsTarget form.target.now }
+    ensures { Appends out.old out.new room (options_spelling before (back_in form.entry))
+        (unit_of result) }
 {
-    let path = PartValues::Kept(target.path.iter());
-    let last = put_part(out, room, before, request, Gap::BeforePath, path)?;
-    let query = PartValues::Kept(target.query.iter());
-    let last = put_part(out, room, last, request, Gap::BeforeQuery, query)?;
-    let last = put_part(
-        out,
-        room,
-        last,
-        request,
-        Gap::BeforeScheme,
-        scheme_of(target),
-    )?;
+    let (request, target) = (form.request, form.target);
+    let path = Part {
+        gap: Gap::BeforePath,
+        values: PartValues::Kept(target.path.iter()),
+    };
+    let last = put_part(out, room, before, request, path)?;
+    let query = Part {
+        gap: Gap::BeforeQuery,
+        values: PartValues::Kept(target.query.iter()),
+    };
+    let last = put_part(out, room, last, request, query)?;
+    let scheme = Part {
+        gap: Gap::BeforeScheme,
+        values: scheme_of(target),
+    };
+    let last = put_part(out, room, last, request, scheme)?;
     put_others(out, room, last, request, Gap::Last)
 }
 
 /// Adds all options that are forwarded.
-fn put_form_options(
-    out: &mut Datagram,
-    room: usize,
-    request: &MessageRef<'_>,
-    target: &Target,
-    tag: Option<&[u8]>,
-) -> Result<(), Full>
+fn put_form_options(out: &mut Datagram, room: usize, form: Form<'_, '_, '_>) -> Result<(), Full>
     requires room { room ≤ out.old.room }
     requires held { length out.old.bytes ≤ room }
-    requires screened { first_refused Side.Request request.now.options ≡ None }
-    requires target { IsTarget target.now }
-    requires short { IfSome tag (λ tag. length tag.now ≤ 8) }
+    requires screened { first_refused Side.Request form.request.now.options ≡ None }
+    requires target { IsTarget form.target.now }
+    requires short { IfSome form.tag (λ tag. length tag.now ≤ 8) }
     ensures { Appends out.old out.new room
-        (options_spelling 0
-        (merged (target_options target.now)
-        (tagged (option_map (λ tag. tag.now) tag.entry) (sent_on request.now))))
-        result }
+        (options_spelling 0 (options_in form.entry)) result }
 {
-    let last = put_front(out, room, request, target, tag)?;
-    put_back(out, room, last, request, target)?;
+    let last = put_front(out, room, form)?;
+    put_back(out, room, last, form)?;
     Ok(())
 }
 
@@ -277,39 +289,33 @@ fn payload_sent<'a>(request: &MessageRef<'a>) -> &'a [u8]
 
 /// Writes the request to forward for one that passed the screening, with Message ID 0, if it is at
 /// most `room` bytes: Uri-Host, a Uri-Path for each segment and a Uri-Query for each part (RFC
-/// 7252, 5.10.1), with the other options in their places. `tag` is the tag of the stored response
-/// that the origin may validate, sent as an ETag before all others (RFC 7252, 5.6.2 and 5.10.6.2).
-/// Doesn't allocate.
+/// 7252, 5.10.1), with the other options in their places. Doesn't allocate.
 ///
 /// # Errors
 /// `Full`, exactly if it is longer than `room` bytes. Part of it may have been written then.
 #[tactic(auto, unfolding(coap_message::specs::Spelling::spelling))]
 pub fn put_forwarded(
     token: &Token,
-    request: &MessageRef<'_>,
-    target: &Target,
-    tag: Option<&[u8]>,
+    form: Form<'_, '_, '_>,
     out: &mut Datagram,
     room: usize,
 ) -> Result<(), Full>
     requires room { room ≤ out.old.room }
-    requires method { is_method request.now.code ≡ true }
-    requires screened { first_refused Side.Request request.now.options ≡ None }
-    requires target { IsTarget target.now }
-    requires short { IfSome tag (λ tag. length tag.now ≤ 8) }
+    requires method { is_method form.request.now.code ≡ true }
+    requires screened { first_refused Side.Request form.request.now.options ≡ None }
+    requires target { IsTarget form.target.now }
+    requires short { IfSome form.tag (λ tag. length tag.now ≤ 8) }
     ensures { Appends (holding out.old []) out.new room
-        (spelling
-        (forwarded token.now target.now (option_map (λ tag. tag.now) tag.entry) request.now 0))
-        result }
+        (spelling (request_in form.entry token.now)) result }
 {
     let head = Head {
         kind: Kind::Con,
-        code: request.code(),
+        code: form.request.code(),
         id: 0,
     };
     put_head(out, room, head, token)?;
-    put_form_options(out, room, request, target, tag)?;
-    put_payload(out, room, payload_sent(request))
+    put_form_options(out, room, form)?;
+    put_payload(out, room, payload_sent(form.request))
 }
 
 /// The tag that the forwarded request for a GET carries if this response is stored for its key, and

@@ -5,13 +5,22 @@
 //!
 //! ```rust
 //! let token = token_of(salt, number); // of the exchange with this number
-//! put_forwarded(&token, &request, &target, None, &mut out, 1500)?;
+//! let form = Form {
+//!     request: &request,
+//!     target: &target,
+//!     tag: None,
+//! };
+//! put_forwarded(&token, form, &mut out, 1500)?;
 //! assert_eq!(rt;
 //!     out.bytes(),
 //!     b"\x48\x01\0\0\0\0\0\0\0\0\0\x01\xB4temp".as_slice()
 //! );
 //! // its response, received at `now`
-//! let answer = answer_of(alloc, 1500, true, None, now, &response)?;
+//! let sent = SentRequest {
+//!     is_get: true,
+//!     copy: None,
+//! };
+//! let answer = answer_of(alloc, 1500, sent, now, &response)?;
 //! assert!(rt; answer.message.code == Code::CONTENT && answer.got == now);
 //! ```
 #![tactic(auto)]
@@ -23,8 +32,8 @@ mod part;
 mod token;
 mod writing;
 
-pub use answers::{answer_of, bad_gateway, gateway_timeout, is_storable};
+pub use answers::{SentRequest, answer_of, bad_gateway, gateway_timeout, is_storable};
 pub use changes::{created_by, is_change};
-pub use form::{put_forwarded, validating_tag};
+pub use form::{Form, put_forwarded, validating_tag};
 pub use token::{number_of, token_of};
 pub use writing::{put_bare, put_shown, put_stored, put_with_max_age};

@@ -5,13 +5,11 @@ ghost use Rattle.coap_message.specs.Datagram.{Appends, holding};
 ghost use Rattle.coap_message.specs.Message.{message_of};
 ghost use Rattle.coap_message.specs.Spelling.{spelling};
 ghost use Rattle.coap_store.specs.Renewing.{max_age_option};
-ghost use Rattle.coap_forward.specs.Answers.{shown_as, stored_answer};
+ghost use Rattle.coap_forward.specs.Answers.{shown_in, stored_answer};
 
 use crate::answers::left_told;
-use coap_message::{
-    Datagram, Full, Head, Kind, Options, Pieces, Token, put_head, put_message, put_payload,
-};
-use coap_store::{Answer, Stored, put_max_age, show_into};
+use coap_message::{Datagram, Full, Head, Options, Token, put_head, put_message, put_payload};
+use coap_store::{Answer, Reply, Stored, put_max_age, put_reply};
 
 // ---- the proxy's own messages
 
@@ -35,8 +33,7 @@ pub fn put_with_max_age(head: Head, token: &Token, seconds: u64, payload: &[u8],
         ≡ holding out.old
         (spelling (message_of head token.now (max_age_option seconds ∷ []) payload.now)) }
 {
-    let room = out.room();
-    if try_with_max_age(head, token, seconds, payload, out, room).is_err() {
+    if try_with_max_age(head, token, seconds, payload, out).is_err() {
         unreachable!();
     }
 }
@@ -48,12 +45,11 @@ fn try_with_max_age(
     seconds: u64,
     payload: &[u8],
     out: &mut Datagram,
-    room: usize,
 ) -> Result<(), Full>
-    requires { room ≤ out.old.room }
-    ensures { Appends (holding out.old []) out.new room
+    ensures { Appends (holding out.old []) out.new out.old.room
         (spelling (message_of head token.now (max_age_option seconds ∷ []) payload.now)) result }
 {
+    let room = out.room();
     put_head(out, room, head, token)?;
     put_max_age(out, room, 0, seconds)?;
     put_payload(out, room, payload)
@@ -61,51 +57,28 @@ fn try_with_max_age(
 
 // ---- what clients are sent
 
-/// Writes what a client with these tags is sent for an answer to a GET or another method, in a
-/// message of this type.
-pub fn put_shown(
-    now: u64,
-    answer: &Answer,
-    kind: Kind,
-    to_get: bool,
-    id: u16,
-    token: &Token,
-    tags: &Pieces,
-    out: &mut Datagram,
-)
-    requires fits { length (spelling (shown_as kind to_get now answer.now id token.now tags.now))
-        ≤ out.old.room }
-    ensures { out.new
-        ≡ holding out.old (spelling (shown_as kind to_get now answer.now id token.now tags.now)) }
+/// Writes the reply that a client is sent for an answer to a GET or another method.
+pub fn put_shown(now: u64, answer: &Answer, to_get: bool, reply: Reply<'_>, out: &mut Datagram)
+    requires fits { length (spelling (shown_in reply to_get now answer.now)) ≤ out.old.room }
+    ensures { out.new ≡ holding out.old (spelling (shown_in reply.entry to_get now answer.now)) }
 {
     let left = left_told(to_get, now, answer);
     let room = out.room();
-    if show_into(&answer.message, kind, id, token, left, tags, out, room).is_err() {
+    if put_reply(&answer.message, reply, left, out, room).is_err() {
         unreachable!();
     }
 }
 
-/// Writes what a client with these tags is sent for a stored response, the answer to a GET, in a
-/// message of this type.
-pub fn put_stored(
-    now: u64,
-    stored: &Stored,
-    kind: Kind,
-    id: u16,
-    token: &Token,
-    tags: &Pieces,
-    out: &mut Datagram,
-)
-    requires fits { length
-        (spelling (shown_as kind true now (stored_answer stored.now) id token.now tags.now))
+/// Writes the reply that a client is sent for a stored response, the answer to a GET.
+pub fn put_stored(now: u64, stored: &Stored, reply: Reply<'_>, out: &mut Datagram)
+    requires fits { length (spelling (shown_in reply true now (stored_answer stored.now)))
         ≤ out.old.room }
     ensures { out.new
-        ≡ holding out.old
-        (spelling (shown_as kind true now (stored_answer stored.now) id token.now tags.now)) }
+        ≡ holding out.old (spelling (shown_in reply.entry true now (stored_answer stored.now))) }
 {
     let left = Some(stored.left(now));
     let room = out.room();
-    if show_into(&stored.response, kind, id, token, left, tags, out, room).is_err() {
+    if put_reply(&stored.response, reply, left, out, room).is_err() {
         unreachable!();
     }
 }

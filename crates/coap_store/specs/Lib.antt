@@ -6,5 +6,6 @@ pub mod Lists
 pub mod Entries
 pub mod Renewing
 pub mod Showing
+pub mod Replies
 pub mod Writing
 pub mod Measuring

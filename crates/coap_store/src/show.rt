@@ -7,13 +7,15 @@ ghost use Rattle.coap_message.specs.Options.{last_number, option_of};
 ghost use Rattle.coap_message.specs.Spelling.{options_spelling, spelling};
 ghost use Rattle.coap_option.specs.declared.numbers.TheConstants.{ETAG, MAX_AGE};
 ghost use Rattle.coap_store.specs.Renewing.{max_age_option, with_max_age};
-ghost use Rattle.coap_store.specs.Showing.{addressed, shown, tells_age, told};
+ghost use Rattle.coap_store.specs.Replies.{carried, replied};
+ghost use Rattle.coap_store.specs.Showing.{addressed, aged, shown, tells_age, told};
 ghost use Rattle.coap_store.specs.Writing.{floor_of, is_in, part_of};
 
+use crate::reply::Reply;
 use crate::tag::held_tag;
 use coap_message::{
-    Code, Datagram, Full, Head, Kind, Message, Options, Pieces, Token, put_head, put_message,
-    put_option, put_payload, without_zeros,
+    Code, Datagram, Full, Kind, Message, Options, Pieces, Token, put_head, put_message, put_option,
+    put_payload, without_zeros,
 };
 use coap_option::numbers;
 
@@ -47,12 +49,33 @@ pub fn show_into(
         < length (spelling (addressed kind id token.now (shown message.now left tags.now)))) }
     ensures err { OnErr result (out.new ≡ holding out.old []) }
 {
-    let head = Head {
+    let reply = Reply {
         kind,
-        code: message.code,
         id,
+        token,
+        tags,
     };
-    if let Err(full) = write_shown(message, head, token, left, tags, out, room) {
+    put_reply(message, reply, left, out, room)
+}
+
+/// Does what `show_into` does: `reply` has the kind, Message ID, token and tags.
+///
+/// # Errors
+/// `Full`, exactly if it is longer than `room` bytes: the datagram is empty then.
+pub fn put_reply(
+    message: &Message,
+    reply: Reply<'_>,
+    left: Option<u32>,
+    out: &mut Datagram,
+    room: usize,
+) -> Result<(), Full>
+    requires { room ≤ out.old.room }
+    ensures ok { OnOk result
+        (out.new ≡ holding out.old (spelling (replied reply.entry message.now left))) }
+    ensures full { IsErr result ↔ (room < length (spelling (replied reply.entry message.now left))) }
+    ensures err { OnErr result (out.new ≡ holding out.old []) }
+{
+    if let Err(full) = write_shown(message, reply, left, out, room) {
         out.clear();
         return Err(full);
     }
@@ -69,26 +92,24 @@ pub fn tells_age(code: Code) -> bool
 /// Writes what the client is sent, if it is at most `room` bytes.
 fn write_shown(
     message: &Message,
-    head: Head,
-    token: &Token,
+    reply: Reply<'_>,
     left: Option<u32>,
-    tags: &Pieces,
     out: &mut Datagram,
     room: usize,
 ) -> Result<(), Full>
-    requires room { room ≤ out.old.room }
-    requires code { head.code ≡ message.now.code }
+    requires { room ≤ out.old.room }
     ensures { Appends (holding out.old []) out.new room
-        (spelling (addressed head.kind head.id token.now (shown message.now left tags.now)))
-        result }
+        (spelling (replied reply.entry message.now left)) result }
 {
     match left {
-        Some(left) if tells_age(head.code) => {
-            put_told(message, head, token, u64::from(left), tags, out, room)
+        Some(left) if tells_age(message.code) => {
+            put_told(message, reply, u64::from(left), out, room)
         }
         _ => {
+            let head = reply.head(message.code);
             let options = message.options.lent();
-            put_message(out, room, head, token, &options, message.payload.as_slice())
+            let payload = message.payload.as_slice();
+            put_message(out, room, head, reply.token, &options, payload)
         }
     }
 }
@@ -96,29 +117,25 @@ fn write_shown(
 /// Writes a response that is sent with a Max-Age.
 fn put_told(
     message: &Message,
-    head: Head,
-    token: &Token,
+    reply: Reply<'_>,
     left: u64,
-    tags: &Pieces,
     out: &mut Datagram,
     room: usize,
 ) -> Result<(), Full>
-    requires room { room ≤ out.old.room }
-    requires code { head.code ≡ message.now.code }
+    requires { room ≤ out.old.room }
     ensures { Appends (holding out.old []) out.new room
-        (spelling (addressed head.kind head.id token.now (told message.now left tags.now))) result }
+        (spelling (carried reply.entry (told message.now left reply.entry.tags.now))) result }
 {
-    match held_tag(message, tags) {
-        Some(tag) => put_valid(head, token, tag, left, out, room),
-        None => put_aged(message, head, token, left, out, room),
+    match held_tag(message, reply.tags) {
+        Some(tag) => put_valid(reply, tag, left, out, room),
+        None => put_aged(message, reply, left, out, room),
     }
 }
 
 /// Writes a 2.03 with a tag and a Max-Age.
 #[tactic(auto, unfolding(coap_message::specs::Spelling::spelling))]
 fn put_valid(
-    head: Head,
-    token: &Token,
+    reply: Reply<'_>,
     tag: &[u8],
     left: u64,
     out: &mut Datagram,
@@ -128,15 +145,10 @@ fn put_valid(
     requires short { length tag.now ≤ 8 }
     ensures { Appends (holding out.old []) out.new room
         (spelling
-        (message_of (record head { code = Code.VALID }) token.now
-        (option_of ETAG tag.now ∷ max_age_option left ∷ []) [])) result }
+        (message_of (record { kind = reply.entry.kind; code = Code.VALID; id = reply.entry.id })
+        reply.entry.token.now (option_of ETAG tag.now ∷ max_age_option left ∷ []) [])) result }
 {
-    let valid = Head {
-        kind: head.kind,
-        code: Code::VALID,
-        id: head.id,
-    };
-    put_head(out, room, valid, token)?;
+    put_head(out, room, reply.head(Code::VALID), reply.token)?;
     put_option(out, room, 0, numbers::ETAG, tag)?;
     put_max_age(out, room, numbers::ETAG, left)
 }
@@ -158,27 +170,24 @@ pub fn put_max_age(out: &mut Datagram, room: usize, before: u16, seconds: u64) -
     put_option(out, room, before, numbers::MAX_AGE, without_zeros(&bytes))
 }
 
-/// Writes a response with one Max-Age of `left` seconds, if it is at most `room` bytes: a message
-/// with this head and token, and the options and payload of the response. Doesn't allocate.
+/// Writes a response with one Max-Age of `left` seconds, if it is at most `room` bytes. Doesn't
+/// allocate.
 ///
 /// # Errors
 /// `Full`, exactly if it is longer than `room` bytes. Part of it may have been written then.
 #[tactic(auto, unfolding(coap_message::specs::Spelling::spelling))]
 fn put_aged(
     message: &Message,
-    head: Head,
-    token: &Token,
+    reply: Reply<'_>,
     left: u64,
     out: &mut Datagram,
     room: usize,
 ) -> Result<(), Full>
     requires { room ≤ out.old.room }
     ensures { Appends (holding out.old []) out.new room
-        (spelling
-        (message_of head token.now (with_max_age left message.now.options) message.now.payload))
-        result }
+        (spelling (carried reply.entry (aged message.now left))) result }
 {
-    put_head(out, room, head, token)?;
+    put_head(out, room, reply.head(message.code), reply.token)?;
     put_aged_options(out, room, &message.options.lent(), left)?;
     put_payload(out, room, message.payload.as_slice())
 }

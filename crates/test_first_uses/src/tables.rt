@@ -3,7 +3,7 @@ use crate::fixtures;
 use crate::fixtures::{CLIENT, ORIGIN};
 use coap_dedup::{EXCHANGE_LIFETIME, Records, Seen};
 use coap_exchange::{Exchanges, Sending, Timer};
-use coap_forward::{answer_of, put_forwarded, token_of};
+use coap_forward::{Form, SentRequest, answer_of, put_forwarded, token_of};
 use coap_message::{Code, Datagram, MessageRef, Seq};
 use coap_option::screen_request_ref;
 use ordered_index::OrderedIndex;
@@ -66,13 +66,22 @@ fn coap_forward(rt: HostRuntime) -> Result<(), Fail> {
     screen_request_ref(&request)?;
     assert!(rt; request.code() == Code::GET);
     let token = token_of(salt, number); // of the exchange with this number
-    put_forwarded(&token, &request, &target, None, &mut out, 1500)?;
+    let form = Form {
+        request: &request,
+        target: &target,
+        tag: None,
+    };
+    put_forwarded(&token, form, &mut out, 1500)?;
     assert_eq!(rt;
         out.bytes(),
         b"\x48\x01\0\0\0\0\0\0\0\0\0\x01\xB4temp".as_slice()
     );
     // its response, received at `now`
-    let answer = answer_of(alloc, 1500, true, None, now, &response)?;
+    let sent = SentRequest {
+        is_get: true,
+        copy: None,
+    };
+    let answer = answer_of(alloc, 1500, sent, now, &response)?;
     assert!(rt; answer.message.code == Code::CONTENT && answer.got == now);
     Ok(())
 }

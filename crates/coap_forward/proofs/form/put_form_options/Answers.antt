@@ -14,18 +14,18 @@ use Rattle.coap_forward.proofs.form.put_form_options.Goals as goal
 
 -- the parts
 abbrev tag : After-put_front → Option (List ℕ)
-tag c = option_map (λ v. v.now) c.args.tag
+tag c = option_map (λ v. v.now) c.args.form.tag
 
 abbrev front : After-put_front → List Opt
-front c = front_options c.args.target.now (tag c) c.args.request.now
+front c = front_options c.args.form.target.now (tag c) c.args.form.request.now
 
 abbrev back : After-put_front → List Opt
-back c = back_options c.args.target.now c.args.request.now
+back c = back_options c.args.form.target.now c.args.form.request.now
 
 -- what is written of them is written of all options
 all : (c : After-put_front) (new : Datagram) (r : Result (Unit {0}) Full) → Appends c.args.out.now new c.args.room (options_spelling 0 (front c ++ back c)) r
-    → Appends c.args.out.now new c.args.room (options_spelling 0 (merged (target_options c.args.target.now) (tagged (tag c) (sent_on c.args.request.now)))) r
-all c new r a = of-all c.args.target.now (tag c) c.args.request.now c.requires.target (tag-given c.args.tag c.requires.short) c.put_front.ensures.in_order c.requires.screened c.args.out.now new c.args.room r a
+    → Appends c.args.out.now new c.args.room (options_spelling 0 (merged (target_options c.args.form.target.now) (tagged (tag c) (sent_on c.args.form.request.now)))) r
+all c new r a = of-all c.args.form.target.now (tag c) c.args.form.request.now c.requires.target (tag-given c.args.form.tag c.requires.short) c.put_front.ensures.in_order c.requires.screened c.args.out.now new c.args.room r a
 
 pub returns-in_err-last : goal.returns-in_err-last
 returns-in_err-last c =

@@ -1,4 +1,4 @@
-use Rattle.std.proofs.Common.{◌≡◌, ℕ, List, ◌++◌, Option, Result, Ok, Err, ap, ◌∙◌, rules}
+use Rattle.std.proofs.Common.{◌≡◌, ℕ, List, ◌++◌, Err, ap, ◌∙◌, rules}
 use Rattle.std.specs.Prelude.{option_map, unwrap_or}
 use Rattle.std.proofs.lemmas.Result.{err_from_is_err_and}
 use Rattle.coap_message.specs.declared.options.Opt.{Opt}
@@ -6,22 +6,22 @@ use Rattle.coap_message.specs.Datagram.{unit_of}
 use Rattle.coap_message.specs.Uint.{uint_spelling}
 use Rattle.coap_forward.specs.Gaps.{given, part_of, port_value, tag_options, values_left}
 use Rattle.coap_forward.specs.declared.form.Gap.TheVariants.{BeforeHost, BeforePort}
-use Rattle.coap_forward.proofs.Gaps.{full-first, written-both, ok-both, given-short, port-bytes, port-short}
+use Rattle.coap_forward.proofs.Gaps.{full-first, written-both, ok-both, given-short, port-bytes}
 use Rattle.coap_forward.proofs.form.put_front.Goals.{After-put_part}
 use Rattle.coap_forward.proofs.form.put_front.Goals as goal
 
 -- the parts
 abbrev one : After-put_part → List Opt
-one c = part_of c.args.request.now BeforeHost (given c.args.target.now.host)
+one c = part_of c.args.form.request.now BeforeHost (given c.args.form.target.now.host)
 
 abbrev two : After-put_part → List Opt
-two c = tag_options (option_map (λ v. v.now) c.args.tag)
+two c = tag_options (option_map (λ v. v.now) c.args.form.tag)
 
 abbrev three : After-put_part → List Opt
-three c = part_of c.args.request.now BeforePort (given (port_value c.args.target.now.port))
+three c = part_of c.args.form.request.now BeforePort (given (port_value c.args.form.target.now.port))
 
 pub put_part-requires-clause-within : goal.put_part-requires-clause-within
-put_part-requires-clause-within c = rw c.host_of.ensures (given-short c.args.target.now.host c.requires.target.host)
+put_part-requires-clause-within c = rw c.host_of.ensures (given-short c.args.form.target.now.host c.requires.target.host)
 
 pub returns-in_err-last-clause-written : goal.returns-in_err-last-clause-written
 returns-in_err-last-clause-written c =
@@ -40,11 +40,11 @@ returns-in_err-last-2-clause-written c =
     (full-first hosted new new c.args.room c.in_ok-last.last (two k) (three k) c.in_err-last-2.field-0.0 p.0 c.in_err-last-2.ensures.written))
 
 -- the values of the port
-port : (c : goal.After-put_part-2) → values_left c.port_of-port.result ≡ given (port_value c.args.target.now.port)
+port : (c : goal.After-put_part-2) → values_left c.port_of.result ≡ given (port_value c.args.form.target.now.port)
 unfolding uint_spelling
 port c =
-    let bytes : c.without_zeros.result.now ≡ uint_spelling (unwrap_or c.args.target.now.port 0) = search rules in
-    c.port_of-port.ensures ∙ ap given (ap (λ (b : List ℕ). option_map (λ (n : ℕ). b) c.args.target.now.port) bytes ∙ port-bytes c.args.target.now.port)
+    let bytes : c.without_zeros.result.now ≡ uint_spelling (unwrap_or c.args.form.target.now.port 0) = search rules in
+    c.port_of.ensures ∙ ap given (ap (λ (b : List ℕ). option_map (λ (n : ℕ). b) c.args.form.target.now.port) bytes ∙ port-bytes c.args.form.target.now.port)
 
 pub returns-clause-written : goal.returns-clause-written
 returns-clause-written c =

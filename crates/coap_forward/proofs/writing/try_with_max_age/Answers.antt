@@ -12,5 +12,5 @@ returns-in_err-put_max_age c =
     let p = err_from_is_err_and c.from_residual-in_err-put_max_age.result c.from_residual-in_err-put_max_age.ensures.1 in
     let options = options_spelling 0 (max_age_option c.args.seconds ∷ []) in
     let payload = payload_spelling c.args.payload.now in
-    rw p.1 (Appends-behind (holding c.args.out.now []) c.put_head.new.out c.put_max_age.new.out c.args.room (head_spelling c.args.head c.args.token.now) (options ++ payload) tt (Err p.0) c.in_ok-put_head.ensures.written
-    (Appends-full c.put_head.new.out c.put_max_age.new.out c.args.room options payload c.in_err-put_max_age.field-0.0 p.0 c.in_err-put_max_age.ensures))
+    rw p.1 (Appends-behind (holding c.args.out.now []) c.put_head.new.out c.put_max_age.new.out c.args.out.now.room (head_spelling c.args.head c.args.token.now) (options ++ payload) tt (Err p.0) (rw c.room-room.ensures at c.in_ok-put_head.ensures.written)
+    (Appends-full c.put_head.new.out c.put_max_age.new.out c.args.out.now.room options payload c.in_err-put_max_age.field-0.0 p.0 (rw c.room-room.ensures at c.in_err-put_max_age.ensures)))
