@@ -27,7 +27,7 @@ use Rattle.coap_model.proofs.CacheExamples.{are-bytes, first_gets}
 use Rattle.coap_model.proofs.Changing.{one-getting}
 use Rattle.coap_model.proofs.ForgingHits.{first_obtained, got-elsewhere, was_unchanged}
 use Rattle.coap_model.proofs.Places.{here, request-unique}
-use Rattle.test_promises.specs.Replies.{accepting, accepting_bytes, key_accepting, key_of_part, part, part_bytes, put, put_bytes, replied_to}
+use Rattle.test_promises.specs.Replies.{accepting, accepting_bytes, key_accepting, key_of_part, part, part_bytes, put, put_bytes, replied_to, IsShownTo}
 
 -- ---- the only entry
 
@@ -54,6 +54,7 @@ put_spelled : Spells put_bytes put
 unfolding read_message body_at options_within option_at extended
 put_spelled = read_is put_bytes put (are-bytes put_bytes refl) refl
 
+-- so it is a request
 abbrev put_asked : IsRequestOf setting (client 4) put (replied_to put_bytes).event
 put_asked = record { brings = record { bytes = put_bytes; came = refl; spells = put_spelled; short = omega arith }; kind = refl; method = refl }
 
@@ -62,6 +63,7 @@ part_spelled : Spells part_bytes part
 unfolding read_message body_at options_within option_at extended
 part_spelled = read_is part_bytes part (are-bytes part_bytes refl) refl
 
+-- so it is a request
 abbrev part_asked : IsRequestOf setting (client 4) part (replied_to part_bytes).event
 part_asked = record { brings = record { bytes = part_bytes; came = refl; spells = part_spelled; short = omega arith }; kind = refl; method = refl }
 
@@ -70,71 +72,82 @@ accepting_spelled : Spells accepting_bytes accepting
 unfolding read_message body_at options_within option_at extended
 accepting_spelled = read_is accepting_bytes accepting (are-bytes accepting_bytes refl) refl
 
+-- so it is a request
 abbrev accepting_asked : IsRequestOf setting (client 4) accepting (replied_to accepting_bytes).event
 accepting_asked = record { brings = record { bytes = accepting_bytes; came = refl; spells = accepting_spelled; short = omega arith }; kind = refl; method = refl }
 
 -- ---- replies to them
 
--- it would be one if each word held
-reply-if : (bytes : List ℕ) (m : Message) (key : CacheKey) → IsRequestOf setting (client 4) m (replied_to bytes).event → Spells (replied_to bytes).bytes (at_once m (shown 25 (stored_answer (entry_of_cached first_entry).1) 4 m.token (tags_of m))) → IsGet m → verdict_on setting m ≡ may_ask key → key_of_temp ≡ key → IsFromCache setting asked_past (replied_to bytes)
-reply-if bytes m key asked told get verdict equal = record {
-  client = client 4;
-  request = m;
-  key = key;
+-- the first answer is shown to each request that its bytes answer
+shown-to : (m : Message) (key : CacheKey) (bytes : List ℕ) → IsRequestOf setting (client 4) m (replied_to bytes).event → Spells (replied_to bytes).bytes (at_once m (shown 25 (stored_answer (entry_of_cached first_entry).1) 4 m.token (tags_of m))) → verdict_on setting m ≡ may_ask key → IsShownTo m key bytes
+shown-to m key bytes asked told verdict = record {
   asked = asked;
-  method = get;
   key_is = verdict;
-  cached = first_entry;
-  equal_key = equal;
   received = first_obtained asked_past (inr (inr (inr (inr (inl refl))))) (inr (inr (inr (inl refl))));
   usable = record { fresh = refl; unchanged = was_unchanged };
-  id = 4;
   shows = record { sent = refl; spells = told };
 }
 
+-- which is a reply if the two words that are left hold
+pub reply-whole : (request : Message) (key : CacheKey) (bytes : List ℕ) → IsGet request → key_of_temp ≡ key → IsShownTo request key bytes → IsFromCache setting asked_past (replied_to bytes)
+reply-whole request key bytes get equal is = record {
+  client = client 4;
+  request = request;
+  key = key;
+  asked = is.asked;
+  method = get;
+  key_is = is.key_is;
+  cached = first_entry;
+  equal_key = equal;
+  received = is.received;
+  usable = is.usable;
+  id = 4;
+  shows = is.shows;
+}
+
+-- the bytes are an answer to the PUT, with the token that it has
 put_told : Spells (replied_to put_bytes).bytes (at_once put (shown 25 (stored_answer (entry_of_cached first_entry).1) 4 [] (tags_of put)))
 unfolding read_message body_at options_within option_at extended uint_spelling
 put_told = read_is (replied_to put_bytes).bytes _ (are-bytes (replied_to put_bytes).bytes refl) refl
 
+-- to the request of another path
 part_told : Spells (replied_to part_bytes).bytes (at_once part (shown 25 (stored_answer (entry_of_cached first_entry).1) 4 [] (tags_of part)))
 unfolding read_message body_at options_within option_at extended uint_spelling
 part_told = read_is (replied_to part_bytes).bytes _ (are-bytes (replied_to part_bytes).bytes refl) refl
 
+-- and to the request with an Accept
 accepting_told : Spells (replied_to accepting_bytes).bytes (at_once accepting (shown 25 (stored_answer (entry_of_cached first_entry).1) 4 [] (tags_of accepting)))
 unfolding read_message body_at options_within option_at extended uint_spelling
 accepting_told = read_is (replied_to accepting_bytes).bytes _ (are-bytes (replied_to accepting_bytes).bytes refl) refl
 
--- to a PUT it would be one if that were a GET
-pub put_if_get : IsGet put → IsFromCache setting asked_past (replied_to put_bytes)
+-- so the first answer is shown to the PUT
+pub put_shown : IsShownTo put key_of_temp put_bytes
 unfolding verdict_of request_target mapped_target
-put_if_get get = reply-if put_bytes put key_of_temp put_asked put_told get refl refl
+put_shown = shown-to put key_of_temp put_bytes put_asked put_told refl
 
--- but it isn't
+-- but that is no reply, since a PUT is no GET
 pub not_to_put : ¬ IsFromCache setting asked_past (replied_to put_bytes)
 not_to_put f =
     let one = request-unique setting (replied_to put_bytes).event f.client (client 4) f.request put f.asked put_asked in
     let get : is_get put.code ≡ true = subst (λ (m : Message). is_get m.code ≡ true) one.1 f.method in
     absurd (let e : false ≡ true = get in cc)
 
--- for another path it would be one if that had the key of the first answer
-pub part_if_asked : verdict_on setting part ≡ may_ask key_of_temp → IsFromCache setting asked_past (replied_to part_bytes)
-part_if_asked verdict = reply-if part_bytes part key_of_temp part_asked part_told refl verdict refl
-
--- or if the first answer had its key
-pub part_if_cached : key_of_temp ≡ key_of_part → IsFromCache setting asked_past (replied_to part_bytes)
+-- it is shown to the request of another path
+pub part_shown : IsShownTo part key_of_part part_bytes
 unfolding verdict_of request_target mapped_target
-part_if_cached equal = reply-if part_bytes part key_of_part part_asked part_told refl refl equal
+part_shown = shown-to part key_of_part part_bytes part_asked part_told refl
 
--- the key in a verdict
+-- how many path segments the key in a verdict has
 abbrev segments_of : Verdict → ℕ
 segments_of (may_ask key) = length key.target.path
 segments_of (refused_with code) = 0
 
+-- and how many options
 abbrev options_of : Verdict → ℕ
 options_of (may_ask key) = length key.options
 options_of (refused_with code) = 0
 
--- but it isn't
+-- but that is no reply, since its key has two segments
 pub not_to_part : ¬ IsFromCache setting asked_past (replied_to part_bytes)
 unfolding verdict_of request_target mapped_target
 not_to_part f =
@@ -144,14 +157,12 @@ not_to_part f =
     let cached : length f.key.target.path ≡ 1 = ap (λ (k : CacheKey). length k.target.path) same in
     omega (arith, asked, cached)
 
--- the same for the request with an Accept
-pub accepting_if_asked : verdict_on setting accepting ≡ may_ask key_of_temp → IsFromCache setting asked_past (replied_to accepting_bytes)
-accepting_if_asked verdict = reply-if accepting_bytes accepting key_of_temp accepting_asked accepting_told refl verdict refl
-
-pub accepting_if_cached : key_of_temp ≡ key_accepting → IsFromCache setting asked_past (replied_to accepting_bytes)
+-- it is shown to the request with an Accept
+pub accepting_shown : IsShownTo accepting key_accepting accepting_bytes
 unfolding verdict_of request_target mapped_target
-accepting_if_cached equal = reply-if accepting_bytes accepting key_accepting accepting_asked accepting_told refl refl equal
+accepting_shown = shown-to accepting key_accepting accepting_bytes accepting_asked accepting_told refl
 
+-- but that is no reply, since its key has an option
 pub not_to_accepting : ¬ IsFromCache setting asked_past (replied_to accepting_bytes)
 unfolding verdict_of request_target mapped_target
 not_to_accepting f =

@@ -12,7 +12,7 @@ use Rattle.coap_forward.specs.Forms.{target_options}
 use Rattle.coap_forward.specs.Messages.{is_get, token_of}
 use Rattle.coap_model.specs.Cached.{IsFetched}
 use Rattle.coap_model.specs.CacheExamples.{asks_again, first_entry, get_for, opens_again}
-use Rattle.coap_model.specs.Changed.{Changes, Unchanged, WasChanged}
+use Rattle.coap_model.specs.Changed.{to_get, Changes, Unchanged, WasChanged}
 use Rattle.coap_model.specs.Examples.{origin}
 use Rattle.coap_model.specs.Forged.{asked, opened, setting}
 use Rattle.coap_model.specs.ForgedHits.{change, change_told, changed_message, keeps_overtaken, overtaken_past}
@@ -25,7 +25,7 @@ use Rattle.coap_model.proofs.CacheExamples.{are-bytes, content_gets, first_asks,
 use Rattle.coap_model.proofs.Changing.{newest-unchanged, one-getting, told-contrary, told-stays}
 use Rattle.coap_model.proofs.ForgingHits.{early_unsent}
 use Rattle.coap_model.proofs.Places.{here}
-use Rattle.test_promises.specs.Fetches.{asks_put, error, error_bytes, get_past, gets_error, opens_put, put_past, put_sent, put_sent_bytes, quiet_past}
+use Rattle.test_promises.specs.Fetches.{asks_put, error, error_bytes, get_past, gets_error, opens_put, put_past, put_sent, put_sent_bytes, quiet_past, IsAnswerTo}
 use Rattle.test_promises.specs.Replies.{key_accepting, key_of_part}
 use Rattle.test_promises.proofs.Arriving.{fetched-by, gets-by}
 
@@ -44,10 +44,13 @@ not_part f = let two : 2 ≡ 1 = ap (λ (k : CacheKey). length k.target.path) (f
 pub not_accepting : ¬ IsFetched setting key_accepting first_entry.asking first_entry.getting
 not_accepting f = let one : 1 ≡ 0 = ap (λ (k : CacheKey). length k.options) (fetched-key key_accepting f) in omega (arith, one)
 
--- it would be for any key that the request had
-pub fetched_if_asked : (key : CacheKey) → key_of_temp ≡ key → IsFetched setting key first_entry.asking first_entry.getting
-unfolding token_of target_options target_sent key_sent spelling option_spelling uint_spelling
-fetched_if_asked key same = fetched-by default_limits key (first_gets Kept) _ refl refl same refl (newest-unchanged setting key.target (opened ∷ []) asked refl)
+-- though the target of no key was changed
+pub still_unchanged : (key : CacheKey) → Unchanged setting key.target first_entry.asking first_entry.getting.before
+still_unchanged key = newest-unchanged setting key.target (opened ∷ []) asked refl
+
+-- an answer is fetched if the two words that are left hold
+pub fetched-whole : (key : CacheKey) (asking getting : Place) (answer : IsAnswerTo key asking getting) → to_get answer.gets ≡ true → Unchanged setting key.target asking getting.before → IsFetched setting key asking getting
+fetched-whole key asking getting answer get unchanged = record { exchange = answer.exchange; gets = answer.gets; asking_is = answer.asking_is; method = get; asked_key = answer.asked_key; passed = answer.passed; unchanged = unchanged }
 
 -- ---- methods
 
@@ -60,6 +63,7 @@ error_spelled = read_is error_bytes error (are-bytes error_bytes refl) refl
 abbrev get_gets : Gets setting 1 (here get_past gets_error)
 get_gets = gets-by default_limits get_past gets_error 1 error_bytes error (here (opened ∷ []) asked) refl refl refl (inl refl) first_asks refl refl refl refl refl (are-bytes error_bytes refl) error_spelled (omega arith)
 
+-- and is fetched
 pub get_fetched : IsFetched setting key_of_temp (here (opened ∷ []) asked) (here get_past gets_error)
 unfolding token_of target_options target_sent key_sent spelling option_spelling uint_spelling
 get_fetched = fetched-by default_limits key_of_temp get_gets _ refl refl refl refl (newest-unchanged setting key_of_temp.target (opened ∷ []) asked refl)
@@ -69,9 +73,11 @@ put_spelled : Spells put_sent_bytes put_sent
 unfolding read_message body_at options_within option_at extended token_of
 put_spelled = read_is put_sent_bytes put_sent (are-bytes put_sent_bytes refl) refl
 
+-- not before
 put_unsent : Never (Sends 0 1) (opens_put ∷ [])
 put_unsent = (unsent 1 [] opens_put (λ e. cc), tt)
 
+-- so this is where it is first sent
 abbrev put_asks : Asks 0 1 (here (opens_put ∷ []) asks_put)
 put_asks = record {
   sends = record { act = refl; outcome = refl; to = origin; sent = refl; message = put_sent; spells = put_spelled; token = refl };
@@ -88,10 +94,14 @@ not_by_put f =
     let get : is_get put_sent.code ≡ true = subst (λ (m : Message). is_get m.code ≡ true) (one-getting f.gets put_gets).asked f.method in
     absurd (let e : false ≡ true = get in cc)
 
--- it would be if the PUT were a GET
-pub put_if_get : is_get put_sent.code ≡ true → IsFetched setting key_of_temp (here (opens_put ∷ []) asks_put) (here put_past gets_error)
+-- though it answers a request with the key
+pub put_answered : IsAnswerTo key_of_temp (here (opens_put ∷ []) asks_put) (here put_past gets_error)
 unfolding token_of target_options target_sent key_sent spelling option_spelling uint_spelling
-put_if_get get = fetched-by default_limits key_of_temp put_gets _ refl get refl refl (newest-unchanged setting key_of_temp.target (opens_put ∷ []) asks_put refl)
+put_answered = record { exchange = 1; gets = put_gets; asking_is = refl; asked_key = refl; passed = refl }
+
+-- and the target wasn't changed
+pub put_unchanged : Unchanged setting key_of_temp.target (here (opens_put ∷ []) asks_put) put_past
+put_unchanged = newest-unchanged setting key_of_temp.target (opens_put ∷ []) asks_put refl
 
 -- ---- changes
 
@@ -107,6 +117,7 @@ change_spelled : Spells change_told changed_message
 unfolding read_message body_at options_within option_at extended token_of
 change_spelled = read_is change_told changed_message (are-bytes change_told refl) refl
 
+-- which is of the key's target
 changed-there : Changes setting key_of_temp.target (here quiet_past change)
 unfolding changed_by token_of target_options target_sent key_sent uint_spelling spelling option_spelling
 changed-there = record {
@@ -123,10 +134,21 @@ overtaken = record { place = here quiet_past change; is_there = inl refl; holds 
 pub not_overtaken : ¬ IsFetched setting key_of_temp (here (opened ∷ []) asked) (here overtaken_past keeps_overtaken)
 not_overtaken f = told-contrary (here (opened ∷ []) asked) f.unchanged overtaken
 
--- it would be if the target were unchanged
-pub overtaken_if_unchanged : Unchanged setting key_of_temp.target (here (opened ∷ []) asked) overtaken_past → IsFetched setting key_of_temp (here (opened ∷ []) asked) (here overtaken_past keeps_overtaken)
+-- though it answers a request with the key
+pub overtaken_answered : IsAnswerTo key_of_temp (here (opened ∷ []) asked) (here overtaken_past keeps_overtaken)
 unfolding token_of target_options target_sent key_sent spelling option_spelling uint_spelling
-overtaken_if_unchanged unchanged = fetched-by default_limits key_of_temp (content_gets overtaken_past 25 1 1 Kept (here (opened ∷ []) asked) (inr (inr (inr (inl refl)))) first_asks refl refl (are-bytes (limited.got 1 1) refl) first_got (omega arith)) _ refl refl refl refl unchanged
+overtaken_answered = record {
+  exchange = 1;
+  gets = content_gets overtaken_past 25 1 1 Kept (here (opened ∷ []) asked) (inr (inr (inr (inl refl)))) first_asks refl refl (are-bytes (limited.got 1 1) refl) first_got (omega arith);
+  asking_is = refl;
+  asked_key = refl;
+  passed = refl;
+}
+
+-- which is a GET
+pub overtaken_get : to_get overtaken_answered.gets ≡ true
+unfolding overtaken_answered token_of target_options target_sent key_sent spelling option_spelling uint_spelling
+overtaken_get = refl
 
 -- as it is without the change
 pub quiet_fetched : IsFetched setting key_of_temp (here (opened ∷ []) asked) (here quiet_past keeps_overtaken)
@@ -144,7 +166,6 @@ not_since f =
     let one : 0 ≡ 1 = ap (λ (p : Place). length p.before) (sym f.asking_is ∙ (one-getting f.gets (first_gets Kept)).asking) in
     omega (arith, one)
 
--- it would be if that were the place
-pub since_if_asked : first_entry.asking ≡ here [] opened → IsFetched setting key_of_temp (here [] opened) first_entry.getting
-unfolding token_of target_options target_sent key_sent spelling option_spelling uint_spelling
-since_if_asked same = fetched-by default_limits key_of_temp (first_gets Kept) _ same refl refl refl (told-stays false setting key_of_temp.target (here [] opened) (opened ∷ []) asked refl (newest-unchanged setting key_of_temp.target [] opened refl))
+-- though the target wasn't changed since then
+pub earlier_unchanged : Unchanged setting key_of_temp.target (here [] opened) first_entry.getting.before
+earlier_unchanged = told-stays false setting key_of_temp.target (here [] opened) (opened ∷ []) asked refl (newest-unchanged setting key_of_temp.target [] opened refl)

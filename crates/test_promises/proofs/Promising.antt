@@ -26,7 +26,7 @@ use Rattle.coap_model.specs.Word.{IsCacheWithin, IsWithin, IsFromCache, IsToldAg
 use Rattle.coap_model.specs.WordExamples.{again, con_read}
 use Rattle.coap_model.proofs.CacheExamples.{are-bytes}
 use Rattle.coap_model.proofs.Places.{here}
-use Rattle.test_promises.specs.Promises.{acknowledges_another, begins_with_a_hit}
+use Rattle.test_promises.specs.Promises.{acknowledges_another, begins_with_a_hit, only_a_hit, IsOtherwiseWithin}
 
 -- one of the entries of a history
 abbrev nth : ℕ → List Entry → Entry
@@ -95,12 +95,12 @@ no-cache _ (hit {cached = cached} _ client request target entry is brings aims f
 no-cache _ (otherwise _ is cache) = absurd cc
 
 -- and isn't within limits
-pub not_within : ¬ IsWithin setting (reply 25 9 ∷ [])
+pub not_within : ¬ IsWithin setting only_a_hit
 not_within w = no-cache w.cache.cached w.cache.is_cache
 
--- it would be if it had one
-pub within_if_cached : IsCacheWithin setting (reply 25 9 ∷ []) → IsWithin setting (reply 25 9 ∷ [])
-within_if_cached cache = record {
+-- though it is within the other limits
+pub otherwise_within : IsOtherwiseWithin only_a_hit
+otherwise_within = record {
   exchanges = omega arith;
   waiters = omega arith;
   con_records = omega arith;
@@ -109,9 +109,22 @@ within_if_cached cache = record {
   client_waiters = λ from. omega arith;
   client_con_records = λ from. omega arith;
   client_non_records = λ from. one-from _ (same_endpoint (client 4) from);
-  cache = cache;
 }
   where
     one-from : {X : Type 0} (x : X) (b : Bool) → length (if b then x ∷ [] else []) ≤ 4096
     one-from x true = omega arith
     one-from x false = omega arith
+
+-- which are all that a cache within its limits leaves
+pub within-whole : (history : List Deed) → IsOtherwiseWithin history → IsCacheWithin setting history → IsWithin setting history
+within-whole history is cache = record {
+  exchanges = is.exchanges;
+  waiters = is.waiters;
+  con_records = is.con_records;
+  non_records = is.non_records;
+  client_exchanges = is.client_exchanges;
+  client_waiters = is.client_waiters;
+  client_con_records = is.client_con_records;
+  client_non_records = is.client_non_records;
+  cache = cache;
+}

@@ -30,33 +30,37 @@ use Rattle.coap_model.proofs.CacheExamples.{are-bytes, first_asks, unsent}
 use Rattle.coap_model.proofs.Changing.{newest-unchanged, one-getting}
 use Rattle.coap_model.proofs.ForgingHits.{early_unsent}
 use Rattle.coap_model.proofs.Places.{here}
-use Rattle.test_promises.specs.Validations.{asks_other, format_valid, format_valid_bytes, gets_format_valid, gets_other_valid, limits_of, other_get, other_get_bytes, other_past, other_valid, other_valid_bytes}
+use Rattle.test_promises.specs.Validations.{asks_other, format_valid, format_valid_bytes, gets_format_valid, gets_other_valid, limits_of, other_get, other_get_bytes, other_past, other_valid, other_valid_bytes, renewed_by, tags_asked, IsAsked}
 use Rattle.test_promises.proofs.Arriving.{fetched-by, gets-by}
 
 -- ---- what arrives
 
--- the datagrams encode these messages: the cached response, two requests for its validation, and
--- three responses to them
+-- the datagrams encode these messages: the cached response
 tagged_spelled : Spells tagged_bytes tagged_content
 unfolding read_message body_at options_within option_at extended token_of
 tagged_spelled = read_is tagged_bytes tagged_content (are-bytes tagged_bytes refl) refl
 
+-- the request with the tag AB
 pub tagged_get_spelled : Spells tagged_get_bytes tagged_get
 unfolding read_message body_at options_within option_at extended token_of target_options uint_spelling
 tagged_get_spelled = read_is tagged_get_bytes tagged_get (are-bytes tagged_get_bytes refl) refl
 
+-- the one with the tag CD
 other_get_spelled : Spells other_get_bytes other_get
 unfolding read_message body_at options_within option_at extended token_of target_options uint_spelling
 other_get_spelled = read_is other_get_bytes other_get (are-bytes other_get_bytes refl) refl
 
+-- the 2.03 with the tag AB
 valid_spelled : Spells valid_bytes valid_message
 unfolding read_message body_at options_within option_at extended token_of
 valid_spelled = read_is valid_bytes valid_message (are-bytes valid_bytes refl) refl
 
+-- the one with the tag CD
 other_valid_spelled : Spells other_valid_bytes other_valid
 unfolding read_message body_at options_within option_at extended token_of
 other_valid_spelled = read_is other_valid_bytes other_valid (are-bytes other_valid_bytes refl) refl
 
+-- and the one with a Content-Format
 format_valid_spelled : Spells format_valid_bytes format_valid
 unfolding read_message body_at options_within option_at extended token_of
 format_valid_spelled = read_is format_valid_bytes format_valid (are-bytes format_valid_bytes refl) refl
@@ -90,8 +94,20 @@ tagged_obtained limits long passed =
     first_hand (fetched-by limits key_of_temp (tagged_gets limits long) _ refl refl refl passed (newest-unchanged (setting_with limits) key_of_temp.target (opened ∷ []) asked refl))
     refl (record { code = refl; age = omega arith })
 
+-- ---- renewals
+
+-- the cached response is renewed by a message that arrives so, if the words that are left hold
+pub renewal-whole : (limits : Limits) (asking getting : Place) (m : Message) (is : IsAsked limits asking getting m) → tags_asked is ≡ (0xAB ∷ []) ∷ [] → is_validated tagged_content (taken_of true m) ≡ true → fits limits.datagram (renewed_by m) ≡ true → IsLasting (renewed_by m)
+    → IsObtained (setting_with limits) key_of_temp (renewed_by m) asking getting
+renewal-whole limits asking getting m is tags valid fit lasting =
+    validated is.fetched (0xAB ∷ []) is.obtained is.behind refl tags
+    (subst (λ (n : Message). is_validated tagged_content (taken_of true n) ≡ true) (sym is.message) valid)
+    (ap (λ (n : Message). renewed_by n) (sym is.message))
+    fit lasting
+
 -- ---- a response with another tag
 
+-- the 2.03 with the tag CD arrives
 abbrev other_valid_gets : Gets setting 2 (here validated_past gets_other_valid)
 other_valid_gets = gets-by default_limits validated_past gets_other_valid 2 other_valid_bytes other_valid (here tagged_past asks_tagged) refl refl refl (inl refl) tagged_asks refl refl refl refl refl (are-bytes other_valid_bytes refl) other_valid_spelled (omega arith)
 
@@ -130,15 +146,34 @@ not_other_valid response (validated {old = old} fetched tag obtained behind tagg
     let same : has_tag (0xAB ∷ []) (taken_of true other_valid) ≡ true = subst (λ (t : List ℕ). has_tag t (taken_of true other_valid) ≡ true) (sym tag_is) (same-tag old (taken_of true other_valid) tag tagged valid) in
     absurd (let e : false ≡ true = same in cc)
 
--- it would be if it validated the cached response
-pub other_valid_if_validated : is_validated tagged_content (taken_of true other_valid) ≡ true → IsObtained setting key_of_temp (renewed tagged_content (taken_of true other_valid)) (here tagged_past asks_tagged) (here validated_past gets_other_valid)
-unfolding tagged_obtained token_of target_options target_sent key_sent spelling option_spelling uint_spelling
-other_valid_if_validated valid =
-    validated (fetched-by default_limits key_of_temp other_valid_gets _ refl refl refl refl (newest-unchanged setting key_of_temp.target tagged_past asks_tagged refl)) (0xAB ∷ [])
-    (tagged_obtained default_limits (omega arith) refl) (inr (inl refl)) refl refl valid refl refl (record { code = refl; age = omega arith })
+-- though it was asked for
+pub other_valid_asked : IsAsked default_limits (here tagged_past asks_tagged) (here validated_past gets_other_valid) other_valid
+unfolding token_of target_options target_sent key_sent spelling option_spelling uint_spelling
+other_valid_asked = record {
+  fetched = fetched-by default_limits key_of_temp other_valid_gets _ refl refl refl refl (newest-unchanged setting key_of_temp.target tagged_past asks_tagged refl);
+  message = refl;
+  obtained = tagged_obtained default_limits (omega arith) refl;
+  behind = inr (inl refl);
+}
+
+-- with the right tag
+pub other_valid_tags : tags_asked other_valid_asked ≡ (0xAB ∷ []) ∷ []
+unfolding other_valid_asked token_of target_options target_sent key_sent spelling option_spelling uint_spelling
+other_valid_tags = refl
+
+-- what it would make of the cached response fits
+pub other_valid_fits : fits default_limits.datagram (renewed_by other_valid) ≡ true
+unfolding token_of spelling option_spelling uint_spelling
+other_valid_fits = refl
+
+-- and would last
+pub other_valid_lasts : IsLasting (renewed_by other_valid)
+unfolding uint_spelling
+other_valid_lasts = record { code = refl; age = omega arith }
 
 -- ---- a request with another tag
 
+-- the 2.03 with the tag AB arrives for it
 abbrev other_gets : Gets setting 2 (here other_past gets_valid)
 other_gets = gets-by default_limits other_past gets_valid 2 valid_bytes valid_message (here tagged_past asks_other) refl refl refl (inl refl) other_asks refl refl refl refl refl (are-bytes valid_bytes refl) valid_spelled (omega arith)
 
@@ -158,39 +193,58 @@ other_fetched : IsFetched setting key_of_temp (here tagged_past asks_other) (her
 unfolding token_of target_options target_sent key_sent spelling option_spelling uint_spelling
 other_fetched = fetched-by default_limits key_of_temp other_gets _ refl refl refl refl (newest-unchanged setting key_of_temp.target tagged_past asks_other refl)
 
--- the cached response would be renewed if the request had its tag
-pub other_get_if_asked : tags_of other_get ≡ (0xAB ∷ []) ∷ [] → IsObtained setting key_of_temp (renewed tagged_content (taken_of true valid_message)) (here tagged_past asks_other) (here other_past gets_valid)
+-- it was asked for, though with another tag
+pub other_get_asked : IsAsked default_limits (here tagged_past asks_other) (here other_past gets_valid) valid_message
 unfolding other_fetched token_of spelling option_spelling
-other_get_if_asked sent = validated other_fetched (0xAB ∷ []) (tagged_obtained default_limits (omega arith) refl) (inr (inl refl)) refl sent refl refl refl (record { code = refl; age = omega arith })
+other_get_asked = record { fetched = other_fetched; message = refl; obtained = tagged_obtained default_limits (omega arith) refl; behind = inr (inl refl) }
 
--- or if it had the tag of the request
-pub other_get_if_tagged : tag_of tagged_content.options ≡ Some (0xCD ∷ []) → IsObtained setting key_of_temp (renewed tagged_content (taken_of true valid_message)) (here tagged_past asks_other) (here other_past gets_valid)
-unfolding other_fetched token_of target_options uint_spelling spelling option_spelling
-other_get_if_tagged tagged = validated other_fetched (0xCD ∷ []) (tagged_obtained default_limits (omega arith) refl) (inr (inl refl)) tagged refl refl refl refl (record { code = refl; age = omega arith })
+-- what it would make of the cached response fits
+pub valid_fits : fits default_limits.datagram (renewed_by valid_message) ≡ true
+unfolding token_of spelling option_spelling uint_spelling
+valid_fits = refl
+
+-- and would last
+pub valid_lasts : IsLasting (renewed_by valid_message)
+unfolding uint_spelling
+valid_lasts = record { code = refl; age = omega arith }
 
 -- ---- a response that grows too long
 
+-- the 2.03 with a Content-Format arrives
 abbrev format_gets : (limits : Limits) → 18 ≤ limits.datagram → Gets (setting_with limits) 2 (here validated_past gets_format_valid)
 format_gets limits long = gets-by limits validated_past gets_format_valid 2 format_valid_bytes format_valid (here tagged_past asks_tagged) refl refl refl (inl refl) tagged_asks refl refl refl refl refl (are-bytes format_valid_bytes refl) format_valid_spelled long
 
--- it is renewed if it fits
-format-if : (limits : Limits) → 19 ≤ limits.datagram → is_passed_on limits.datagram true tagged_content ≡ true → is_passed_on limits.datagram true format_valid ≡ true → fits limits.datagram (renewed tagged_content (taken_of true format_valid)) ≡ true
-    → IsObtained (setting_with limits) key_of_temp (renewed tagged_content (taken_of true format_valid)) (here tagged_past asks_tagged) (here validated_past gets_format_valid)
+-- it was asked for, in datagrams for which it and the cached response are not too long
+abbrev format-asked : (limits : Limits) → 19 ≤ limits.datagram → is_passed_on limits.datagram true tagged_content ≡ true → is_passed_on limits.datagram true format_valid ≡ true → IsAsked limits (here tagged_past asks_tagged) (here validated_past gets_format_valid) format_valid
 unfolding token_of target_options target_sent key_sent spelling option_spelling uint_spelling
-format-if limits long passed valid fit =
-    validated (fetched-by limits key_of_temp (format_gets limits (omega (arith, long))) _ refl refl refl valid (newest-unchanged (setting_with limits) key_of_temp.target tagged_past asks_tagged refl)) (0xAB ∷ [])
-    (tagged_obtained limits long passed) (inr (inl refl)) refl refl refl refl fit (record { code = refl; age = omega arith })
+format-asked limits long passed valid = record {
+  fetched = fetched-by limits key_of_temp (format_gets limits (omega (arith, long))) _ refl refl refl valid (newest-unchanged (setting_with limits) key_of_temp.target tagged_past asks_tagged refl);
+  message = refl;
+  obtained = tagged_obtained limits long passed;
+  behind = inr (inl refl);
+}
 
--- as it does with 24 bytes
-pub format_fits : IsObtained (setting_with (limits_of 24)) key_of_temp (renewed tagged_content (taken_of true format_valid)) (here tagged_past asks_tagged) (here validated_past gets_format_valid)
-unfolding token_of target_options spelling option_spelling uint_spelling
-format_fits = format-if (limits_of 24) (omega arith) refl refl refl
+-- and lasts
+pub format_lasts : IsLasting (renewed_by format_valid)
+unfolding uint_spelling
+format_lasts = record { code = refl; age = omega arith }
 
--- and not with 23
-pub format_if_fitting : fits 23 (renewed tagged_content (taken_of true format_valid)) ≡ true → IsObtained (setting_with (limits_of 23)) key_of_temp (renewed tagged_content (taken_of true format_valid)) (here tagged_past asks_tagged) (here validated_past gets_format_valid)
-unfolding token_of target_options spelling option_spelling uint_spelling
-format_if_fitting fit = format-if (limits_of 23) (omega arith) refl refl fit
+-- so it is obtained with 24 bytes
+pub format_fits : IsObtained (setting_with (limits_of 24)) key_of_temp (renewed_by format_valid) (here tagged_past asks_tagged) (here validated_past gets_format_valid)
+unfolding token_of target_options target_sent key_sent spelling option_spelling uint_spelling
+format_fits = renewal-whole (limits_of 24) _ _ format_valid (format-asked (limits_of 24) (omega arith) refl refl) refl refl refl format_lasts
 
+-- it is asked for with 23 bytes, too
+pub format_is_asked : IsAsked (limits_of 23) (here tagged_past asks_tagged) (here validated_past gets_format_valid) format_valid
+unfolding token_of target_options target_sent key_sent spelling option_spelling uint_spelling
+format_is_asked = format-asked (limits_of 23) (omega arith) refl refl
+
+-- with the right tag
+pub format_tags : tags_asked format_is_asked ≡ (0xAB ∷ []) ∷ []
+unfolding format_is_asked token_of target_options target_sent key_sent spelling option_spelling uint_spelling
+format_tags = refl
+
+-- but what it makes of the cached response is too long then
 pub not_format : ¬ IsObtained (setting_with (limits_of 23)) key_of_temp (renewed tagged_content (taken_of true format_valid)) (here tagged_past asks_tagged) (here validated_past gets_format_valid)
 unfolding token_of target_options spelling option_spelling uint_spelling
 not_format (first_hand fetched is lasting) = not-alone {limits = limits_of 23} {m = format_valid} (format_gets (limits_of 23) (omega arith)) refl refl fetched is lasting

@@ -1,17 +1,20 @@
 -- Responses that weren't fetched for a key, though they arrived. The bytes are encoded per RFC 7252
 -- (3, 3.1, 5.10).
-use Rattle.std.specs.Prelude.{ℕ, List, [], ◌∷◌, codes}
+use Rattle.std.specs.Prelude.{◌≡◌, ℕ, true, List, [], ◌∷◌, codes}
 use Rattle.coap_message.specs.declared.code.TheConstants.Code.{NOT_FOUND, PUT}
 use Rattle.coap_message.specs.declared.kind.Kind.TheVariants.{Ack, Con}
 use Rattle.coap_message.specs.Message.{Message}
 use Rattle.coap_message.specs.Options.{option_of}
 use Rattle.coap_option.specs.declared.numbers.TheConstants.{MAX_AGE, URI_PATH}
+use Rattle.coap_store.specs.declared.key.CacheKey.{CacheKey}
+use Rattle.coap_forward.specs.Answers.{is_passed_on}
 use Rattle.coap_forward.specs.Messages.{token_of}
 use Rattle.coap_model.specs.CacheExamples.{asks_again, opens_again}
+use Rattle.coap_model.specs.Changed.{key_asked}
 use Rattle.coap_model.specs.Events.{arrival}
 use Rattle.coap_model.specs.Examples.{answer, client}
-use Rattle.coap_model.specs.Forged.{asked, opened}
-use Rattle.coap_model.specs.History.{Deed}
+use Rattle.coap_model.specs.Forged.{asked, opened, setting}
+use Rattle.coap_model.specs.History.{Deed, Gets, Place}
 use Rattle.coap_model.specs.WordExamples.{answers}
 use Rattle.test_promises.specs.Replies.{put_bytes}
 
@@ -70,3 +73,14 @@ put_past = asks_put ∷ opens_put ∷ []
 -- the history of such a response, without the change
 abbrev pub quiet_past : List Deed
 quiet_past = asks_again ∷ opens_again ∷ asked ∷ opened ∷ []
+
+-- ---- responses that may be passed on
+
+-- What makes a response a fetched one, but for two words: that its request was a GET, and that the
+-- target wasn't changed. It arrived for a request that was sent with this key at this place.
+pub record IsAnswerTo (key : CacheKey) (asking getting : Place) : Type 0 where
+  pub exchange : ℕ
+  pub gets : Gets setting exchange getting
+  pub asking_is : gets.meets.asking ≡ asking
+  pub asked_key : key_asked gets ≡ key
+  pub passed : is_passed_on setting.limits.datagram true gets.meets.message ≡ true

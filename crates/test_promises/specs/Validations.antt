@@ -1,16 +1,22 @@
 -- Responses to a request with a tag that renew nothing. The bytes are encoded per RFC 7252 (3, 3.1,
 -- 5.10).
-use Rattle.std.specs.Prelude.{ℕ, List, [], ◌∷◌, Some}
+use Rattle.std.specs.Prelude.{◌≡◌, ℕ, true, List, [], ◌∷◌, Some}
 use Rattle.coap_message.specs.Message.{Message}
 use Rattle.coap_message.specs.Options.{option_of}
 use Rattle.coap_option.specs.declared.numbers.TheConstants.{CONTENT_FORMAT, ETAG, MAX_AGE}
+use Rattle.coap_option.specs.Selection.{tags_of}
 use Rattle.coap_limits.specs.Limits.{Limits, default_limits}
+use Rattle.coap_store.specs.Renewing.{renewed}
+use Rattle.coap_forward.specs.Answers.{taken_of}
 use Rattle.coap_forward.specs.Forms.{forwarded}
 use Rattle.coap_forward.specs.Messages.{token_of}
+use Rattle.coap_model.specs.Cached.{IsFetched, IsObtained}
+use Rattle.coap_model.specs.Changed.{asked_of}
 use Rattle.coap_model.specs.Examples.{answer, bare_get}
-use Rattle.coap_model.specs.History.{Deed}
+use Rattle.coap_model.specs.Forged.{asked, opened}
+use Rattle.coap_model.specs.History.{Deed, IsPlaceOf, Place}
 use Rattle.coap_model.specs.OptionExamples.{key_of_temp}
-use Rattle.coap_model.specs.WordExamples.{answers, asks_tagged, tagged_past, valid_message}
+use Rattle.coap_model.specs.WordExamples.{answers, asks_tagged, at, gets_tagged, setting_with, tagged_content, tagged_past, valid_message}
 
 -- ---- tags
 
@@ -63,3 +69,24 @@ gets_format_valid = answers 20 2 format_valid_bytes
 -- with this limit of datagrams
 abbrev pub limits_of : ℕ → Limits
 limits_of datagram = record default_limits { datagram = datagram }
+
+-- ---- renewals
+
+-- What makes a message renew the response with the tag AB, but for words about tags, length and
+-- age: it arrived for a GET with the key, which was sent after that response was obtained.
+pub record IsAsked (limits : Limits) (asking getting : Place) (m : Message) : Type 0 where
+  pub fetched : IsFetched (setting_with limits) key_of_temp asking getting
+  pub message : fetched.gets.meets.message ≡ m
+  pub obtained :
+      IsObtained (setting_with limits) key_of_temp tagged_content
+      (at (opened ∷ []) asked) (at (asked ∷ opened ∷ []) gets_tagged)
+  pub behind : IsPlaceOf asking.before (at (asked ∷ opened ∷ []) gets_tagged)
+
+-- the tags of that GET
+abbrev pub tags_asked : {limits : Limits} {asking getting : Place} {m : Message}
+    → IsAsked limits asking getting m → List (List ℕ)
+tags_asked is = tags_of (asked_of is.fetched.gets)
+
+-- what the message makes of that response
+abbrev pub renewed_by : Message → Message
+renewed_by m = renewed tagged_content (taken_of true m)

@@ -1,6 +1,6 @@
 //! The promise in short as a whole: what it says of each place of a history, and histories of no
 //! proxy that keeps it.
-ghost use Rattle.std.specs.Prelude.{◌≡◌, ◌≤◌, ◌∷◌, [], List, length};
+ghost use Rattle.std.specs.Prelude.{◌≡◌, ◌≤◌, List, length};
 ghost use Rattle.coap_message.specs.Message.{Message};
 ghost use Rattle.coap_endpoint.specs.declared.endpoint.Endpoint.{Endpoint};
 ghost use Rattle.coap_store.specs.Entries.{entry_size};
@@ -9,13 +9,12 @@ ghost use Rattle.coap_model.specs.declared.report.Outcome.TheVariants.{Hit};
 ghost use Rattle.coap_model.specs.Cached.{IsStoreOf};
 ghost use Rattle.coap_model.specs.Duplicates.{Repeats};
 ghost use Rattle.coap_model.specs.Forged.{setting};
-ghost use Rattle.coap_model.specs.ForgedHits.{reply};
-ghost use Rattle.coap_model.specs.History.{Entry, IsPlaceOf, Place, told_by};
+ghost use Rattle.coap_model.specs.History.{Deed, Entry, IsPlaceOf, Place, told_by};
 ghost use Rattle.coap_model.specs.Justified.{AllJustified, Comes};
 ghost use Rattle.coap_model.specs.MessageIds.{IdsDiffer};
 ghost use Rattle.coap_model.specs.State.{State};
 ghost use Rattle.coap_model.specs.Word.{IsCacheWithin, IsFromCache, IsToldAgain, IsWithin, KeepsItsWord, until};
-ghost use Rattle.test_promises.specs.Promises.{acknowledges_another, begins_with_a_hit};
+ghost use Rattle.test_promises.specs.Promises.{acknowledges_another, begins_with_a_hit, only_a_hit, IsOtherwiseWithin};
 
 /// For a proxy that keeps its promise: at each place the limits hold, a hit is a reply from the
 /// cache, and a message that repeats an earlier one within its lifetime is handled as a duplicate.
@@ -57,11 +56,14 @@ pub fn the_promise_covers_the_whole()
 {}
 
 /// A history that begins with a reply from the cache has no cache, and so it isn't within limits,
-/// although no other limit is reached.
+/// although no other limit is exceeded. With a cache within limits it would be.
 pub fn a_history_without_a_cache_is_refused()
-    ensures no_cache { ¬ IsWithin setting (reply 25 9 ∷ []) }
-    ensures but_for_the_cache { IsCacheWithin setting (reply 25 9 ∷ [])
-        → IsWithin setting (reply 25 9 ∷ []) }
+    ensures no_cache { ¬ IsWithin setting only_a_hit }
+    ensures but_for_the_cache { IsOtherwiseWithin only_a_hit }
+    ensures whole { (history : List Deed)
+        → IsOtherwiseWithin history
+        → IsCacheWithin setting history
+        → IsWithin setting history }
 {}
 
 /// No proxy that keeps its promise has a history that begins with a reply from the cache.

@@ -1,5 +1,6 @@
-use Rattle.test_promises.proofs.Fetching.{not_since, since_if_asked}
+use Rattle.coap_model.proofs.ForgingHits.{first_fetched}
+use Rattle.test_promises.proofs.Fetching.{earlier_unchanged, not_since}
 use Rattle.test_promises.proofs.fetches.fetches_since_another_place_are_refused.Goals as goal
 
 pub returns : goal.returns
-returns c = record { another = not_since; but_for_the_place = since_if_asked }
+returns c = record { its_place = first_fetched; another = not_since; but_for_the_place = earlier_unchanged }
