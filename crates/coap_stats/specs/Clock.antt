@@ -1,5 +1,5 @@
--- A clock that stands still.
-use Rattle.std.specs.Prelude.{ℕ, ◌+◌, ◌==◌, ◌&&◌, min, Bool, if◌then◌else◌}
+-- A clock that stands still, and how often counts are written.
+use Rattle.std.specs.Prelude.{ℕ, ◌+◌, ◌*◌, ◌==◌, ◌&&◌, min, max, Bool, Option, Some, None, if◌then◌else◌}
 use Rattle.coap_stats.specs.declared.clock.StandingClock.{StandingClock}
 
 abbrev pub no_turn : StandingClock
@@ -19,3 +19,8 @@ with_turn now c = record {
 -- that turn is the one that shows it
 abbrev pub stops : ℕ → StandingClock → Bool
 stops now c = (now == c.last) && (c.turns + 1 == many)
+
+-- the milliseconds of a period that is given in seconds, or isn't: from a second to a day
+abbrev pub period_of : Option ℕ → ℕ
+period_of None = 60000
+period_of (Some seconds) = max (min seconds 86400) 1 * 1000

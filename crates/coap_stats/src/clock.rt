@@ -1,4 +1,4 @@
-//! When counts are written, by the moments of turns.
+//! When counts are written, by the moments of turns; a clock that stands still.
 ghost use Rattle.std.specs.Prelude.{◌≡◌, ◌+◌, ◌*◌, ◌/◌, ◌<◌, ◌≤◌, ◌^◌};
 ghost use Rattle.coap_stats.specs.Clock as spec;
 
@@ -10,6 +10,22 @@ pub fn period_end(now: u64, length: u64) -> u64
     ensures multiple { result ≡ (now / length + 1) * length }
 {
     (now / length + 1) * length
+}
+
+/// The period of counts if no other is given, in seconds.
+const PERIOD: u64 = 60;
+
+/// The longest period, in seconds.
+const LONGEST: u64 = 86_400;
+
+/// How long a period is, in milliseconds, if it is given in seconds: a minute if it isn't, and
+/// always between a second and a day.
+pub fn period_of(seconds: Option<u64>) -> u64
+    ensures exact { result ≡ spec.period_of seconds }
+    ensures some { 0 < result }
+    ensures short { result ≤ 86400000 }
+{
+    seconds.unwrap_or(PERIOD).min(LONGEST).max(1) * 1000
 }
 
 /// How many turns in a row at one moment show that a clock stands still: no machine does as many

@@ -12,13 +12,14 @@
 #![tactic(auto)]
 
 mod clock;
+pub mod examples;
 pub mod laws;
 mod line;
 mod metrics;
 mod tally;
 mod words;
 
-pub use clock::{StandingClock, period_end};
+pub use clock::{StandingClock, period_end, period_of};
 pub use line::put_line;
 pub use metrics::put_metrics;
 pub use tally::{AnswerCounts, RefusalCounts, RequestCounts, Tally};
