@@ -14,6 +14,10 @@ tick_given lost = record {
   went = true;
 }
 
+-- its step ran out of memory
+abbrev pub was_lost : Given → Bool
+was_lost g = g.lost
+
 -- the counts for this many turns, datagrams that were taken, datagrams that weren't, and lost turns
 abbrev pub counts : ℕ → ℕ → ℕ → ℕ → Stats
 counts turns sent send_faults lost =

@@ -97,6 +97,11 @@ fn a_turn_asks_for_what_it_needs(rt: HostRuntime) -> Result<(), Fail> {
     check(&rt, alloc, (system(alloc)?, 1000), nothing, waits)?;
     let looks = "not waiting, read 5, wait 2, clock, draw; ";
     check(&rt, alloc, (system(alloc)?, 2), nothing, looks)?;
+    // from eight milliseconds on the read itself waits, for the first four of them
+    let still_looks = "not waiting, read 5, wait 7, clock, draw; ";
+    check(&rt, alloc, (system(alloc)?, 7), nothing, still_looks)?;
+    let just_waits = "read 5, wait 4, clock, draw; ";
+    check(&rt, alloc, (system(alloc)?, 8), nothing, just_waits)?;
     let again = "read 5, wait 996, read 5, clock, draw; ";
     check(
         &rt,
@@ -180,5 +185,78 @@ fn the_33rd_silent_turn_waits(rt: HostRuntime) -> Result<(), Fail> {
     look(&mut port, &mut into, 1)?;
     let asked = shown(alloc, port.system().calls())?;
     assert!(rt; asked.as_str().ends_with("read 5, wait 1, clock, draw; "));
+    Ok(())
+}
+
+/// The errors of a read that a port passes over.
+const PASSING: [ErrorKind; 10] = [
+    ErrorKind::WouldBlock,
+    ErrorKind::TimedOut,
+    ErrorKind::Interrupted,
+    ErrorKind::ConnectionRefused,
+    ErrorKind::ConnectionReset,
+    ErrorKind::ConnectionAborted,
+    ErrorKind::HostUnreachable,
+    ErrorKind::NetworkUnreachable,
+    ErrorKind::NetworkDown,
+    ErrorKind::OutOfMemory,
+];
+
+/// The errors of a read that end a port: all others.
+const ENDING: [ErrorKind; 32] = [
+    ErrorKind::NotFound,
+    ErrorKind::PermissionDenied,
+    ErrorKind::NotConnected,
+    ErrorKind::AddrInUse,
+    ErrorKind::AddrNotAvailable,
+    ErrorKind::BrokenPipe,
+    ErrorKind::AlreadyExists,
+    ErrorKind::NotADirectory,
+    ErrorKind::IsADirectory,
+    ErrorKind::DirectoryNotEmpty,
+    ErrorKind::ReadOnlyFilesystem,
+    ErrorKind::FilesystemLoop,
+    ErrorKind::StaleNetworkFileHandle,
+    ErrorKind::InvalidInput,
+    ErrorKind::InvalidData,
+    ErrorKind::WriteZero,
+    ErrorKind::StorageFull,
+    ErrorKind::NotSeekable,
+    ErrorKind::QuotaExceeded,
+    ErrorKind::FileTooLarge,
+    ErrorKind::ResourceBusy,
+    ErrorKind::ExecutableFileBusy,
+    ErrorKind::Deadlock,
+    ErrorKind::CrossesDevices,
+    ErrorKind::TooManyLinks,
+    ErrorKind::InvalidFilename,
+    ErrorKind::ArgumentListTooLong,
+    ErrorKind::Unsupported,
+    ErrorKind::UnexpectedEof,
+    ErrorKind::InProgress,
+    ErrorKind::Other,
+    ErrorKind::Uncategorized,
+];
+
+/// Whether a port whose first read fails gives a tick, and doesn't end.
+fn goes_on(alloc: Global, kind: ErrorKind) -> Result<bool, Fail> {
+    let script = reading(alloc, Err(kind))?;
+    let mut port = UdpPort::over(MemorySystem::new(alloc, script), false);
+    let mut into = Datagram::new(alloc, ROOM)?;
+    match port.next(1000, &mut into) {
+        Ok(turn) => Ok(turn.from.is_none()),
+        Err(PortFault) => Ok(false),
+    }
+}
+
+#[test]
+fn a_read_that_fails_is_a_tick_or_ends_the_port(rt: HostRuntime) -> Result<(), Fail> {
+    let alloc = rt.alloc();
+    for kind in PASSING {
+        assert!(rt; goes_on(alloc, kind)?, "{kind:?}");
+    }
+    for kind in ENDING {
+        assert!(rt; !goes_on(alloc, kind)?, "{kind:?}");
+    }
     Ok(())
 }
