@@ -160,8 +160,8 @@ module _ (w v : State) (now : ℕ) (source : Endpoint) (m : Message) (x : Number
     where
       said : v ≡ with_record now source m (spelling (acknowledgement m.id)) (record u { store = v.store }) → remembers now source m (takes_up (Answered storing) source m (answered_in (record u { store = v.store }) now x.0 a)) ≡ step_left
       said e =
-          let worlds : with_record now source m (spelling (acknowledgement m.id)) (answered_in (record u { store = v.store }) now x.0 a) ≡ answered_in v now x.0 a = sym (ap (λ (z : State). answered_in z now x.0 a) e) in
-          let turned = rw con at worlds in
+          let states : with_record now source m (spelling (acknowledgement m.id)) (answered_in (record u { store = v.store }) now x.0 a) ≡ answered_in v now x.0 a = sym (ap (λ (z : State). answered_in z now x.0 a) e) in
+          let turned = rw con at states in
           rw con (λ i. record { report = record { send = Some source; outcome = Answered storing }; bytes = spelling (acknowledgement m.id); state = turned i })
 
   -- either

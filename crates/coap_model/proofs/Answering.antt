@@ -31,7 +31,7 @@ use Rattle.coap_model.proofs.Frames.{is_flying, asked_frame, sent_frame, sends-q
 use Rattle.coap_model.proofs.Getting.{got-is}
 use Rattle.coap_model.proofs.Giving.{ids-kept, ids-differ}
 use Rattle.coap_model.proofs.Lists.{Has, Has-all}
-use Rattle.coap_model.proofs.Moving.{moved_world, AreOthers, others-quiet, others-changed, found-tainted, count-tainted, keeps_moving}
+use Rattle.coap_model.proofs.Moving.{moved_state, AreOthers, others-quiet, others-changed, found-tainted, count-tainted, keeps_moving}
 use Rattle.coap_model.proofs.Received.{gets, result-is, stored-then, answered-so}
 use Rattle.coap_model.proofs.Changing.{told-stays}
 use Rattle.coap_model.specs.Answers.{tainted_all, answer_for}
@@ -43,7 +43,7 @@ use Rattle.coap_model.proofs.Places.{here, doing, opened-later, one-brought}
 use Rattle.coap_model.proofs.Quiet.{remembered-still, room-still}
 use Rattle.coap_model.proofs.Remembering.{remembered-on, record-new, now-remembered, answer-leaves}
 use Rattle.coap_model.proofs.Repeating.{ended-seen, ended-room, ended-pace}
-use Rattle.coap_model.proofs.Rules.{Recorded, IsAbout, IsAnswerFor, recorded-kind, answered_world, changed_world, IsStoring}
+use Rattle.coap_model.proofs.Rules.{Recorded, IsAbout, IsAnswerFor, recorded-kind, answered_state, changed_state, IsStoring}
 use Rattle.coap_model.proofs.Seen.{staged-seen}
 use Rattle.coap_model.proofs.Sendings.{was-sent}
 use Rattle.coap_model.proofs.Spelled.{message_in-is, acknowledgement-is, acknowledgement-short}
@@ -71,11 +71,11 @@ module _ (w : State) (history : List Deed) (c : Bears history w) (now draw : ℕ
   abbrev others : List (Numbered Exchange)
   others = tainted_all (changed_by x.1.key.target m) w.exchanges
 
-  keeps-answer : w.last ≤ now → IsBytes bytes → message_in w.setting.limits.datagram bytes ≡ Some m → IsAnswerFor w now source m x → IsStoring (changed_world w m x) now grown x (answer_for w now m x.1) storing store
+  keeps-answer : w.last ≤ now → IsBytes bytes → message_in w.setting.limits.datagram bytes ≡ Some m → IsAnswerFor w now source m x → IsStoring (changed_state w m x) now grown x (answer_for w now m x.1) storing store
       → TakesUp m.kind source m.id answer_deed.entry
       → (m.kind ≡ Con → IsNew w.setting history now source m)
       → AreRemembered w.setting (answer_deed ∷ history) Con con × AreRemembered w.setting (answer_deed ∷ history) Non non
-      → Bears (answer_deed ∷ history) (moved_world w now others x.0 (answered (answer_for w now m x.1)) w.ids store con non)
+      → Bears (answer_deed ∷ history) (moved_state w now others x.0 (answered (answer_for w now m x.1)) w.ids store con non)
   keeps-answer onward fits read for stored taken new remembered =
       let result = answer_for w now m x.1 in
       let e = answer_deed in
@@ -133,10 +133,10 @@ module _ (w : State) (history : List Deed) (c : Bears history w) (now draw : ℕ
       (answered-so w history c now m x e refl flight refl refl brings a.1 fits grown storing store answer stored, c.past)
 
 -- a message that isn't Confirmable and gives an answer preserves what is carried
-pub keeps_answering : (w : State) (history : List Deed) (c : Bears history w) → (now draw : ℕ) (source : Endpoint) (bytes : List ℕ) (grown : Bool) (m : Message) (x : Numbered Exchange) (storing : Storing) (store : List Entry) → w.last ≤ now → IsBytes bytes → message_in w.setting.limits.datagram bytes ≡ Some m → IsAnswerFor w now source m x → is_con m.kind ≡ false → IsStoring (changed_world w m x) now grown x (answer_for w now m x.1) storing store
-    → Bears (doing (moves x.0) (entry_of now draw (arrival source bytes) (silent (Answered storing) (answered_world (changed_world w m x) now x.0 (answer_for w now m x.1) store))) ∷ history) (answered_world (changed_world w m x) now x.0 (answer_for w now m x.1) store)
+pub keeps_answering : (w : State) (history : List Deed) (c : Bears history w) → (now draw : ℕ) (source : Endpoint) (bytes : List ℕ) (grown : Bool) (m : Message) (x : Numbered Exchange) (storing : Storing) (store : List Entry) → w.last ≤ now → IsBytes bytes → message_in w.setting.limits.datagram bytes ≡ Some m → IsAnswerFor w now source m x → is_con m.kind ≡ false → IsStoring (changed_state w m x) now grown x (answer_for w now m x.1) storing store
+    → Bears (doing (moves x.0) (entry_of now draw (arrival source bytes) (silent (Answered storing) (answered_state (changed_state w m x) now x.0 (answer_for w now m x.1) store))) ∷ history) (answered_state (changed_state w m x) now x.0 (answer_for w now m x.1) store)
 keeps_answering w history c now draw source bytes grown m x storing store onward fits read for other stored =
-    let e = doing (moves x.0) (entry_of now draw (arrival source bytes) (silent (Answered storing) (answered_world (changed_world w m x) now x.0 (answer_for w now m x.1) store))) in
+    let e = doing (moves x.0) (entry_of now draw (arrival source bytes) (silent (Answered storing) (answered_state (changed_state w m x) now x.0 (answer_for w now m x.1) store))) in
     let since = last-now w history c now onward in
     keeps-answer w history c now draw source bytes grown m x storing store None [] w.con_records w.non_records onward fits read for stored
     (silent-up m.kind source m.id e.entry other (record { sent = refl; bytes = refl }))
@@ -146,10 +146,10 @@ keeps_answering w history c now draw source bytes grown m x storing store onward
     )
 
 -- and so does a Confirmable one, which is acknowledged and remembered
-pub keeps_answering_con : (w : State) (history : List Deed) (c : Bears history w) → (now draw : ℕ) (source : Endpoint) (bytes : List ℕ) (grown : Bool) (m : Message) (x : Numbered Exchange) (storing : Storing) (store : List Entry) → w.last ≤ now → IsBytes bytes → Recorded w bytes m → IsAnswerFor w now source m x → is_con m.kind ≡ true → known_of w now source m ≡ None → has_record_room w now source m.kind ≡ true → IsStoring (changed_world w m x) now grown x (answer_for w now m x.1) storing store
-    → Bears (doing (moves x.0) (entry_of now draw (arrival source bytes) (says (Answered storing) source (acknowledgement m.id) (answered_world (changed_world w m x) now x.0 (answer_for w now m x.1) store))) ∷ history) (remembers now source m (says (Answered storing) source (acknowledgement m.id) (answered_world (changed_world w m x) now x.0 (answer_for w now m x.1) store))).state
+pub keeps_answering_con : (w : State) (history : List Deed) (c : Bears history w) → (now draw : ℕ) (source : Endpoint) (bytes : List ℕ) (grown : Bool) (m : Message) (x : Numbered Exchange) (storing : Storing) (store : List Entry) → w.last ≤ now → IsBytes bytes → Recorded w bytes m → IsAnswerFor w now source m x → is_con m.kind ≡ true → known_of w now source m ≡ None → has_record_room w now source m.kind ≡ true → IsStoring (changed_state w m x) now grown x (answer_for w now m x.1) storing store
+    → Bears (doing (moves x.0) (entry_of now draw (arrival source bytes) (says (Answered storing) source (acknowledgement m.id) (answered_state (changed_state w m x) now x.0 (answer_for w now m x.1) store))) ∷ history) (remembers now source m (says (Answered storing) source (acknowledgement m.id) (answered_state (changed_state w m x) now x.0 (answer_for w now m x.1) store))).state
 keeps_answering_con w history c now draw source bytes grown m x storing store onward fits recorded for con unknown room stored =
-    let s = says (Answered storing) source (acknowledgement m.id) (answered_world (changed_world w m x) now x.0 (answer_for w now m x.1) store) in
+    let s = says (Answered storing) source (acknowledgement m.id) (answered_state (changed_state w m x) now x.0 (answer_for w now m x.1) store) in
     let e = doing (moves x.0) (entry_of now draw (arrival source bytes) s) in
     let kind = recorded-kind m recorded.recorded in
     keeps-answer w history c now draw source bytes grown m x storing store (Some source) (spelling (acknowledgement m.id)) _ _ onward fits recorded.read for stored

@@ -111,21 +111,21 @@ count-tainted test blind changed xs = ap (count test) (tainted-all changed xs) �
 
 -- the clock advances, one of these exchanges changes, these ids are given out, and this is stored
 -- and remembered
-abbrev pub moved_world : State → ℕ → List (Numbered Exchange) → ℕ → (Exchange → Exchange) → Given → List cache.Entry → Records → Records → State
-moved_world w now xs n f ids store con non =
+abbrev pub moved_state : State → ℕ → List (Numbered Exchange) → ℕ → (Exchange → Exchange) → Given → List cache.Entry → Records → Records → State
+moved_state w now xs n f ids store con non =
     record (later w now) { exchanges = changed_at n f xs; ids = ids; store = store; con_records = con; non_records = non }
 
 -- such a step preserves what is carried
 pub keeps_moving : (w : State) (history : List Deed) (c : Bears history w) (e : Deed) (xs : List (Numbered Exchange)) (n : ℕ) (x : Exchange) (f : Exchange → Exchange) (ids : Given) (store : List cache.Entry) (con non : Records) → IsMove n e → AreOthers w history e n xs → item_at n xs ≡ Some x → w.last ≤ e.entry.now
     → IsExchangeOf w.setting (e ∷ history) (n, f x)
     → map stage_seen (changed_at n f xs) ≡ open_by e.entry.report.outcome e.act e.entry.event e.entry.report.send (standing_in (e ∷ history)) (map stage_seen xs)
-    → Ids (e ∷ history) (moved_world w e.entry.now xs n f ids store con non)
+    → Ids (e ∷ history) (moved_state w e.entry.now xs n f ids store con non)
     → AreSchedules (e ∷ history)
     → ((to : Endpoint) → count (is_sent_to to) (changed_at n f xs) ≤ w.setting.limits.nstart)
     → ((now : ℕ) → e.entry.now ≤ now → given_in now ids + (count is_waiting w.waiters + count is_queued (changed_at n f xs)) ≤ 32768)
     → IsStoreOf w.setting (e ∷ history) store
     → AreRemembered w.setting (e ∷ history) Con con × AreRemembered w.setting (e ∷ history) Non non
-    → AllJustified w.setting (e ∷ history) → Bears (e ∷ history) (moved_world w e.entry.now xs n f ids store con non)
+    → AllJustified w.setting (e ∷ history) → Bears (e ∷ history) (moved_state w e.entry.now xs n f ids store con non)
 keeps_moving w history c e xs n x f ids store con non m are found onward new seen given schedules pace room stored remembered past =
     let opens = m.opens in
     let admits = m.admits in

@@ -48,7 +48,7 @@ use Rattle.coap_model.proofs.Places.{here, doing, opened-number, opened-later, a
 use Rattle.coap_model.proofs.Remembering.{first-new, first-remembered}
 use Rattle.coap_model.proofs.Replying.{request-came}
 use Rattle.coap_model.proofs.Room.{join-there, room-there}
-use Rattle.coap_model.proofs.Rules.{IsFirst, verdict_in, fits_in, IsMissed, IsUnanswered, IsTakenUp, sending, joined_world, opened_world, held_for}
+use Rattle.coap_model.proofs.Rules.{IsFirst, verdict_in, fits_in, IsMissed, IsUnanswered, IsTakenUp, sending, joined_state, opened_state, held_for}
 use Rattle.coap_model.proofs.Splitting.{both-below}
 use Rattle.coap_model.proofs.Stores.{store-otherwise, stored-kept}
 use Rattle.coap_model.proofs.TakingUp.{taken-up, taken-short}
@@ -199,9 +199,9 @@ module _ (w : State) (history : List Deed) (c : Bears history w) (key : CacheKey
 
 -- joining an exchange preserves what is carried
 pub keeps_joining : (w : State) (history : List Deed) (c : Bears history w) → (now draw : ℕ) (client : Endpoint) (bytes : List ℕ) (m : Message) (key : CacheKey) (exchange : ℕ) (send : Option Endpoint) (told : List ℕ) → w.last ≤ now → IsFirst w now client bytes m → is_get m.code ≡ true → verdict_in w m ≡ may_ask key → IsMissed w now key → first_that (is_joinable key) w.exchanges ≡ Some exchange → has_room_to_join w now client ≡ true → IsTakenUp client m send told
-    → Bears (doing (admits (admitted_in history + 1) exchange) (entry_of now draw (arrival client bytes) (sending Joined send told (joined_world w now client m exchange))) ∷ history) (remembers now client m (sending Joined send told (joined_world w now client m exchange))).state
+    → Bears (doing (admits (admitted_in history + 1) exchange) (entry_of now draw (arrival client bytes) (sending Joined send told (joined_state w now client m exchange))) ∷ history) (remembers now client m (sending Joined send told (joined_state w now client m exchange))).state
 keeps_joining w history c now draw client bytes m key exchange send told onward first get verdict none found may up =
-    let s = sending Joined send told (joined_world w now client m exchange) in
+    let s = sending Joined send told (joined_state w now client m exchange) in
     let act : Act = admits (admitted_in history + 1) exchange in
     let e = doing act (entry_of now draw (arrival client bytes) s) in
     let came = request-came w client bytes m first.fits first.asked in
@@ -247,10 +247,10 @@ keeps_joining w history c now draw client bytes m key exchange send told onward 
 
 -- and so does opening one
 pub keeps_opening : (w : State) (history : List Deed) (c : Bears history w) → (now draw : ℕ) (client : Endpoint) (bytes : List ℕ) (m : Message) (key : CacheKey) (send : Option Endpoint) (told : List ℕ) → w.last ≤ now → IsFirst w now client bytes m → verdict_in w m ≡ may_ask key → IsUnanswered w now key m → fits_in w key m ≡ true → has_room_to_open w now client ≡ true → IsTakenUp client m send told
-    → Bears (doing (admits (admitted_in history + 1) (opened_in history + 1)) (entry_of now draw (arrival client bytes) (sending Opened send told (opened_world w now client m key (held_for w key m)))) ∷ history) (remembers now client m (sending Opened send told (opened_world w now client m key (held_for w key m)))).state
+    → Bears (doing (admits (admitted_in history + 1) (opened_in history + 1)) (entry_of now draw (arrival client bytes) (sending Opened send told (opened_state w now client m key (held_for w key m)))) ∷ history) (remembers now client m (sending Opened send told (opened_state w now client m key (held_for w key m)))).state
 keeps_opening w history c now draw client bytes m key send told onward first verdict none short room up =
     let stored = held_for w key m in
-    let s = sending Opened send told (opened_world w now client m key stored) in
+    let s = sending Opened send told (opened_state w now client m key stored) in
     let act : Act = admits (admitted_in history + 1) (opened_in history + 1) in
     let e = doing act (entry_of now draw (arrival client bytes) s) in
     let came = request-came w client bytes m first.fits first.asked in

@@ -37,18 +37,18 @@ pub serves-none : (e : Deed) → e.act ≡ no_item → (v : ℕ) → e.act ≢ s
 serves-none e act v same = let f = sym act ∙ same in cc
 
 -- the clock advances, these ids are given out, and this is stored and remembered
-abbrev pub quiet_world : State → ℕ → Given → List cache.Entry → Records → Records → State
-quiet_world w now ids store con non =
+abbrev pub quiet_state : State → ℕ → Given → List cache.Entry → Records → Records → State
+quiet_state w now ids store con non =
     record (later w now) { ids = ids; store = store; con_records = con; non_records = non }
 
 -- such a step preserves what is carried, whatever ids it gives out, and whatever moves in the store
 -- and is remembered
 pub keeps_still : (w : State) (history : List Deed) (c : Bears history w) (e : Deed) (ids : Given) (store : List cache.Entry) (con non : Records) → IsQuiet e → w.last ≤ e.entry.now
-    → Ids (e ∷ history) (quiet_world w e.entry.now ids store con non)
+    → Ids (e ∷ history) (quiet_state w e.entry.now ids store con non)
     → ((now : ℕ) → e.entry.now ≤ now → given_in now ids + reserved w ≤ 32768)
     → IsStoreOf w.setting (e ∷ history) store
     → AreRemembered w.setting (e ∷ history) Con con × AreRemembered w.setting (e ∷ history) Non non
-    → AllJustified w.setting (e ∷ history) → Bears (e ∷ history) (quiet_world w e.entry.now ids store con non)
+    → AllJustified w.setting (e ∷ history) → Bears (e ∷ history) (quiet_state w e.entry.now ids store con non)
 keeps_still w history c e ids store con non q onward given room stored remembered past =
     let opens = q.opens in
     let admits = q.admits in

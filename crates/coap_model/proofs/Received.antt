@@ -28,7 +28,7 @@ use Rattle.coap_model.proofs.Cached.{former-once}
 use Rattle.coap_model.proofs.Changing.{one-getting, told-on, storable-quiet}
 use Rattle.coap_model.proofs.Missing.{clean-flight, not-true}
 use Rattle.coap_model.proofs.Places.{here, index_below}
-use Rattle.coap_model.proofs.Rules.{changed_world, IsStoring, kept, too_large, no_memory, not_stored}
+use Rattle.coap_model.proofs.Rules.{changed_state, IsStoring, kept, too_large, no_memory, not_stored}
 use Rattle.coap_model.proofs.Stores.{marked-on, store-kept, store-too_large, store-marked, none-found}
 
 -- the response that may be renewed only matters for the answer to a GET
@@ -55,7 +55,7 @@ module _ (w : State) (history : List Deed) (c : Bears history w) (now : ℕ) (m 
       ∙ (λ i. answer_of w.setting.limits.datagram (sym flight.method i) (copied tags (key_sent flight.asked.asks.sends.to flight.asked.asks.sends.message) flight.former) (sym moment i) m)
 
   -- the entry that is stored is the entry of the cache
-  made : entry_made (changed_world w m x) now x.1 (answer_for w now m x.1) ≡ entry_of_cached (entry_got flight.former gets)
+  made : entry_made (changed_state w m x) now x.1 (answer_for w now m x.1) ≡ entry_of_cached (entry_got flight.former gets)
   made = λ i. (
     sym flight.asked.asked_key i,
     record {
@@ -105,7 +105,7 @@ module _ (w : State) (history : List Deed) (c : Bears history w) (now : ℕ) (m 
       (and_from (not x.1.tainted) (is_storable (answer_for w now m x.1)) (ap not (clean-flight w.setting history x flight unchanged)) (ap is_storable (result-is ∙ sym answer) ∙ o.storable))
 
   -- the stored entry corresponds to the entry of the cache
-  new-stored : may_store x.1 (answer_for w now m x.1) ≡ true → IsStored w.setting (e ∷ history) (entry_made (changed_world w m x) now x.1 (answer_for w now m x.1)) (entry_got flight.former gets)
+  new-stored : may_store x.1 (answer_for w now m x.1) ≡ true → IsStored w.setting (e ∷ history) (entry_made (changed_state w m x) now x.1 (answer_for w now m x.1)) (entry_got flight.former gets)
   new-stored can =
       let p = parts can in
       let target = (key_asked gets).target in
@@ -119,10 +119,10 @@ module _ (w : State) (history : List Deed) (c : Bears history w) (now : ℕ) (m 
       }
 
   -- the store then corresponds to the cache of the history
-  pub stored-then : (grown : Bool) (storing : Storing) (store : List Entry) → e.entry.report.outcome ≡ Answered storing → IsStoring (changed_world w m x) now grown x (answer_for w now m x.1) storing store → IsStoreOf w.setting (e ∷ history) store
+  pub stored-then : (grown : Bool) (storing : Storing) (store : List Entry) → e.entry.report.outcome ≡ Answered storing → IsStoring (changed_state w m x) now grown x (answer_for w now m x.1) storing store → IsStoreOf w.setting (e ∷ history) store
   stored-then grown Kept _ is (kept can small) =
-      subst (λ (k : CacheKey). IsStoreOf w.setting (e ∷ history) (put entry_key entry_size w.setting.limits.cache_bytes w.setting.limits.cache_entries (entry_made (changed_world w m x) now x.1 (answer_for w now m x.1)) (marked_all (changed_by k.target m) w.store))) flight.asked.asked_key
-      (store-kept w.setting history e gets w.store flight.former (entry_made (changed_world w m x) now x.1 (answer_for w now m x.1)) is flight.was_cache (new-stored can) c.store)
+      subst (λ (k : CacheKey). IsStoreOf w.setting (e ∷ history) (put entry_key entry_size w.setting.limits.cache_bytes w.setting.limits.cache_entries (entry_made (changed_state w m x) now x.1 (answer_for w now m x.1)) (marked_all (changed_by k.target m) w.store))) flight.asked.asked_key
+      (store-kept w.setting history e gets w.store flight.former (entry_made (changed_state w m x) now x.1 (answer_for w now m x.1)) is flight.was_cache (new-stored can) c.store)
   stored-then grown TooLarge _ is (too_large can large) =
       subst (λ (k : CacheKey). IsStoreOf w.setting (e ∷ history) (others entry_key k (marked_all (changed_by k.target m) w.store))) flight.asked.asked_key
       (store-too_large w.setting history e gets w.store is c.store)
@@ -133,7 +133,7 @@ module _ (w : State) (history : List Deed) (c : Bears history w) (now : ℕ) (m 
   stored-then grown NotStored _ is (not_stored can) = subst (λ (k : CacheKey). IsStoreOf w.setting (e ∷ history) (marked_all (changed_by k.target m) w.store)) flight.asked.asked_key (store-marked w.setting history e gets w.store (ap leaves is) c.store)
 
   -- and the deed is justified
-  pub answered-so : (grown : Bool) (storing : Storing) (store : List Entry) → IsAnswer w.setting history e → IsStoring (changed_world w m x) now grown x (answer_for w now m x.1) storing store → JustifiedBy (Answered storing) w.setting history e
+  pub answered-so : (grown : Bool) (storing : Storing) (store : List Entry) → IsAnswer w.setting history e → IsStoring (changed_state w m x) now grown x (answer_for w now m x.1) storing store → JustifiedBy (Answered storing) w.setting history e
   answered-so grown Kept _ answer (kept can small) = record { answer = answer; here = obtained can; small = subst (λ (t : Entry). entry_size t ≤ w.setting.limits.cache_bytes) made small }
   answered-so grown TooLarge _ answer (too_large can large) = record { answer = answer; here = obtained can; large = subst (λ (t : Entry). w.setting.limits.cache_bytes < entry_size t) made large }
   answered-so grown NoMemory _ answer (no_memory can small new g) =

@@ -147,8 +147,8 @@ pub data IsStoring (w : State) (now : ℕ) (grown : Bool) (x : Numbered Exchange
   not_stored : may_store x.1 a ≡ false → IsStoring w now grown x a NotStored w.store
 
 -- the tables after the changes of a message that answers an exchange
-abbrev pub changed_world : State → Message → Numbered Exchange → State
-changed_world w m x = with_changed (changed_by x.1.key.target m) w
+abbrev pub changed_state : State → Message → Numbered Exchange → State
+changed_state w m x = with_changed (changed_by x.1.key.target m) w
 
 -- an exchange is due first, and exists
 pub record IsTurnOf (w : State) (now at number : ℕ) (x : Exchange) : Type 0 where
@@ -178,13 +178,13 @@ abbrev pub sending : Outcome → Option Endpoint → List ℕ → State → Step
 sending outcome send told w = record { report = record { send = send; outcome = outcome }; bytes = told; state = w }
 
 -- a client waits for an exchange that existed
-abbrev pub joined_world : State → ℕ → Endpoint → Message → ℕ → State
-joined_world w now client m exchange =
+abbrev pub joined_state : State → ℕ → Endpoint → Message → ℕ → State
+joined_state w now client m exchange =
     record (later w now) { waiters = w.waiters ++ new_waiter w client m exchange ∷ []; admitted = w.admitted + 1 }
 
 -- and for one that is opened
-abbrev pub opened_world : State → ℕ → Endpoint → Message → CacheKey → Option Stored → State
-opened_world w now client m key stored =
+abbrev pub opened_state : State → ℕ → Endpoint → Message → CacheKey → Option Stored → State
+opened_state w now client m key stored =
     record (later w now) { exchanges = w.exchanges ++ new_exchange w now client m key stored ∷ []; waiters = w.waiters ++ new_waiter w client m (w.opened + 1) ∷ []; opened = w.opened + 1; admitted = w.admitted + 1 }
 
 -- the clients that are left after one was sent this message: without it, or with it, until it
@@ -200,22 +200,22 @@ pub record IsTurnOfTold (w : State) (now at number : ℕ) (v : Waiter) (bytes : 
   pub state : v.state ≡ Delivering bytes id timer
 
 -- the exchange with a number has this answer, and this is stored
-abbrev pub answered_world : State → ℕ → ℕ → Answer → List Entry → State
-answered_world w now n a store = record (later w now) { exchanges = changed_at n (exchanges.answered a) w.exchanges; store = store }
+abbrev pub answered_state : State → ℕ → ℕ → Answer → List Entry → State
+answered_state w now n a store = record (later w now) { exchanges = changed_at n (exchanges.answered a) w.exchanges; store = store }
 
 -- the cases of a step, each with what is known in it
 pub data Rule (w : State) (now draw : ℕ) (grown : Bool) : Event → Step → Type 0 where
   refusing : (client : Endpoint) (bytes : List ℕ) (m : Message) (code : Code) → IsFirst w now client bytes m → IsDenied w now m code → can_reply w now m.kind ≡ true → Rule w now draw grown (arrival client bytes) (remembers now client m (refuses w now client m code))
   lacking : (client : Endpoint) (bytes : List ℕ) (m : Message) → IsFirst w now client bytes m → can_reply w now m.kind ≡ false → Rule w now draw grown (arrival client bytes) (remembers now client m (lacks_id w now))
   overloading : (client : Endpoint) (bytes : List ℕ) (m : Message) (key : CacheKey) → IsFirst w now client bytes m → verdict_in w m ≡ may_ask key → IsFull w now client key m → can_reply w now m.kind ≡ true → Rule w now draw grown (arrival client bytes) (remembers now client m (overloads w now client m))
-  joining : (client : Endpoint) (bytes : List ℕ) (m : Message) (key : CacheKey) (exchange : ℕ) (send : Option Endpoint) (told : List ℕ) → IsFirst w now client bytes m → is_get m.code ≡ true → verdict_in w m ≡ may_ask key → IsMissed w now key → first_that (is_joinable key) w.exchanges ≡ Some exchange → has_room_to_join w now client ≡ true → IsTakenUp client m send told → Rule w now draw grown (arrival client bytes) (remembers now client m (sending Joined send told (joined_world w now client m exchange)))
-  opening : (client : Endpoint) (bytes : List ℕ) (m : Message) (key : CacheKey) (send : Option Endpoint) (told : List ℕ) → IsFirst w now client bytes m → verdict_in w m ≡ may_ask key → IsUnanswered w now key m → fits_in w key m ≡ true → has_room_to_open w now client ≡ true → IsTakenUp client m send told → Rule w now draw grown (arrival client bytes) (remembers now client m (sending Opened send told (opened_world w now client m key (held_for w key m))))
+  joining : (client : Endpoint) (bytes : List ℕ) (m : Message) (key : CacheKey) (exchange : ℕ) (send : Option Endpoint) (told : List ℕ) → IsFirst w now client bytes m → is_get m.code ≡ true → verdict_in w m ≡ may_ask key → IsMissed w now key → first_that (is_joinable key) w.exchanges ≡ Some exchange → has_room_to_join w now client ≡ true → IsTakenUp client m send told → Rule w now draw grown (arrival client bytes) (remembers now client m (sending Joined send told (joined_state w now client m exchange)))
+  opening : (client : Endpoint) (bytes : List ℕ) (m : Message) (key : CacheKey) (send : Option Endpoint) (told : List ℕ) → IsFirst w now client bytes m → verdict_in w m ≡ may_ask key → IsUnanswered w now key m → fits_in w key m ≡ true → has_room_to_open w now client ≡ true → IsTakenUp client m send told → Rule w now draw grown (arrival client bytes) (remembers now client m (sending Opened send told (opened_state w now client m key (held_for w key m))))
   hitting : (client : Endpoint) (bytes : List ℕ) (m : Message) (key : CacheKey) (entry : Entry) → IsFirst w now client bytes m → is_get m.code ≡ true → verdict_in w m ≡ may_ask key → of_key entry_key key w.store ≡ Some entry → is_usable now entry.1 ≡ true → can_reply w now m.kind ≡ true → Rule w now draw grown (arrival client bytes) (remembers now client m (hits w now client m key entry.1))
   repeating : (source : Endpoint) (bytes : List ℕ) (m : Message) (known : Record) → IsBytes bytes → Recorded w bytes m → known_of w now source m ≡ Some known → Rule w now draw grown (arrival source bytes) (repeats w now source known.reply)
   dropping : (source : Endpoint) (bytes : List ℕ) (m : Message) → IsBytes bytes → Recorded w bytes m → (is_response m.code ≡ true → (x : Numbered Exchange) × (awaiting w source m ≡ Some x)) → known_of w now source m ≡ None → has_record_room w now source m.kind ≡ false → Rule w now draw grown (arrival source bytes) (drops w now)
-  answering : (source : Endpoint) (bytes : List ℕ) (m : Message) (x : Numbered Exchange) (storing : Storing) (store : List Entry) → IsBytes bytes → message_in w.setting.limits.datagram bytes ≡ Some m → IsAnswerFor w now source m x → is_con m.kind ≡ false → IsStoring (changed_world w m x) now grown x (answer_for w now m x.1) storing store → Rule w now draw grown (arrival source bytes) (silent (Answered storing) (answered_world (changed_world w m x) now x.0 (answer_for w now m x.1) store))
-  answering_con : (source : Endpoint) (bytes : List ℕ) (m : Message) (x : Numbered Exchange) (storing : Storing) (store : List Entry) → IsBytes bytes → Recorded w bytes m → IsAnswerFor w now source m x → is_con m.kind ≡ true → known_of w now source m ≡ None → has_record_room w now source m.kind ≡ true → IsStoring (changed_world w m x) now grown x (answer_for w now m x.1) storing store
-      → Rule w now draw grown (arrival source bytes) (remembers now source m (says (Answered storing) source (acknowledgement m.id) (answered_world (changed_world w m x) now x.0 (answer_for w now m x.1) store)))
+  answering : (source : Endpoint) (bytes : List ℕ) (m : Message) (x : Numbered Exchange) (storing : Storing) (store : List Entry) → IsBytes bytes → message_in w.setting.limits.datagram bytes ≡ Some m → IsAnswerFor w now source m x → is_con m.kind ≡ false → IsStoring (changed_state w m x) now grown x (answer_for w now m x.1) storing store → Rule w now draw grown (arrival source bytes) (silent (Answered storing) (answered_state (changed_state w m x) now x.0 (answer_for w now m x.1) store))
+  answering_con : (source : Endpoint) (bytes : List ℕ) (m : Message) (x : Numbered Exchange) (storing : Storing) (store : List Entry) → IsBytes bytes → Recorded w bytes m → IsAnswerFor w now source m x → is_con m.kind ≡ true → known_of w now source m ≡ None → has_record_room w now source m.kind ≡ true → IsStoring (changed_state w m x) now grown x (answer_for w now m x.1) storing store
+      → Rule w now draw grown (arrival source bytes) (remembers now source m (says (Answered storing) source (acknowledgement m.id) (answered_state (changed_state w m x) now x.0 (answer_for w now m x.1) store)))
   acknowledging : (source : Endpoint) (bytes : List ℕ) (m : Message) (x : Numbered Exchange) → IsBytes bytes → message_in w.setting.limits.datagram bytes ≡ Some m → IsAbout w now source m x → is_ack m.kind ≡ true → Rule w now draw grown (arrival source bytes) (acknowledges w now x.0)
   closing : (source : Endpoint) (bytes : List ℕ) (m : Message) (number : ℕ) → IsBytes bytes → message_in w.setting.limits.datagram bytes ≡ Some m → IsOfAnswer w now source m number → Rule w now draw grown (arrival source bytes) (closes w now number)
   rejecting : (source : Endpoint) (bytes : List ℕ) (head : Head) → head_at bytes ≡ Some head → is_con head.kind ≡ true → IsNothing w now source bytes → Rule w now draw grown (arrival source bytes) (rejects w now source head.id)
@@ -342,9 +342,9 @@ rule_full w now draw grown client bytes m key first e full = go (can_reply w now
 rule_wanted : (w : State) (now draw : ℕ) (grown : Bool) (client : Endpoint) (bytes : List ℕ) (m : Message) (key : CacheKey) (stored : Option Stored) → IsFirst w now client bytes m → verdict_in w m ≡ may_ask key → IsUnanswered w now key m → held_for w key m ≡ stored → Rule w now draw grown (arrival client bytes) (remembers now client m (on_exchange_needed w now client m key stored))
 rule_wanted w now draw grown client bytes m key stored first e none held = by_fit (fits_in w key m) refl
   where
-    up : fits_in w key m ≡ true → has_room_to_open w now client ≡ true → (b : Bool) → is_con m.kind ≡ b → Rule w now draw grown (arrival client bytes) (remembers now client m (cond b (says Opened client (acknowledgement m.id) (opened_world w now client m key stored)) (silent Opened (opened_world w now client m key stored))))
-    up short there true con = subst (λ (s : Option Stored). Rule w now draw grown (arrival client bytes) (remembers now client m (says Opened client (acknowledgement m.id) (opened_world w now client m key s)))) held (opening client bytes m key (Some client) (spelling (acknowledgement m.id)) first e none short there (with_acknowledgement con))
-    up short there false other = subst (λ (s : Option Stored). Rule w now draw grown (arrival client bytes) (remembers now client m (silent Opened (opened_world w now client m key s)))) held (opening client bytes m key None [] first e none short there (silently other))
+    up : fits_in w key m ≡ true → has_room_to_open w now client ≡ true → (b : Bool) → is_con m.kind ≡ b → Rule w now draw grown (arrival client bytes) (remembers now client m (cond b (says Opened client (acknowledgement m.id) (opened_state w now client m key stored)) (silent Opened (opened_state w now client m key stored))))
+    up short there true con = subst (λ (s : Option Stored). Rule w now draw grown (arrival client bytes) (remembers now client m (says Opened client (acknowledgement m.id) (opened_state w now client m key s)))) held (opening client bytes m key (Some client) (spelling (acknowledgement m.id)) first e none short there (with_acknowledgement con))
+    up short there false other = subst (λ (s : Option Stored). Rule w now draw grown (arrival client bytes) (remembers now client m (silent Opened (opened_state w now client m key s)))) held (opening client bytes m key None [] first e none short there (silently other))
 
     room : fits_in w key m ≡ true → (b : Bool) → has_room_to_open w now client ≡ b → Rule w now draw grown (arrival client bytes) (remembers now client m (cond b (opens w now client m key stored) (turns_away w now client m)))
     room short true there = up short there (is_con m.kind) refl
@@ -358,7 +358,7 @@ rule_wanted w now draw grown client bytes m key stored first e none held = by_fi
 rule_miss : (w : State) (now draw : ℕ) (grown : Bool) (client : Endpoint) (bytes : List ℕ) (m : Message) (key : CacheKey) (stored : Option Stored) → IsFirst w now client bytes m → is_get m.code ≡ true → verdict_in w m ≡ may_ask key → IsMissed w now key → held_for w key m ≡ stored → Rule w now draw grown (arrival client bytes) (remembers now client m (on_miss w now client m key stored))
 rule_miss w now draw grown client bytes m key stored first get e missed held = by_search (first_that (is_joinable key) w.exchanges) refl
   where
-    up : (exchange : ℕ) → first_that (is_joinable key) w.exchanges ≡ Some exchange → has_room_to_join w now client ≡ true → (b : Bool) → is_con m.kind ≡ b → Rule w now draw grown (arrival client bytes) (remembers now client m (cond b (says Joined client (acknowledgement m.id) (joined_world w now client m exchange)) (silent Joined (joined_world w now client m exchange))))
+    up : (exchange : ℕ) → first_that (is_joinable key) w.exchanges ≡ Some exchange → has_room_to_join w now client ≡ true → (b : Bool) → is_con m.kind ≡ b → Rule w now draw grown (arrival client bytes) (remembers now client m (cond b (says Joined client (acknowledgement m.id) (joined_state w now client m exchange)) (silent Joined (joined_state w now client m exchange))))
     up exchange found there true con = joining client bytes m key exchange (Some client) (spelling (acknowledgement m.id)) first get e missed found there (with_acknowledgement con)
     up exchange found there false other = joining client bytes m key exchange None [] first get e missed found there (silently other)
 
@@ -477,19 +477,19 @@ module _ (w : State) (now draw : ℕ) (grown : Bool) (source : Endpoint) (bytes 
 
   -- an answer that isn't Confirmable
   rule_answer : (x : Numbered Exchange) → IsAnswerFor w now source m x → is_con m.kind ≡ false → Rule w now draw grown (arrival source bytes) (answers w now grown source m x)
-  rule_answer x for other = rule_storing w (changed_world w m x) now draw grown (arrival source bytes) (λ s. s) (arrived x) (λ storing store s. go storing store s (is_con m.kind) other)
+  rule_answer x for other = rule_storing w (changed_state w m x) now draw grown (arrival source bytes) (λ s. s) (arrived x) (λ storing store s. go storing store s (is_con m.kind) other)
     where
-      go : (storing : Storing) (store : List Entry) → IsStoring (changed_world w m x) now grown x (answer_for w now m x.1) storing store → (b : Bool) → b ≡ false
-          → Rule w now draw grown (arrival source bytes) (cond b (says (Answered storing) source (acknowledgement m.id) (answered_world (changed_world w m x) now x.0 (answer_for w now m x.1) store)) (silent (Answered storing) (answered_world (changed_world w m x) now x.0 (answer_for w now m x.1) store)))
+      go : (storing : Storing) (store : List Entry) → IsStoring (changed_state w m x) now grown x (answer_for w now m x.1) storing store → (b : Bool) → b ≡ false
+          → Rule w now draw grown (arrival source bytes) (cond b (says (Answered storing) source (acknowledgement m.id) (answered_state (changed_state w m x) now x.0 (answer_for w now m x.1) store)) (silent (Answered storing) (answered_state (changed_state w m x) now x.0 (answer_for w now m x.1) store)))
       go storing store s true e = absurd cc
       go storing store s false e = answering source bytes m x storing store fits read for other s
 
   -- one that is Confirmable, and is new
   rule_answer_con : (x : Numbered Exchange) → is_recorded m ≡ true → IsAnswerFor w now source m x → is_con m.kind ≡ true → known_of w now source m ≡ None → has_record_room w now source m.kind ≡ true → Rule w now draw grown (arrival source bytes) (remembers now source m (answers w now grown source m x))
-  rule_answer_con x recorded for con unknown room = rule_storing w (changed_world w m x) now draw grown (arrival source bytes) (remembers now source m) (arrived x) (λ storing store s. go storing store s (is_con m.kind) con)
+  rule_answer_con x recorded for con unknown room = rule_storing w (changed_state w m x) now draw grown (arrival source bytes) (remembers now source m) (arrived x) (λ storing store s. go storing store s (is_con m.kind) con)
     where
-      go : (storing : Storing) (store : List Entry) → IsStoring (changed_world w m x) now grown x (answer_for w now m x.1) storing store → (b : Bool) → b ≡ true
-          → Rule w now draw grown (arrival source bytes) (remembers now source m (cond b (says (Answered storing) source (acknowledgement m.id) (answered_world (changed_world w m x) now x.0 (answer_for w now m x.1) store)) (silent (Answered storing) (answered_world (changed_world w m x) now x.0 (answer_for w now m x.1) store))))
+      go : (storing : Storing) (store : List Entry) → IsStoring (changed_state w m x) now grown x (answer_for w now m x.1) storing store → (b : Bool) → b ≡ true
+          → Rule w now draw grown (arrival source bytes) (remembers now source m (cond b (says (Answered storing) source (acknowledgement m.id) (answered_state (changed_state w m x) now x.0 (answer_for w now m x.1) store)) (silent (Answered storing) (answered_state (changed_state w m x) now x.0 (answer_for w now m x.1) store))))
       go storing store s false e = absurd cc
       go storing store s true e = answering_con source bytes m x storing store fits (record { read = read; recorded = recorded }) for con unknown room s
 

@@ -28,7 +28,7 @@ use Rattle.coap_model.specs.Requests.{on_request}
 use Rattle.coap_model.specs.Responses.{awaiting, on_awaited, on_separate, on_unknown, on_response_in, on_response}
 use Rattle.coap_model.specs.Step.{on_no_response, on_no_request, message_in, on_read, step_of}
 use Rattle.coap_model.specs.State.{State, Step, known_of, has_record_room, remembers, drops, unprocessed, says, silent}
-use Rattle.coap_model.proofs.Rules.{answered_world}
+use Rattle.coap_model.proofs.Rules.{answered_state}
 
 -- a step that depends on the memory is the one that its own report determines
 abbrev IsTold : (Bool → Step) → Type 0
@@ -47,7 +47,7 @@ remembered-told now source m s told grown = ap (remembers now source m) (told gr
 so-outcome : (w : State) (now : ℕ) (a : Arrived) (storing : Storing) (store : List Entry) → (answers_so w now a storing store).report.outcome ≡ Answered storing
 so-outcome w now a storing store = go (is_con a.message.kind)
   where
-    go : (b : Bool) → (if b then says (Answered storing) a.source (acknowledgement a.message.id) (answered_world w now a.exchange.0 a.answer store) else silent (Answered storing) (answered_world w now a.exchange.0 a.answer store)).report.outcome ≡ Answered storing
+    go : (b : Bool) → (if b then says (Answered storing) a.source (acknowledgement a.message.id) (answered_state w now a.exchange.0 a.answer store) else silent (Answered storing) (answered_state w now a.exchange.0 a.answer store)).report.outcome ≡ Answered storing
     go true = refl
     go false = refl
 

@@ -10,7 +10,7 @@ use Rattle.coap_endpoint.specs.declared.endpoint.Endpoint.{Endpoint}
 use Rattle.std.specs.Prelude.{is_some}
 use Rattle.coap_watch.specs.Told.{Told}
 use Rattle.coap_watch.specs.Watched.{WasTold}
-use Rattle.coap_port.specs.Driven.{taken_of, takes_some, told_by, tolds_of, DidTurn, DidWatched, DoesTurn, Given, IsDriven, IsWatched, came_last, last_moment, run_at, run_by, run_given, sent_at, stats_of, wait_for, world_by}
+use Rattle.coap_port.specs.Driven.{taken_of, takes_some, told_by, tolds_of, DidTurn, DidWatched, DoesTurn, Given, IsDriven, IsWatched, came_last, last_moment, run_at, run_by, run_given, sent_at, stats_of, wait_for, state_by}
 use Rattle.coap_port.specs.Stats.{no_stats, with_turn}
 use Rattle.coap_port.specs.declared.stats.Stats.{Stats}
 
@@ -60,23 +60,23 @@ module _ {P : Type 0} (gives : P → ℕ → Turn → P → Type 0) (takes : P �
     g = did.given
 
     -- the tables before the turn
-    before : v ≡ world_by w givens
+    before : v ≡ state_by w givens
     before = at.driven.state
 
-    leads : DoesTurn gives takes (world_by w givens) q g q'
+    leads : DoesTurn gives takes (state_by w givens) q g q'
     leads = subst (λ (u : State). DoesTurn gives takes u q g q') before did.does
 
-    asked : g.wait ≡ wait_for (came_last givens) (last_moment first givens) (next_due (world_by w givens))
+    asked : g.wait ≡ wait_for (came_last givens) (last_moment first givens) (next_due (state_by w givens))
     asked =
         did.asked
         ∙ ap (λ (b : Bool). wait_for b (clock q) (next_due v)) at.told
         ∙ ap (λ (n : ℕ). wait_for (came_last givens) n (next_due v)) at.moment
         ∙ ap (λ (u : State). wait_for (came_last givens) (last_moment first givens) (next_due u)) before
 
-    lost : g.lost ≡ true → takes_some (world_by w givens) g.turn ≡ true
+    lost : g.lost ≡ true → takes_some (state_by w givens) g.turn ≡ true
     lost = subst (λ (u : State). g.lost ≡ true → takes_some u g.turn ≡ true) before did.lost
 
-    state : v' ≡ world_by w (g ∷ givens)
+    state : v' ≡ state_by w (g ∷ givens)
     state = did.state ∙ given-apart (run_at v []) (run_by (run_at w []) givens) g before
 
     carries : (history : List Entry) → Carries history w → Carries (run_by (run_at w history) (g ∷ givens)).history v'
@@ -90,7 +90,7 @@ module _ {P : Type 0} (gives : P → ℕ → Turn → P → Type 0) (takes : P �
     counted =
         did.counted
         ∙ ap (λ (u : State). with_turn g.lost (is_some (sent_at u g)) g.went s) before
-        ∙ ap (with_turn g.lost (is_some (sent_at (world_by w givens) g)) g.went) at.driven.counted
+        ∙ ap (with_turn g.lost (is_some (sent_at (state_by w givens) g)) g.went) at.driven.counted
 
     -- one more turn was done
     pub one-more : IsAt first w p v' q' s' arrived

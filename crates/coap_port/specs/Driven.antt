@@ -66,8 +66,8 @@ run_by r (g ∷ before) = run_given (run_by r before) g
 abbrev pub run_at : State → List Entry → Run
 run_at w history = record { state = w; history = history }
 
-abbrev pub world_by : State → List Given → State
-world_by w givens = (run_by (run_at w []) givens).state
+abbrev pub state_by : State → List Given → State
+state_by w givens = (run_by (run_at w []) givens).state
 
 -- whether the last was a datagram, and its moment
 abbrev pub came_last : List Given → Bool
@@ -82,7 +82,7 @@ last_moment first (g ∷ before) = g.turn.now
 abbrev pub AreAsked : State → ℕ → List Given → Type 0
 AreAsked w first [] = Unit {0}
 AreAsked w first (g ∷ before) =
-    (g.wait ≡ wait_for (came_last before) (last_moment first before) (next_due (world_by w before)))
+    (g.wait ≡ wait_for (came_last before) (last_moment first before) (next_due (state_by w before)))
     × AreAsked w first before
 
 -- whether the step of a turn may allocate
@@ -93,14 +93,14 @@ takes_some w t = wants_memory (step_of w t.now t.draw true t.event)
 abbrev pub AreLostForMemory : State → List Given → Type 0
 AreLostForMemory w [] = Unit {0}
 AreLostForMemory w (g ∷ before) =
-    (g.lost ≡ true → takes_some (world_by w before) g.turn ≡ true)
+    (g.lost ≡ true → takes_some (state_by w before) g.turn ≡ true)
     × AreLostForMemory w before
 
 -- the counts of these turns
 abbrev pub stats_of : State → List Given → Stats
 stats_of w [] = no_stats
 stats_of w (g ∷ before) =
-    with_turn g.lost (is_some (sent_at (world_by w before) g)) g.went (stats_of w before)
+    with_turn g.lost (is_some (sent_at (state_by w before) g)) g.went (stats_of w before)
 
 -- ---- what a watcher is told
 
@@ -115,7 +115,7 @@ told_by w g = record {
 
 abbrev pub tolds_of : State → List Given → List Told
 tolds_of w [] = []
-tolds_of w (g ∷ before) = told_by (world_by w before) g ∷ tolds_of w before
+tolds_of w (g ∷ before) = told_by (state_by w before) g ∷ tolds_of w before
 
 -- ---- what a port gave and took
 
@@ -134,7 +134,7 @@ module _ {P : Type 0} (gives : P → ℕ → Turn → P → Type 0)
   -- it gave these turns, one after the other, and was handed what they sent, and nothing else
   abbrev pub LeadsTo : State → P → List Given → P → Type 0
   LeadsTo w p [] q = q ≡ p
-  LeadsTo w p (g ∷ before) q = (m : P) × LeadsTo w p before m × DoesTurn (world_by w before) m g q
+  LeadsTo w p (g ∷ before) q = (m : P) × LeadsTo w p before m × DoesTurn (state_by w before) m g q
 
   -- A proxy was driven over a port, starting at the moment `first`, and the port gave turns, here
   -- the newest first. The proxy did these turns and nothing else, so that it carries their history
@@ -144,7 +144,7 @@ module _ {P : Type 0} (gives : P → ℕ → Turn → P → Type 0)
     pub leads : LeadsTo w p givens q
     pub asked : AreAsked w first givens
     pub lost : AreLostForMemory w givens
-    pub state : v ≡ world_by w givens
+    pub state : v ≡ state_by w givens
     pub carries : (history : List Entry) → Carries history w
         → Carries (run_by (run_at w history) givens).history v
     pub word : (history : List Entry) → Carries history w

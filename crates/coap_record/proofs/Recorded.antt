@@ -8,7 +8,7 @@ use Rattle.coap_model.specs.Runs.{Turn}
 use Rattle.coap_model.specs.State.{State}
 use Rattle.coap_lines.specs.Lines.{ended}
 use Rattle.coap_lines.specs.Turns.{IsReadAs, turn_line, turn_text}
-use Rattle.coap_port.specs.Driven.{Given, HandsOver, LeadsTo, is_arrival, last_moment, sent_at, world_by}
+use Rattle.coap_port.specs.Driven.{Given, HandsOver, LeadsTo, is_arrival, last_moment, sent_at, state_by}
 use Rattle.coap_record.specs.Recorder.{AddsLine, AddsUnless, Gives, Recorder, Takes, Writes, WritesIf, recorded, with_line}
 use Rattle.coap_record.specs.Replayable.{texts_of}
 
@@ -112,7 +112,7 @@ module _ {P W : Type 0} (contents : W → Option (List ℕ)) where
       moment = ap (λ (x : Recorder P W). clock x.port) same;
     }
     run-recorded room w p q (g ∷ before) (m, leads, (n, gave, hands)) on =
-        let over = handed n q (sent_at (world_by w before) g) g.went hands in
+        let over = handed n q (sent_at (state_by w before) g) g.went hands in
         let turn = given room m n g.wait g.turn gave (over.0 ∙ on) in
         let front = run-recorded room w p m before leads turn.before in
         let more : Appends (recorded contents p) (recorded contents n) (ended (texts_of before) ++ turn_line g.turn) =

@@ -8,9 +8,9 @@ use Rattle.coap_model.specs.Runs.{Run, Taken, Turn, one_turn, run_of, step_taken
 use Rattle.coap_model.specs.State.{Step, State}
 use Rattle.coap_lines.specs.Lines.{ended, lines_of}
 use Rattle.coap_lines.specs.Scripts.{AsksFor, Script, script_from, with_turn}
-use Rattle.coap_port.specs.Driven.{Given, IsDriven, run_at, run_by, sent_at, taken_of, world_by}
+use Rattle.coap_port.specs.Driven.{Given, IsDriven, run_at, run_by, sent_at, taken_of, state_by}
 use Rattle.coap_port.specs.declared.stats.Stats.{Stats}
-use Rattle.coap_replay.specs.Replays.{IsReplayed, IsThrough, line_sent, output_of, script_for, with_turns, world_after}
+use Rattle.coap_replay.specs.Replays.{IsReplayed, IsThrough, line_sent, output_of, script_for, with_turns, state_after}
 use Rattle.coap_replay.specs.Replays as replay
 use Rattle.coap_replay.proofs.AllLines.{length-turns}
 use Rattle.coap_replay.proofs.Replaying.{output-more, run-more, turns_of-more}
@@ -42,9 +42,9 @@ line-same w g done = rw done (go (step_taken w (taken_of g)).report.send)
 output-same : (w : State) (givens : List Given) → AreDone givens → output_of w (in_order givens) ≡ lines_handed w givens
 output-same w [] done = refl
 output-same w (g ∷ before) done =
-    let at : (run_of (run_at w []) (in_order before)).state ≡ world_by w before = ap (λ (r : Run). r.state) (run-same (run_at w []) before done.1) in
+    let at : (run_of (run_at w []) (in_order before)).state ≡ state_by w before = ap (λ (r : Run). r.state) (run-same (run_at w []) before done.1) in
     output-more (run_at w []) (in_order before) (taken_of g)
-    ∙ ap₂ (λ (front line : List ℕ). front ++ line) (output-same w before done.1) (ap (λ (u : State). line_sent u (taken_of g)) at ∙ line-same (world_by w before) g done.0)
+    ∙ ap₂ (λ (front line : List ℕ). front ++ line) (output-same w before done.1) (ap (λ (u : State). line_sent u (taken_of g)) at ∙ line-same (state_by w before) g done.0)
 
 -- turns that are the same and found as much memory
 pub taken-same : (ts us : List Taken) → turns_of ts ≡ turns_of us → memory_of ts ≡ memory_of us → ts ≡ us
@@ -89,11 +89,11 @@ all-turns w input left turns all most asks few (inr (many, inr (before, last, ar
 -- a replay that ends well, with as much memory, does what was done in the run
 replayed : (w : State) (givens : List Given) (input : List ℕ) → AreDone givens → script_for w input ≡ record { turns = turns_of (in_order givens); bad = None }
     → (v : State) (most : ℕ) (left old new : Option (List ℕ)) (count : ℕ) (r : IsReplayed w v most (Some input) left old new (Ok count)) → length givens ≤ most
-    → memory_of r.turns ≡ memory_of (in_order givens) → (v ≡ world_by w givens) × Appends old new (lines_handed w givens)
+    → memory_of r.turns ≡ memory_of (in_order givens) → (v ≡ state_by w givens) × Appends old new (lines_handed w givens)
 replayed w givens input done asks v most left old new count r few memory =
     let turns = all-turns w input left r.turns (turns_of (in_order givens)) most asks (omega (arith, few, length-order givens)) r.ends.3 in
     let same : r.turns ≡ in_order givens = taken-same r.turns (in_order givens) turns memory in
-    let state : v ≡ world_by w givens = r.done.state ∙ ap (world_after w) same ∙ ap (λ (q : Run). q.state) (run-same (run_at w []) givens done) in
+    let state : v ≡ state_by w givens = r.done.state ∙ ap (state_after w) same ∙ ap (λ (q : Run). q.state) (run-same (run_at w []) givens done) in
     let lines : output_of w r.turns ≡ lines_handed w givens = ap (output_of w) same ∙ output-same w givens done in
     (state, subst (λ (l : List ℕ). Appends old new l) lines r.ends.2)
 

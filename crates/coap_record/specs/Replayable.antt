@@ -8,7 +8,7 @@ use Rattle.coap_model.specs.State.{State}
 use Rattle.coap_lines.specs.Lines.{ended, is_skipped, is_too_long, line_of}
 use Rattle.coap_lines.specs.Texts.{has, line_feed}
 use Rattle.coap_lines.specs.Turns.{turn_text}
-use Rattle.coap_port.specs.Driven.{Given, run_at, run_by, sent_at, taken_of, world_by}
+use Rattle.coap_port.specs.Driven.{Given, run_at, run_by, sent_at, taken_of, state_by}
 use Rattle.coap_replay.specs.Replays.{IsReplayed, script_for}
 
 -- ---- a run over a port, whose turns are listed the newest first
@@ -36,7 +36,7 @@ line_for now (Some datagram) = line_of now datagram.0 datagram.1
 abbrev pub lines_handed : State → List Given → List ℕ
 lines_handed w [] = []
 lines_handed w (g ∷ before) =
-    lines_handed w before ++ line_for g.turn.now (sent_at (world_by w before) g)
+    lines_handed w before ++ line_for g.turn.now (sent_at (state_by w before) g)
 
 -- ---- a replay
 
@@ -63,4 +63,4 @@ pub record IsReplayable (w : State) (givens : List Given) (input : List ℕ) : T
   pub replayed : (v : State) (most : ℕ) (left old new : Option (List ℕ)) (count : ℕ)
       (r : IsReplayed w v most (Some input) left old new (Ok count)) → length givens ≤ most
       → memory_of r.turns ≡ memory_of (in_order givens)
-      → (v ≡ world_by w givens) × Appends old new (lines_handed w givens)
+      → (v ≡ state_by w givens) × Appends old new (lines_handed w givens)

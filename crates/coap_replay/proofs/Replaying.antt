@@ -20,7 +20,7 @@ use Rattle.coap_replay.specs.declared.error.ReplayError.{ReplayError}
 use Rattle.coap_replay.specs.declared.error.ReplayError.TheVariants.{BadEvent, OutOfMemory, Read, Write}
 use Rattle.coap_replay.specs.declared.replays.Asked.{Asked}
 use Rattle.coap_replay.specs.declared.replays.Asked.TheVariants.{End, Skip, Do}
-use Rattle.coap_replay.specs.Replays.{AsksNext, DoesTurn, HasDone, IfDo, IsAtEvent, IsBroken, IsReadTo, IsReplayed, IsThrough, IsUpTo, MayBeDone, line_sent, output_of, run_at, script_for, taken, takes_some, with_turns, world_after}
+use Rattle.coap_replay.specs.Replays.{AsksNext, DoesTurn, HasDone, IfDo, IsAtEvent, IsBroken, IsReadTo, IsReplayed, IsThrough, IsUpTo, MayBeDone, line_sent, output_of, run_at, script_for, taken, takes_some, with_turns, state_after}
 
 -- ---- one more turn
 
@@ -60,9 +60,9 @@ done-nothing w = record { are = tt; state = refl; carries = λ history c. c; wor
 -- one more turn was done
 done-more : (w v : State) (ts : List Taken) (t : Taken) → HasDone w ts v → MayBeDone v.last v.events t.turn → HasDone w (ts ++ t ∷ []) (step_taken v t).state
 done-more w v ts t d may =
-    let onward : (world_after w ts).last ≤ t.turn.now = subst (λ (u : State). u.last ≤ t.turn.now) d.state may.onward in
+    let onward : (state_after w ts).last ≤ t.turn.now = subst (λ (u : State). u.last ≤ t.turn.now) d.state may.onward in
     let are = are-more (run_at w []) ts t d.are onward may.event in
-    let state : (step_taken v t).state ≡ world_after w (ts ++ t ∷ []) = ap (λ (u : State). (step_taken u t).state) d.state ∙ sym (ap (λ (r : Run). r.state) (run-more (run_at w []) ts t)) in
+    let state : (step_taken v t).state ≡ state_after w (ts ++ t ∷ []) = ap (λ (u : State). (step_taken u t).state) d.state ∙ sym (ap (λ (r : Run). r.state) (run-more (run_at w []) ts t)) in
     record {
       are = are;
       state = state;
@@ -70,7 +70,7 @@ done-more w v ts t d may =
       word = λ history c. keeps-word (run_of (run_at w history) (ts ++ t ∷ [])).history (step_taken v t).state (carries are state history c);
     }
   where
-    carries : AreTurns w.last (turns_of (ts ++ t ∷ [])) → (step_taken v t).state ≡ world_after w (ts ++ t ∷ []) → (history : List Entry) → Carries history w → Carries (run_of (run_at w history) (ts ++ t ∷ [])).history (step_taken v t).state
+    carries : AreTurns w.last (turns_of (ts ++ t ∷ [])) → (step_taken v t).state ≡ state_after w (ts ++ t ∷ []) → (history : List Entry) → Carries history w → Carries (run_of (run_at w history) (ts ++ t ∷ [])).history (step_taken v t).state
     carries are state history c = subst (λ (u : State). Carries (run_of (run_at w history) (ts ++ t ∷ [])).history u) (run-apart (run_at w history) (run_at w []) (ts ++ t ∷ []) refl ∙ sym state) (runs_carry (run_at w history) (ts ++ t ∷ []) c are)
 
 -- ---- the state of a replay
@@ -116,7 +116,7 @@ ends-none w input old = record { turns = []; done = done-nothing w; ends = (refl
     of-any (Some i) = inr (refl, inl (refl, refl))
 
 -- the lines that were read are those before the next one
-up-to-next : (w v : State) (i rest : List ℕ) (turns : List Taken) (lines : ℕ) → v ≡ world_after w turns → StillAsks w i (Some rest) turns lines v → IsUpTo w i turns (lines + 1) (lines_of rest)
+up-to-next : (w v : State) (i rest : List ℕ) (turns : List Taken) (lines : ℕ) → v ≡ state_after w turns → StillAsks w i (Some rest) turns lines v → IsUpTo w i turns (lines + 1) (lines_of rest)
 up-to-next w v i rest turns lines state (done, split, cut, len, script) = record {
   front = lines_of done;
   split = ap lines_of split ∙ lines_of-cut done rest cut;
@@ -125,7 +125,7 @@ up-to-next w v i rest turns lines state (done, split, cut, len, script) = record
 }
 
 -- a line that was read in part is the next one
-broken : (w v : State) (i rest : List ℕ) (left' : Option (List ℕ)) (turns : List Taken) (lines : ℕ) → v ≡ world_after w turns → StillAsks w i (Some rest) turns lines v → IsBegun (Some rest) left' → IsBroken w i left' turns
+broken : (w v : State) (i rest : List ℕ) (left' : Option (List ℕ)) (turns : List Taken) (lines : ℕ) → v ≡ state_after w turns → StillAsks w i (Some rest) turns lines v → IsBegun (Some rest) left' → IsBroken w i left' turns
 broken w v i rest None turns lines state s (part, clear, taken) = absurd taken
 broken w v i rest (Some rest') turns lines state (done, split, cut, len, script) (part, clear, taken) =
     let up : IsUpTo w i turns (lines + 1) (lines_of rest) = up-to-next w v i rest turns lines state (done, split, cut, len, script) in
@@ -225,7 +225,7 @@ module _ (w v : State) (input left left' old new : Option (List ℕ)) (held : Li
       no-more = omega (arith, count-then, more)
 
       -- its line is the one for the tables before it
-      line : line_sent (world_after w at.turns) t ≡ line_sent v t
+      line : line_sent (state_after w at.turns) t ≡ line_sent v t
       line = rw (← at.done.state) refl
 
       -- what is written then
@@ -285,7 +285,7 @@ module _ (w v : State) (input left left' old new : Option (List ℕ)) (held : Li
                 is,
                 refl,
                 subst (λ (n : ℕ). IsUpTo w i at.turns n (lines_of rest)) (sym here) (up-to i rest s),
-                subst (λ (n : ℕ). AsksFor n (world_after w at.turns).last (world_after w at.turns).events (lines_of rest) (turn_seen turn held)) (sym here)
+                subst (λ (n : ℕ). AsksFor n (state_after w at.turns).last (state_after w at.turns).events (lines_of rest) (turn_seen turn held)) (sym here)
                     (subst (λ (u : State). AsksFor (lines + 1) u.last u.events (lines_of rest) (turn_seen turn held)) at.done.state for),
               )
 

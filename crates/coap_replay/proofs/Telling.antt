@@ -11,14 +11,14 @@ use Rattle.coap_model.specs.declared.report.Report.{Report}
 use Rattle.coap_model.specs.Runs.{Run, Taken, Turn, one_turn, step_taken}
 use Rattle.coap_model.specs.State.{Step, State}
 use Rattle.coap_watch.specs.Told as watch
-use Rattle.coap_replay.specs.Replays.{DoesTurn, line_for, run_at, taken, world_after}
+use Rattle.coap_replay.specs.Replays.{DoesTurn, line_for, run_at, taken, state_after}
 use Rattle.coap_replay.specs.Watched.{AreTold, DoesTold, IsTold, TellsTurn, told_in}
 use Rattle.coap_replay.specs.declared.error.ReplayError.{ReplayError}
 use Rattle.coap_replay.specs.declared.error.ReplayError.TheVariants.{BadEvent, OutOfMemory, Read, Write}
 use Rattle.coap_replay.proofs.Replaying.{run-apart, run-more}
 
 -- the tables after a turn and more turns
-after-more : (w : State) (u : Taken) (ts : List Taken) → world_after w (u ∷ ts) ≡ world_after (step_taken w u).state ts
+after-more : (w : State) (u : Taken) (ts : List Taken) → state_after w (u ∷ ts) ≡ state_after (step_taken w u).state ts
 after-more w u ts = run-apart (one_turn (run_at w []) u) (run_at (step_taken w u).state []) ts refl
 
 -- what is told of a step
@@ -56,7 +56,7 @@ module _ {V : Type 0} (sees : V → watch.Told → V → Type 0) where
       (grown_of report.outcome, done.2, subst (λ (u : watch.Told). sees a u b) is seen)
 
   -- one more turn is told
-  more : (w : State) (a m b : V) (ts : List Taken) (t : Taken) → AreTold sees w a ts m → sees m (told_in (world_after w ts) t) b → AreTold sees w a (ts ++ t ∷ []) b
+  more : (w : State) (a m b : V) (ts : List Taken) (t : Taken) → AreTold sees w a ts m → sees m (told_in (state_after w ts) t) b → AreTold sees w a (ts ++ t ∷ []) b
   more w a m b [] t told one = (b, subst (λ (x : V). sees x (told_in w t) b) told one, refl)
   more w a m b (u ∷ ts) t told one =
       (told.0, told.1, more (step_taken w u).state told.0 m b ts t told.2 (subst (λ (v : State). sees m (told_in v t) b) (after-more w u ts) one))

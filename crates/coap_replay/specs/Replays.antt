@@ -41,14 +41,14 @@ abbrev pub run_at : State → List Entry → Run
 run_at w history = record { state = w; history = history }
 
 -- the tables after turns
-abbrev pub world_after : State → List Taken → State
-world_after w turns = (run_of (run_at w []) turns).state
+abbrev pub state_after : State → List Taken → State
+state_after w turns = (run_of (run_at w []) turns).state
 
 -- A proxy did these turns, whose moments never go back, and nothing else. It carries their history
 -- in front of any that it carried before, and keeps its word about that.
 pub record HasDone (w : State) (turns : List Taken) (v : State) : Type 0 where
   pub are : AreTurns w.last (turns_of turns)
-  pub state : v ≡ world_after w turns
+  pub state : v ≡ state_after w turns
   pub carries : (history : List Entry) → Carries history w
       → Carries (run_of (run_at w history) turns).history v
   pub word : (history : List Entry) → Carries history w
@@ -67,7 +67,7 @@ with_turns turns script = record { turns = turns_of turns ++ script.turns; bad =
 -- what lines, numbered from `line` on, ask of a proxy that did these turns
 abbrev pub script_after : State → List Taken → ℕ → List (List ℕ) → Script
 script_after w turns line left =
-    script_from line (world_after w turns).last (world_after w turns).events left
+    script_from line (state_after w turns).last (state_after w turns).events left
 
 -- These turns are those of the lines of an input before the line with this number, and `left` are
 -- the remaining lines: that one, if there is one, and those after it.
@@ -87,8 +87,8 @@ takes_some w t = wants_memory (step_of w t.now t.draw true t.event)
 abbrev pub IsAtEvent : State → List ℕ → List Taken → ℕ → Type 0
 IsAtEvent w input turns line = (left : List (List ℕ)) × (turn : Turn)
     × IsUpTo w input turns line left
-    × AsksFor line (world_after w turns).last (world_after w turns).events left turn
-    × (takes_some (world_after w turns) turn ≡ true)
+    × AsksFor line (state_after w turns).last (state_after w turns).events left turn
+    × (takes_some (state_after w turns) turn ≡ true)
 
 -- nothing has been read or done yet, and the line is the first
 abbrev pub IsAtStart : Option (List ℕ) → Option (List ℕ) → List Taken → ℕ → Type 0
@@ -106,7 +106,7 @@ IsBroken w input (Some rest) turns = (done part : List ℕ)
 -- the last one's
 abbrev pub IsWrittenInPart : State → Option (List ℕ) → Option (List ℕ) → List Taken → Type 0
 IsWrittenInPart w old new turns = (before : List Taken) × (turn : Taken) × (front back : List ℕ)
-    × (turns ≡ before ++ turn ∷ []) × (line_sent (world_after w before) turn ≡ front ++ back)
+    × (turns ≡ before ++ turn ∷ []) × (line_sent (state_after w before) turn ≡ front ++ back)
     × (back ≢ []) × Appends old new (output_of w before ++ front)
 
 -- Nothing of an input was read after the line of the last of these turns, or nothing at all if
@@ -117,7 +117,7 @@ IsReadTo w input left turns = ((turns ≡ []) × (left ≡ Some input))
     ⊎ ((before : List Taken) × (last : Taken) × (turns ≡ before ++ last ∷ [])
     × (done text rest line : List ℕ) × (input ≡ done ++ text) × IsLine text rest line
     × (left ≡ Some rest) × IsUpTo w input before (length (lines_of done) + 1) (lines_of text)
-    × AsksFor (length (lines_of done) + 1) (world_after w before).last (world_after w before).events
+    × AsksFor (length (lines_of done) + 1) (state_after w before).last (state_after w before).events
     (lines_of text) last.turn)
 
 -- The lines of an input have fewer than `most` turns, and these are all of them; or these are

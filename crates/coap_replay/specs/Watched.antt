@@ -3,7 +3,7 @@ use Rattle.std.specs.Prelude.{◌≡◌, Bool, true, List, [], ◌∷◌, Some, 
 use Rattle.coap_model.specs.Runs.{Taken, Turn, step_taken}
 use Rattle.coap_model.specs.State.{State}
 use Rattle.coap_watch.specs.Told as watch
-use Rattle.coap_replay.specs.Replays.{taken, world_after}
+use Rattle.coap_replay.specs.Replays.{taken, state_after}
 use Rattle.coap_replay.specs.declared.error.ReplayError.{ReplayError}
 use Rattle.coap_replay.specs.declared.error.ReplayError.TheVariants.{BadEvent, OutOfMemory, Read, Write}
 
@@ -27,7 +27,7 @@ module _ {V : Type 0} (sees : V → watch.Told → V → Type 0) where
   -- it was told of turns that lead from a proxy to what the proxy is now
   pub record IsTold (w : State) (a : V) (v : State) (b : V) : Type 0 where
     pub turns : List Taken
-    pub state : v ≡ world_after w turns
+    pub state : v ≡ state_after w turns
     pub told : AreTold w a turns b
 
   -- a turn was done, and it was told of that

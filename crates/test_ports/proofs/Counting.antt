@@ -3,7 +3,7 @@ use Rattle.std.proofs.Common.{◌≡◌, ◌+◌, ◌≤◌, ℕ, Bool, true, fa
 use Rattle.std.specs.Prelude.{count_by, is_some}
 use Rattle.std.proofs.lemmas.List.Sums.{sum_by-cons}
 use Rattle.coap_model.specs.State.{State}
-use Rattle.coap_port.specs.Driven.{Given, sent_at, stats_of, world_by}
+use Rattle.coap_port.specs.Driven.{Given, sent_at, stats_of, state_by}
 use Rattle.coap_port.specs.Stats.{more, with_turn}
 use Rattle.coap_port.specs.declared.stats.Stats.{Stats}
 use Rattle.test_ports.specs.Computed.{was_lost}
@@ -42,4 +42,4 @@ counted-once false false went s none few = omega (arith, few)
 -- so none is
 pub once-each : (w : State) (givens : List Given) → (stats_of w givens).lost + (stats_of w givens).sent + (stats_of w givens).send_faults ≤ (stats_of w givens).turns
 once-each w [] = omega arith
-once-each w (g ∷ before) = counted-once g.lost (is_some (sent_at (world_by w before) g)) g.went (stats_of w before) (lost-sends-nothing (world_by w before) g) (once-each w before)
+once-each w (g ∷ before) = counted-once g.lost (is_some (sent_at (state_by w before) g)) g.went (stats_of w before) (lost-sends-nothing (state_by w before) g) (once-each w before)

@@ -7,7 +7,7 @@ ghost use Rattle.coap_model.specs.History.{Entry};
 ghost use Rattle.coap_model.specs.Runs.{run_of, turns_of};
 ghost use Rattle.coap_model.specs.State.{State};
 ghost use Rattle.coap_model.specs.Word.{KeepsItsWord};
-ghost use Rattle.coap_port.specs.Driven.{AreAsked, AreLostForMemory, Given, IsDriven, run_at, run_by, world_by};
+ghost use Rattle.coap_port.specs.Driven.{AreAsked, AreLostForMemory, Given, IsDriven, run_at, run_by, state_by};
 ghost use Rattle.coap_port.specs.declared.stats.Stats.{Stats};
 ghost use Rattle.coap_record.specs.Replayable.{IsReplayable, in_order, lines_handed, memory_of};
 ghost use Rattle.coap_replay.specs.Replays.{IsReplayed, script_for};
@@ -30,11 +30,12 @@ pub fn runs_are_counted<P: Port>()
 {}
 
 /// A run leads to the tables that its turns lead to, which carry their history, and the promise in
-/// short is kept. Its port was asked for each turn with the wait that is due, and only a turn that may allocate was lost.
+/// short is kept. Its port was asked for each turn with the wait that is due, and only a turn that
+/// may allocate was lost.
 pub fn runs_are_promised<P: Port>()
     ensures tables { (room first : ℕ) (w v : State) (p q : P) (s : Stats)
         (run : IsDriven (P.gives room) P.takes first w p v q s)
-        → v ≡ world_by w run.givens }
+        → v ≡ state_by w run.givens }
     ensures carries { (room first : ℕ) (w v : State) (p q : P) (s : Stats) (history : List Entry)
         (run : IsDriven (P.gives room) P.takes first w p v q s)
         → Carries history w
@@ -67,7 +68,7 @@ pub fn recordings_are_replayed()
         → IsReplayable w givens input
         → length givens ≤ most
         → memory_of replay.turns ≡ memory_of (in_order givens)
-        → v ≡ world_by w givens }
+        → v ≡ state_by w givens }
     ensures lines { (w v : State) (givens : List Given) (input : List ℕ) (most count : ℕ)
         (left old new : Option (List ℕ))
         (replay : IsReplayed w v most (Some input) left old new (Ok count))
