@@ -1,11 +1,10 @@
 -- Texts that are cut at the first occurrence of a byte.
-use Rattle.std.proofs.Common.{◌≡◌, ◌==◌, ℕ, true, false, List, [], ◌∷◌, ◌++◌, ◌≤◌, length, drop, Some, None, Option, option_map, refl, sym, ap, ◌∙◌, arith, ⊎_elim, cond, eq-eqb}
-use Rattle.std.specs.List.{All, join_with_byte, slice_split}
+use Rattle.std.proofs.Common.{◌≡◌, ◌==◌, ℕ, true, false, List, [], ◌∷◌, ◌++◌, ◌+◌, ◌<◌, ◌≤◌, length, drop, drop-cons, take, get_or, suc, add-one, Some, None, Option, option_map, refl, sym, ap, ◌∙◌, arith, ⊎_elim, cond, eq-eqb}
+use Rattle.std.specs.List.{All}
 use Rattle.std.specs.Option.{unwrap_or}
 use Rattle.std.proofs.lemmas.Bool.{cases_Bool, eqb-true, or_parts}
-use Rattle.std.proofs.lemmas.List.{length-append}
+use Rattle.std.proofs.lemmas.List.{get_or-take, length-take, take-append-drop}
 use Rattle.std.proofs.lemmas.List.Elements.{All-nil, All-cons}
-use Rattle.std.proofs.lemmas.List.Splits.{join_with_byte-slice_split, length-slice_split, slice_split_at, slice_split_none}
 use Rattle.std.proofs.lemmas.Option.{none-some}
 use Rattle.coap_lines.specs.Texts.{cut, has, with_front}
 
@@ -54,12 +53,6 @@ cut-is byte (b ∷ text) front rest found =
         let after : r ≡ rest = ap (λ (o : Option (List ℕ × List ℕ)). (unwrap_or {T = List ℕ × List ℕ} o ([], [])).1) made in
         rw (← before, ← after) (ap (λ t. b ∷ t) split.0, rw miss split.1)
 
--- what comes after it is no longer than the text
-pub cut-shorter : (byte : ℕ) (text front rest : List ℕ) → Some (front, rest) ≡ cut byte text → length rest ≤ length text
-cut-shorter byte text front rest found =
-    let split = (cut-is byte text front rest (sym found)).0 in
-    omega (arith, ap (λ (l : List ℕ). length l) split, length-append front (byte ∷ rest))
-
 -- each byte of a text without the byte is a different one
 pub All-others : (byte : ℕ) (text : List ℕ) → has byte text ≡ false → All (λ b. (b == byte) ≡ false) text
 All-others byte [] none = All-nil (λ b. (b == byte) ≡ false)
@@ -80,48 +73,21 @@ none-has byte (b ∷ text) none =
     unmapped None is = refl
     unmapped (Some p) is = absurd (none-some (with_front b p) (sym is))
 
--- the parts of a text that is cut
-slice_split-cut : (byte : ℕ) (text front rest : List ℕ) → cut byte text ≡ Some (front, rest) → slice_split (λ b. b == byte) text ≡ front ∷ slice_split (λ b. b == byte) rest
-slice_split-cut byte text front rest found =
-    let is = cut-is byte text front rest found in
-    rw (is.0) (slice_split_at (λ b. b == byte) front byte rest (All-others byte front is.1) (eq-eqb byte byte refl))
+-- a text doesn't contain a byte that stands at no place of it
+free : (byte : ℕ) (text : List ℕ) → ((k : ℕ) → k < length text → (get_or text k 0 == byte) ≡ true → ⊥) → has byte text ≡ false
+free byte [] nowhere = refl
+free byte (b ∷ text) nowhere =
+    let miss : (b == byte) ≡ false = ⊎_elim (λ hit. absurd (nowhere 0 (omega arith) hit)) (λ miss. miss) (cases_Bool (b == byte)) in
+    rw (miss, free byte text (λ k inside. nowhere (suc k) (omega arith))) refl
 
--- the part of a text that isn't cut
-slice_split-uncut : (byte : ℕ) (text : List ℕ) → cut byte text ≡ None → slice_split (λ b. b == byte) text ≡ text ∷ []
-slice_split-uncut byte text none = slice_split_none (λ b. b == byte) text (All-others byte text (none-has byte text none))
+-- a text is cut at the first place of the byte
+pub cut-at : (byte : ℕ) (text : List ℕ) (place : ℕ) → place < length text → ((k : ℕ) → 0 ≤ k → k < place → (get_or text k 0 == byte) ≡ true → ⊥) → (get_or text place 0 == byte) ≡ true → cut byte text ≡ Some (take place text, drop (place + 1) text)
+cut-at byte text place inside before here =
+    let same : get_or text place 0 ≡ byte = eqb-true (get_or text place 0) byte here in
+    let front = free byte (take place text) (λ k within hit. let early : k < place = omega (arith, length-take place text) in before k (omega arith) early (rw (get_or-take place text k 0 early) at hit)) in
+    let split : take place text ++ (get_or text place 0 ∷ drop (place + 1) text) ≡ text = rw (add-one, ← drop-cons text place 0 inside) (take-append-drop place text) in
+    ap (cut byte) (sym (rw same at split)) ∙ cut-front byte (take place text) (drop (place + 1) text) front
 
--- there is at least one part
-some-part : (byte : ℕ) (text : List ℕ) → slice_split (λ b. b == byte) text ≡ [] → ⊥
-some-part byte text none =
-    let count = length-slice_split (λ b. b == byte) text in
-    let zero : length (slice_split (λ b. b == byte) text) ≡ 0 = rw none refl in
-    omega arith
-
--- texts with the same parts are equal
-same-parts : (byte : ℕ) (a b : List ℕ) → slice_split (λ x. x == byte) a ≡ slice_split (λ x. x == byte) b → a ≡ b
-same-parts byte a b same =
-    sym (join_with_byte-slice_split byte a) ∙ ap (join_with_byte byte) same ∙ join_with_byte-slice_split byte b
-
--- a text is cut after its first part, if others follow
-pub cut-parts : (byte : ℕ) (text front rest : List ℕ) → slice_split (λ b. b == byte) text ≡ front ∷ slice_split (λ b. b == byte) rest → cut byte text ≡ Some (front, rest)
-cut-parts byte text front rest parts = go (cut byte text) refl
-  where
-    go : (o : Option (List ℕ × List ℕ)) → cut byte text ≡ o → o ≡ Some (front, rest)
-    go None is =
-        let one : text ∷ [] ≡ front ∷ slice_split (λ b. b == byte) rest = sym (slice_split-uncut byte text is) ∙ parts in
-        absurd (some-part byte rest (sym (ap (drop 1) one)))
-    go (Some (f, r)) is =
-        let two : f ∷ slice_split (λ b. b == byte) r ≡ front ∷ slice_split (λ b. b == byte) rest = sym (slice_split-cut byte text f r is) ∙ parts in
-        let before : f ≡ front = cc in
-        let after : r ≡ rest = same-parts byte r rest (ap (drop 1) two) in
-        rw (before, after) refl
-
--- a text with one part isn't cut
-pub cut-part : (byte : ℕ) (text front : List ℕ) → slice_split (λ b. b == byte) text ≡ front ∷ [] → cut byte text ≡ None
-cut-part byte text front part = go (cut byte text) refl
-  where
-    go : (o : Option (List ℕ × List ℕ)) → cut byte text ≡ o → o ≡ None
-    go None is = refl
-    go (Some (f, r)) is =
-        let two : f ∷ slice_split (λ b. b == byte) r ≡ front ∷ [] = sym (slice_split-cut byte text f r is) ∙ part in
-        absurd (some-part byte r (ap (drop 1) two))
+-- and isn't cut if it has none
+pub cut-nowhere : (byte : ℕ) (text : List ℕ) → ((k : ℕ) → 0 ≤ k → k < length text → (get_or text k 0 == byte) ≡ true → ⊥) → cut byte text ≡ None
+cut-nowhere byte text nowhere = cut-without byte text (free byte text (λ k within. nowhere k (omega arith) within))

@@ -1,41 +1,19 @@
 -- The bytes of a datagram as a text, and what is read.
-use Rattle.std.proofs.Common.{◌≡◌, ℕ, ◌+◌, ◌/◌, ◌%◌, ◌<◌, ◌≤◌, Bool, true, false, List, [], ◌∷◌, ◌++◌, length, take, get_or, slice_index, ◌∙◌, codes, Option, Some, None, Result, Ok, Err, refl, sym, ap, arith, cond, inl, inr, leb, le-leb, ◌≢◌, ◌==◌}
+use Rattle.std.proofs.Common.{◌≡◌, ℕ, ◌/◌, ◌<◌, ◌≤◌, Bool, true, false, List, [], ◌∷◌, ◌++◌, length, take, ◌∙◌, codes, Option, Some, None, Result, Ok, Err, refl, sym, ap, arith, cond, inl, inr, leb, le-leb, ◌≢◌, ◌==◌}
 use Rattle.std.specs.Option.{unwrap_or}
 use Rattle.std.specs.Str.{bytes_eq}
 use Rattle.std.proofs.lemmas.Bool.{leb-true, lt-leb, and_parts, false≢true, ne_eqb}
-use Rattle.std.proofs.lemmas.List.{append-nil, drop_all, take_all, take_more}
+use Rattle.std.proofs.lemmas.List.{append-nil, drop_all, take_all}
 use Rattle.std.specs.List.{list_all, list_any}
 use Rattle.std.proofs.lemmas.List.Sums.{list_all-from_AllPass}
 use Rattle.std.proofs.lemmas.Option.{none-some}
 use Rattle.std.proofs.lemmas.Slice.Eq.{bytes_eq-Decides}
 use Rattle.hex.specs.declared.error.FromHexError.{FromHexError}
 use Rattle.hex.proofs.HexLemmas.{decode_of-ok}
-use Rattle.hex.specs.Hex.{decode_of, encode_upper, encode_with, is_hex_digit, upper_digits}
+use Rattle.hex.specs.Hex.{decode_of, is_hex_digit}
 use Rattle.coap_message.specs.Datagram.{written_over}
 use Rattle.coap_lines.specs.Datagrams.{IsHex, bytes_at_front, bytes_read, decoded, digits_read}
 use Rattle.coap_lines.specs.Answers.{Finds}
-
--- the digits of bytes followed by others
-encode_with-append : (table xs ys : List ℕ) → encode_with table (xs ++ ys) ≡ encode_with table xs ++ encode_with table ys
-unfolding encode_with
-encode_with-append table [] ys = refl
-encode_with-append table (x ∷ xs) ys = ap (λ (l : List ℕ). slice_index table (x / 16) ∷ slice_index table (x % 16) ∷ l) (encode_with-append table xs ys)
-
--- no bytes have no digits
-pub encode-none : encode_upper [] ≡ []
-unfolding encode_with
-encode-none = refl
-
--- the two digits of a byte
-encode-one : (b : ℕ) → encode_upper (b ∷ []) ≡ slice_index upper_digits (b / 16) ∷ slice_index upper_digits (b % 16) ∷ []
-unfolding encode_with
-encode-one b = refl
-
--- the digits of one more byte
-pub encode-more : (bytes : List ℕ) (i : ℕ) → i < length bytes → encode_upper (take (i + 1) bytes) ≡ encode_upper (take i bytes) ++ (slice_index upper_digits (get_or bytes i 0 / 16) ∷ slice_index upper_digits (get_or bytes i 0 % 16) ∷ [])
-encode-more bytes i within =
-    ap encode_upper (take_more bytes i 0 within) ∙ encode_with-append upper_digits (take i bytes) (get_or bytes i 0 ∷ [])
-    ∙ ap (λ (l : List ℕ). encode_upper (take i bytes) ++ l) (encode-one (get_or bytes i 0))
 
 -- a hyphen encodes no bytes
 pub hyphen-read : (text : List ℕ) → bytes_eq text (codes "-") ≡ true → bytes_read text ≡ Some []

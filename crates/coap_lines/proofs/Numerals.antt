@@ -1,15 +1,17 @@
 -- Numbers as texts: what is read, and what is written.
-use Rattle.std.proofs.Common.{◌≡◌, ◌==◌, ℕ, ◌+◌, ◌%◌, ◌^◌, ◌<◌, ◌≤◌, Bool, true, false, ◌&&◌, ◌||◌, List, length, get_or, Option, Some, None, Result, Ok, Err, refl, sym, arith, ⊎_elim, ltb, leb, cond, eq-eqb, le-leb, zero, suc, ◌≢◌}
+use Rattle.std.proofs.Common.{◌≡◌, ◌==◌, ℕ, ◌+◌, ◌-◌, ◌*◌, ◌%◌, ◌^◌, ◌<◌, ◌≤◌, Bool, true, false, ◌&&◌, ◌||◌, List, length, get_or, take, Option, Some, None, refl, sym, arith, ⊎_elim, ltb, leb, cond, eq-eqb, le-leb, zero, suc}
 use Rattle.std.specs.Fmt.{decimal, digits}
-use Rattle.std.specs.Str.{IsUtf8, bytes_eq}
-use Rattle.std.specs.Str.Parse.{AllDigits, ParsesUnsigned, digits_value}
+use Rattle.std.specs.Char.{digit_value, is_ascii_digit}
+use Rattle.std.specs.Str.{bytes_eq}
+use Rattle.std.specs.Str.Parse.{AllDigits, digits_value}
 use Rattle.std.proofs.lemmas.Bool.{and_parts, cases_Bool, eqb-false, eqb-true, leb-true, ltb-false, ltb-true, or_parts}
-use Rattle.std.proofs.lemmas.Fmt.{IsAscii-decimal, decimal_by_steps, decimal-digits_value, decimal_is_IsNumeral, first_decimal}
+use Rattle.std.proofs.lemmas.Bool.Decides.{nat_tests}
+use Rattle.std.proofs.lemmas.Int.Digits.{digits_more, digits_value_more}
+use Rattle.std.proofs.lemmas.Fmt.{decimal_by_steps, decimal-digits_value, decimal_is_IsNumeral, first_decimal}
 use Rattle.std.proofs.lemmas.List.Folds.{list_any-append}
 use Rattle.std.proofs.lemmas.Option.{none-some}
 use Rattle.std.proofs.lemmas.Slice.Eq.{bytes_eq-Decides}
-use Rattle.std.proofs.lemmas.Str.{IsUtf8-from_ascii}
-use Rattle.std.proofs.lemmas.Str.Parse.{IsNumeralModel, digit_at, numerals_by_value, parse_plain, tells_digits}
+use Rattle.std.proofs.lemmas.Str.Parse.{IsNumeralModel, digit_at, digits_value-take-le, numerals_by_value, tells_digits}
 use Rattle.coap_lines.specs.Numbers.{number_of}
 use Rattle.coap_lines.specs.Texts.{has}
 
@@ -48,9 +50,9 @@ number_of-none most text never = go (number_of most text) refl
     go None is = is
     go (Some n) is = let written = number_of-is most n text is in absurd (never n written.0 written.1)
 
--- a text begins with a plus, or with a zero before another byte
-abbrev pub has_needless_start : List ℕ → Bool
-has_needless_start text = (get_or text 0 0 == 43) || ((get_or text 0 0 == 48) && ltb 1 (length text))
+-- a text is empty, or begins with a zero before another byte
+abbrev pub has_wrong_start : List ℕ → Bool
+has_wrong_start text = (length text == 0) || ((get_or text 0 0 == 48) && ltb 1 (length text))
 
 -- a number whose text begins with a zero is zero
 zero_first : (n : ℕ) → n < 2 ^ 64 → get_or (decimal n) 0 0 ≡ 48 → 1 < length (decimal n) → ⊥
@@ -59,68 +61,65 @@ zero_first zero bound nought long = omega arith
 zero_first (suc m) bound nought long = let above = first_decimal (suc m) (omega arith) bound in omega arith
 
 -- such a text gives no number
-starts_odd : (n : ℕ) (text : List ℕ) → n < 2 ^ 64 → text ≡ decimal n → has_needless_start text ≡ true → ⊥
-starts_odd n text bound spelled odd =
+starts_wrong : (n : ℕ) (text : List ℕ) → n < 2 ^ 64 → text ≡ decimal n → has_wrong_start text ≡ true → ⊥
+starts_wrong n text bound spelled wrong =
     let numeral = (decimal_is_IsNumeral n bound).0 in
-    let first = digit_at (decimal n) 0 numeral.1 numeral.0 in
     ⊎_elim
-    (λ plus. let is : get_or text 0 0 ≡ 43 = eqb-true (get_or text 0 0) 43 plus in let start : get_or (decimal n) 0 0 ≡ 43 = rw spelled at is in omega arith)
+    (λ empty. let is : length text ≡ 0 = eqb-true (length text) 0 empty in let none : length (decimal n) ≡ 0 = rw spelled at is in omega (arith, numeral.0))
     (λ other.
-    let rest : ((get_or text 0 0 == 48) && ltb 1 (length text)) ≡ true = rw other at odd in
+    let rest : ((get_or text 0 0 == 48) && ltb 1 (length text)) ≡ true = rw other at wrong in
     let parts = and_parts (get_or text 0 0 == 48) (ltb 1 (length text)) rest in
     let nought : get_or (decimal n) 0 0 ≡ 48 = rw spelled at (eqb-true (get_or text 0 0) 48 parts.0) in
     let long : 1 < length (decimal n) = rw spelled at (ltb-true 1 (length text) parts.1) in
     zero_first n bound nought long)
-    (cases_Bool (get_or text 0 0 == 43))
+    (cases_Bool (length text == 0))
 
 -- so no number is read from it
-pub odd-none : (most : ℕ) (text : List ℕ) → most < 2 ^ 64 → has_needless_start text ≡ true → number_of most text ≡ None
-odd-none most text bound odd = number_of-none most text (λ n spelled within. starts_odd n text (omega arith) spelled odd)
+pub wrong-none : (most : ℕ) (text : List ℕ) → most < 2 ^ 64 → has_wrong_start text ≡ true → number_of most text ≡ None
+wrong-none most text bound wrong = number_of-none most text (λ n spelled within. starts_wrong n text (omega arith) spelled wrong)
 
--- a text that isn't valid UTF-8 gives no number
-pub unreadable-none : (most : ℕ) (text : List ℕ) → most < 2 ^ 64 → ¬ (IsUtf8 text) → number_of most text ≡ None
-unreadable-none most text bound bad = number_of-none most text (λ n spelled within. bad (rw spelled (IsUtf8-from_ascii (decimal n) (IsAscii-decimal n (omega arith)))))
+-- nor from a text with a byte that isn't a digit
+pub other-none : (most : ℕ) (text : List ℕ) (i : ℕ) → most < 2 ^ 64 → i < length text → is_ascii_digit (get_or text i 0) ≡ false → number_of most text ≡ None
+other-none most text i bound inside other = number_of-none most text (λ n spelled within.
+    let digits : AllDigits 10 text = rw spelled (decimal_is_IsNumeral n (omega arith)).0.1 in
+    let digit = digit_at text i digits inside in
+    grind (arith, nat_tests))
 
--- a text without such a start begins neither with a plus nor with a needless zero
-plain_start : (text : List ℕ) → has_needless_start text ≡ false → (get_or text 0 0 ≢ 43) × (get_or text 0 0 ≡ 48 → length text ≤ 1)
-plain_start text plain =
-    let parts = or_parts (get_or text 0 0 == 43) ((get_or text 0 0 == 48) && ltb 1 (length text)) plain in
-    (eqb-false (get_or text 0 0) 43 parts.0, λ nought. ltb-false 1 (length text) (rw (eq-eqb (get_or text 0 0) 48 nought) at parts.1))
+-- nor from one whose first digits give too great a number
+pub great-none : (most : ℕ) (text : List ℕ) (i : ℕ) → most < 2 ^ 64 → 2 ^ 64 ≤ digits_value 10 (take i text) → number_of most text ≡ None
+great-none most text i bound great = number_of-none most text (λ n spelled within.
+    let value : digits_value 10 text ≡ n = rw spelled (decimal_is_IsNumeral n (omega arith)).1 in
+    omega (arith, digits_value-take-le 10 text i (omega arith), value))
 
--- a text without a plus and leading zeros that the standard library parsed is the number's text
-parsed : (n : ℕ) (text : List ℕ) → has_needless_start text ≡ false → ParsesUnsigned {E = ℕ} 64 10 text (Ok n) → (text ≡ decimal n) × (digits_value 10 text ≡ n)
-parsed n text plain reads =
-    let start = plain_start text plain in
-    let answer : Result ℕ ℕ = Ok n in
-    let read = parse_plain own 64 text answer reads start.0 in
-    let some = read.0.1 in
-    let spelled = decimal-digits_value own text read.0.0 some (λ nought. let short = start.1 nought in omega arith) read.0.2 in
-    (rw (read.1) (sym spelled), sym read.1)
+-- the number of one more digit
+pub next_number : (text : List ℕ) (i number : ℕ) → i < length text → is_ascii_digit (get_or text i 0) ≡ true → number ≡ digits_value 10 (take i text) → digits_value 10 (take (i + 1) text) ≡ number * 10 + (get_or text i 0 - 48)
+next_number text i number inside digit value =
+    let worth : digit_value (get_or text i 0) ≡ get_or text i 0 - 48 = grind (arith, nat_tests) in
+    rw (digits_value_more 10 text i inside, worth, value)
 
--- so that number is read
-pub parsed-some : (most n : ℕ) (text : List ℕ) → has_needless_start text ≡ false → ParsesUnsigned {E = ℕ} 64 10 text (Ok n) → n ≤ most → number_of most text ≡ Some n
-parsed-some most n text plain reads within =
-    let is = parsed n text plain reads in
-    number_of-some most n text is.1 is.0 within
+-- one more digit
+pub next_digit : (text : List ℕ) (i : ℕ) → i < length text → is_ascii_digit (get_or text i 0) ≡ true → AllDigits 10 (take i text) → AllDigits 10 (take (i + 1) text)
+next_digit text i inside digit before =
+    let small : digit_value (get_or text i 0) < 10 = grind (arith, nat_tests) in
+    digits_more 10 text i inside before small
 
--- a number that is too great
-pub parsed-more : (most n : ℕ) (text : List ℕ) → most < 2 ^ 64 → has_needless_start text ≡ false → ParsesUnsigned {E = ℕ} 64 10 text (Ok n) → (n ≤ most → ⊥) → number_of most text ≡ None
-parsed-more most n text bound plain reads above = number_of-none most text (λ m spelled within.
-    let is = parsed n text plain reads in
-    let small : m < 2 ^ 64 = omega arith in
-    let value : digits_value 10 (decimal m) ≡ m = (decimal_is_IsNumeral m small).1 in
-    let same : digits_value 10 (decimal m) ≡ n = rw spelled at is.1 in
-    above (omega arith))
+-- digits without such a start are the text of their number
+spelled_by : (text : List ℕ) → has_wrong_start text ≡ false → AllDigits 10 text → digits_value 10 text < 2 ^ 64 → text ≡ decimal (digits_value 10 text)
+spelled_by text right digits bound =
+    let parts = or_parts (length text == 0) ((get_or text 0 0 == 48) && ltb 1 (length text)) right in
+    let some : 0 < length text = let here = eqb-false (length text) 0 parts.0 in omega arith in
+    sym (decimal-digits_value own text digits some (λ nought. let short = ltb-false 1 (length text) (rw (eq-eqb (get_or text 0 0) 48 nought) at parts.1) in omega arith) bound)
 
--- a text that it couldn't parse
-pub parsed-none : (most : ℕ) (text : List ℕ) → most < 2 ^ 64 → has_needless_start text ≡ false → ParsesUnsigned {E = ℕ} 64 10 text (Err 0) → number_of most text ≡ None
-parsed-none most text bound plain reads = number_of-none most text (λ m spelled within.
-    let small : m < 2 ^ 64 = omega arith in
-    let numeral = decimal_is_IsNumeral m small in
-    let start = plain_start text plain in
-    let answer : Result ℕ ℕ = Err 0 in
-    let never = parse_plain own 64 text answer reads start.0 in
-    never (rw spelled (numeral.0.1, numeral.0.0, omega (arith, numeral.1))))
+-- so their number is read
+pub spelled-some : (most n : ℕ) (text : List ℕ) → has_wrong_start text ≡ false → AllDigits 10 text → n ≡ digits_value 10 text → n < 2 ^ 64 → n ≤ most → number_of most text ≡ Some n
+spelled-some most n text right digits value bound within =
+    number_of-some most n text (sym value) (rw value (spelled_by text right digits (omega (arith, value)))) within
+
+-- unless it is too great
+pub spelled-more : (most n : ℕ) (text : List ℕ) → most < 2 ^ 64 → n ≡ digits_value 10 text → most < n → number_of most text ≡ None
+spelled-more most n text bound value above = number_of-none most text (λ m spelled within.
+    let same : digits_value 10 text ≡ m = rw spelled (decimal_is_IsNumeral m (omega arith)).1 in
+    omega (arith, value, same))
 
 -- a number's text is read
 pub number_of-written : (most n : ℕ) (text : List ℕ) → most < 2 ^ 64 → (text ≡ decimal n) × (n ≤ most) → number_of most text ≡ Some n

@@ -4,13 +4,13 @@ ghost use Rattle.std.specs.Char.{is_digit};
 ghost use Rattle.std.specs.List.{list_all};
 ghost use Rattle.coap_lines.specs.Numbers.{group_of, number_of};
 
-/// Whether a text begins with a plus, or with a zero before another byte.
-fn has_needless_start(text: &[u8]) -> bool
-    ensures { result ≡ ((slice_index text.now 0 == 43)
-        || ((slice_index text.now 0 == 48) && nat_lt 1 (length text.now))) }
+/// Whether a text is empty, or begins with a zero before another byte.
+fn has_wrong_start(text: &[u8]) -> bool
+    ensures { result ≡ (length text.now == 0)
+        || ((slice_index text.now 0 == 48) && nat_lt 1 (length text.now)) }
 {
     match text {
-        [b'+', ..] | [b'0', _, ..] => true,
+        [] | [b'0', _, ..] => true,
         _ => false,
     }
 }
@@ -20,16 +20,17 @@ pub(crate) fn read_number(text: &[u8], most: u64) -> Option<u64>
     ensures read { result ≡ number_of most text.now }
     ensures within { IfSome result (λ number. number ≤ most) }
 {
-    if has_needless_start(text) {
+    if has_wrong_start(text) {
         return None;
     }
-    let Ok(digits) = str::from_utf8(text) else {
-        return None;
-    };
-    match digits.parse::<u64>() {
-        Ok(number) if number <= most => Some(number),
-        _ => None,
+    let mut number: u64 = 0;
+    for &byte in text {
+        if !byte.is_ascii_digit() {
+            return None;
+        }
+        number = number.checked_mul(10)?.checked_add(u64::from(byte - b'0'))?;
     }
+    if number <= most { Some(number) } else { None }
 }
 
 /// Whether all bytes are hexadecimal digits, in either case.

@@ -9,15 +9,16 @@ use crate::room::put;
 /// The hexadecimal digits, in upper case.
 const DIGITS: &[u8; 16] = b"0123456789ABCDEF";
 
-/// The two hexadecimal digits of a byte, in upper case.
-fn digits_of(byte: u8) -> [u8; 2]
-    ensures { result
-        ≡ slice_index upper_digits (byte / 16) ∷ slice_index upper_digits (byte % 16) ∷ [] }
+/// Writes the hexadecimal digits of bytes, in upper case, to twice as many places.
+fn write_digits(bytes: &[u8], places: &mut [u8])
+    requires { length places.old ≡ 2 * length bytes.now }
+    ensures { places.new ≡ encode_upper bytes.now }
 {
-    [
-        DIGITS[usize::from(byte / 16)],
-        DIGITS[usize::from(byte % 16)],
-    ]
+    for i in 0..bytes.len() {
+        let byte = bytes[i];
+        places[2 * i] = DIGITS[usize::from(byte / 16)];
+        places[2 * i + 1] = DIGITS[usize::from(byte % 16)];
+    }
 }
 
 /// Adds the hexadecimal digits of bytes, in upper case.
@@ -25,9 +26,9 @@ fn put_digits(out: &mut Vec<u8>, bytes: &[u8])
     requires { HasRoom out.old (2 * length bytes.now) }
     ensures { Adds out.old out.new (encode_upper bytes.now) (2 * length bytes.now) }
 {
-    for byte in bytes {
-        put(out, &digits_of(*byte));
-    }
+    let start = out.len();
+    out.resize(start + 2 * bytes.len(), 0).unwrap();
+    write_digits(bytes, &mut out[start..]);
 }
 
 /// Adds the text of a datagram: hexadecimal digits in upper case, or a hyphen for no bytes.

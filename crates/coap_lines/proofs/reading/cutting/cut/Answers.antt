@@ -1,12 +1,16 @@
-use Rattle.std.proofs.Common.{sym}
-use Rattle.coap_lines.proofs.Cuts.{cut-part, cut-parts, cut-shorter}
+use Rattle.std.proofs.Common.{◌≡◌, ◌+◌, ◌-◌, ◌∙◌, ap, arith, drop, length, sym, take}
+use Rattle.std.proofs.lemmas.List.{length-drop, take_all}
+use Rattle.coap_lines.specs.Texts.{parts_seen}
+use Rattle.coap_lines.proofs.Cuts.{cut-at, cut-nowhere}
 use Rattle.coap_lines.proofs.reading.cutting.cut.Goals as goal
 
-pub returns-in-Some-clause-parts : goal.returns-in-Some-clause-parts
-returns-in-Some-clause-parts c = sym (cut-parts c.args.byte c.args.text.now _ c.in-Some.after.now (rw c.in-Some.is at c.first_part.ensures.parts))
+pub returns-in_err-place-clause-parts : goal.returns-in_err-place-clause-parts
+returns-in_err-place-clause-parts c = ap parts_seen c.from_residual.ensures ∙ sym (cut-nowhere c.args.byte c.args.text.now c.in_err-place.ensures)
 
-pub returns-in-Some-clause-within : goal.returns-in-Some-clause-within
-returns-in-Some-clause-within c = cut-shorter c.args.byte c.args.text.now _ c.in-Some.after.now (sym (cut-parts c.args.byte c.args.text.now _ c.in-Some.after.now (rw c.in-Some.is at c.first_part.ensures.parts)))
-
-pub returns-in-None-clause-parts : goal.returns-in-None-clause-parts
-returns-in-None-clause-parts c = sym (cut-part c.args.byte c.args.text.now _ (rw c.in-None.is at c.first_part.ensures.parts))
+pub returns-clause-parts : goal.returns-clause-parts
+returns-clause-parts c =
+    let found = c.in_ok-place.ensures in
+    let text = c.args.text.now in
+    let place = c.in_ok-place.place in
+    let rest : take (length text - (place + 1)) (drop (place + 1) text) ≡ drop (place + 1) text = take_all (length text - (place + 1)) (drop (place + 1) text) (omega (arith, length-drop (place + 1) text)) in
+    rw rest (sym (cut-at c.args.byte text place found.0.high found.0.before found.1))
