@@ -4,8 +4,8 @@ pub mod Numbers
 pub mod Endpoints
 pub mod Datagrams
 pub mod Turns
-pub mod Ends
 pub mod Failing
+pub mod Ends
 pub mod Lines
 pub mod Room
 pub mod Scripts

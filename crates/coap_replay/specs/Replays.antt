@@ -165,6 +165,26 @@ HasCause reader writer (Err (OutOfMemory line)) = Unit {0}
 HasCause reader writer (Err Read) = reader ≡ true
 HasCause reader writer (Err Write) = writer ≡ true
 
+-- whether this is a fault of the reader
+abbrev pub is_read_fault : {A : Type 0} → Result A ReplayError → Bool
+is_read_fault (Ok a) = false
+is_read_fault (Err (BadEvent line)) = false
+is_read_fault (Err (OutOfMemory line)) = false
+is_read_fault (Err Read) = true
+is_read_fault (Err Write) = false
+
+-- whether this is a fault of the writer
+abbrev pub is_write_fault : {A : Type 0} → Result A ReplayError → Bool
+is_write_fault (Ok a) = false
+is_write_fault (Err (BadEvent line)) = false
+is_write_fault (Err (OutOfMemory line)) = false
+is_write_fault (Err Read) = false
+is_write_fault (Err Write) = true
+
+-- A reader or a writer that hadn't failed before has failed exactly if the fault is its own.
+abbrev pub FailsBy : Bool → Bool → Bool → Type 0
+FailsBy fault old new = old ≡ false → new ≡ fault
+
 pub record IsReplayed (w v : State) (most : ℕ) (input left old new : Option (List ℕ))
     (result : Result ℕ ReplayError) : Type 0 where
   pub turns : List Taken

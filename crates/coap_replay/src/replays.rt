@@ -6,7 +6,7 @@ ghost use Rattle.coap_core.specs.Events.{seen};
 ghost use Rattle.coap_replay.specs.Buffers.{HaveRoom};
 ghost use Rattle.coap_watch.specs.Told.{told};
 ghost use Rattle.coap_replay.specs.Watched.{IsTold, TellsTurn};
-ghost use Rattle.coap_replay.specs.Replays.{AsksNext, DoesTurn, HasCause, IfDo, IfMore, IsReplayed, MayBeDone, line_for};
+ghost use Rattle.coap_replay.specs.Replays.{AsksNext, DoesTurn, FailsBy, HasCause, IfDo, IfMore, IsReplayed, MayBeDone, is_read_fault, is_write_fault, line_for};
 ghost use Rattle.coap_lines.specs.Room.{longest_line};
 ghost use Rattle.coap_lines.specs.Turns.{turn_seen, event_seen};
 
@@ -52,6 +52,7 @@ fn next_asked<R: BufRead>(
     ensures asked { IfSome (R.remaining input.old.reader) (λ text. AsksNext number last events text
         (R.remaining input.new.reader) buffers.new.input.bytes result) }
     ensures cause { HasCause input.new.failed false result }
+    ensures reader { input.new.failed ≡ is_read_fault result }
     ensures few { IfMore result (number ≤ 2 ^ 62) }
     ensures may { IfDo (MayBeDone last events) buffers.new.input.bytes result }
     ensures room { (most : ℕ) → HaveRoom most buffers.old → HaveRoom most buffers.new }
@@ -136,6 +137,7 @@ fn do_turn<W: Write, S: Store + Drop, V: Watch>(
     ensures does { DoesTurn core.old core.new (turn_seen turn buffers.old.input.bytes)
         (W.contents output.old.writer) (W.contents output.new.writer) number result }
     ensures cause { HasCause false output.new.failed result }
+    ensures writer { FailsBy (is_write_fault result) output.old.failed output.new.failed }
     ensures told { TellsTurn V.sees core.old watcher.old core.new watcher.new
         (turn_seen turn buffers.old.input.bytes) result }
     ensures room { HaveRoom core.new.setting.limits.datagram buffers.new }
@@ -176,6 +178,8 @@ pub fn replay_turns<R: BufRead, W: Write, S: Store + Drop>(
         (R.remaining input.new.reader) (W.contents output.old.writer)
         (W.contents output.new.writer) result }
     ensures cause { HasCause input.new.failed output.new.failed result }
+    ensures reader { FailsBy (is_read_fault result) input.old.failed input.new.failed }
+    ensures writer { FailsBy (is_write_fault result) output.old.failed output.new.failed }
 {
     replay_watched(alloc, input, output, core, &mut Unwatched, turns)
 }
@@ -198,6 +202,8 @@ pub fn replay_watched<R: BufRead, W: Write, S: Store + Drop, V: Watch>(
         (R.remaining input.new.reader) (W.contents output.old.writer)
         (W.contents output.new.writer) result }
     ensures cause { HasCause input.new.failed output.new.failed result }
+    ensures reader { FailsBy (is_read_fault result) input.old.failed input.new.failed }
+    ensures writer { FailsBy (is_write_fault result) output.old.failed output.new.failed }
     ensures told { IsTold V.sees core.old watcher.old core.new watcher.new }
 {
     if turns == 0 {

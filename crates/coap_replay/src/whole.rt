@@ -1,5 +1,5 @@
 //! Replays of whole inputs.
-ghost use Rattle.coap_replay.specs.Replays.{HasCause, IsWhollyReplayed};
+ghost use Rattle.coap_replay.specs.Replays.{FailsBy, HasCause, IsWhollyReplayed, is_read_fault, is_write_fault};
 
 use crate::error::ReplayError;
 use crate::replays::replay_turns;
@@ -23,7 +23,7 @@ use std::io::{BufRead, Write};
 /// 4. `Write`: the writer failed.
 ///
 /// `Read` and `Write` come only with a failure of the reader or the writer: `has_failed` is true
-/// then.
+/// then, and without them it is false, if it was before.
 ///
 /// The events of the lines before were done, and what they sent was written; the event of the line
 /// itself wasn't done, except for `Write`.
@@ -37,6 +37,8 @@ pub fn replay<R: BufRead, W: Write, S: Store + Drop>(
         (R.remaining input.new.reader) (W.contents output.old.writer)
         (W.contents output.new.writer) result }
     ensures cause { HasCause input.new.failed output.new.failed result }
+    ensures reader { FailsBy (is_read_fault result) input.old.failed input.new.failed }
+    ensures writer { FailsBy (is_write_fault result) output.old.failed output.new.failed }
 {
     // No input has this many turns: a core handles 2^63 events.
     replay_turns(alloc, input, output, core, u64::MAX)

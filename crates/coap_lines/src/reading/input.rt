@@ -1,6 +1,7 @@
 //! Lines of an input.
 ghost use Rattle.std.specs.Prelude.{◌≡◌, ◌≤◌, ◌<◌, ◌+◌, ◌++◌, ◌∷◌, [], false, true, take, length, IfOk, IfSome, OnErr, OnOk, vec_capacity, vec_len};
 ghost use Rattle.std.specs.Io.KnownBytes.{Consumes, IsAtEnd};
+ghost use Rattle.coap_lines.specs.Failing.{is_failure};
 ghost use Rattle.coap_lines.specs.Lines.{IsBegun, IsNext, is_skipped, taken};
 ghost use Rattle.coap_lines.specs.Texts.{has};
 ghost use Rattle.coap_lines.specs.declared.reading.input.Piece.TheVariants.{Feed, Full, Last};
@@ -108,7 +109,7 @@ impl<R: BufRead> Input<R> {
             (IsNext input (R.remaining self.new.reader) line.new.items)) }
         ensures begun { OnErr result
             (IsBegun (R.remaining self.old.reader) (R.remaining self.new.reader)) }
-        ensures failed { OnErr result (self.new.failed ≡ true) }
+        ensures failed { self.new.failed ≡ is_failure result }
     {
         next_of(&mut self.reader, &mut self.failing, line)
     }
@@ -126,7 +127,7 @@ fn next_of<R: BufRead>(
     ensures read { IfSome (R.remaining reader.old)
         (λ input. IfOk result (IsNext input (R.remaining reader.new) line.new.items)) }
     ensures begun { OnErr result (IsBegun (R.remaining reader.old) (R.remaining reader.new)) }
-    ensures failed { OnErr result (failing.new.last ≡ true) }
+    ensures failed { failing.new.last ≡ is_failure result }
 {
     match read_piece(reader, failing, line)? {
         Piece::Feed => Ok(Next::Line),
@@ -155,7 +156,7 @@ fn read_piece<R: BufRead>(
     ensures end { IfOk result (λ piece. piece ≡ Last
         → IfSome (R.remaining reader.old) (λ _. IsAtEnd (R.remaining reader.new))) }
     ensures begun { OnErr result (IsBegun (R.remaining reader.old) (R.remaining reader.new)) }
-    ensures failed { OnErr result (failing.new.last ≡ true) }
+    ensures failed { failing.new.last ≡ is_failure result }
 {
     line.clear();
     for chunks in 0..u64::MAX {

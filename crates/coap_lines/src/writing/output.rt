@@ -3,6 +3,8 @@ ghost use Rattle.std.specs.Prelude.{◌≡◌, ◌≢◌, ◌++◌, ℕ, List, [
 ghost use Rattle.std.specs.Io.{WritesAtMost};
 ghost use Rattle.std.specs.Io.KnownBytes.{Appends, WriteAppends};
 ghost use Rattle.std.specs.IoError.{error_kind};
+ghost use Rattle.coap_lines.specs.Ends.{failed_by};
+ghost use Rattle.coap_lines.specs.Failing.{is_failure};
 
 use crate::failing::{Failing, put};
 use std::io;
@@ -65,7 +67,7 @@ impl<W: Write> Output<W> {
         ensures front { OnErr result ((done rest : List ℕ)
             × (bytes.now ≡ done ++ rest) × (rest ≢ [])
             × Appends (W.contents self.old.writer) (W.contents self.new.writer) done) }
-        ensures failed { OnErr result (self.new.failed ≡ true) }
+        ensures failed { self.new.failed ≡ failed_by bytes.now self.old.failed result }
     {
         write_pieces(&mut self.writer, &mut self.failing, bytes)
     }
@@ -77,7 +79,7 @@ fn write_pieces<W: Write>(writer: &mut W, failing: &mut Failing, bytes: &[u8]) -
     ensures retried { IfErr result (λ e. error_kind e ≢ ErrorKind.Interrupted) }
     ensures front { OnErr result ((done rest : List ℕ) × (bytes.now ≡ done ++ rest) × (rest ≢ [])
         × Appends (W.contents writer.old) (W.contents writer.new) done) }
-    ensures failed { OnErr result (failing.new.last ≡ true) }
+    ensures failed { failing.new.last ≡ failed_by bytes.now failing.old.last result }
 {
     let mut rest = bytes;
     for pieces in 0..u64::MAX {
@@ -97,7 +99,7 @@ fn put_some<W: Write>(writer: &mut W, failing: &mut Failing, bytes: &[u8]) -> io
     ensures bytes { WriteAppends (W.contents writer.old) (W.contents writer.new) result bytes.now }
     ensures some { IfOk result (λ n. n ≡ 0 → bytes.now ≡ []) }
     ensures retried { IfErr result (λ e. error_kind e ≢ ErrorKind.Interrupted) }
-    ensures failed { OnErr result (failing.new.last ≡ true) }
+    ensures failed { failing.new.last ≡ is_failure result }
 {
     for tries in 0..u64::MAX {
         match put(writer, failing, bytes) {

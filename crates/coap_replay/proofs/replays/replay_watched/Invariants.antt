@@ -1,4 +1,4 @@
-use Rattle.std.proofs.Common.{◌<◌, ◌≤◌, ◌^◌}
+use Rattle.std.proofs.Common.{◌≡◌, ◌<◌, ◌≤◌, ◌^◌, false}
 use Rattle.coap_replay.specs.Buffers.{HaveRoom}
 use Rattle.coap_replay.specs.Watched.{IsTold}
 use Rattle.coap_replay.proofs.Replaying.{IsAt}
@@ -11,4 +11,6 @@ invariant-loop-read g l = record {
   few : l.count < l.fn.turns;
   lines : l.read ≤ 2 ^ 62;
   room : HaveRoom l.core.setting.limits.datagram l.buffers;
+  reader : l.fn.input.failed ≡ false → l.input.failed ≡ false;
+  writer : l.fn.output.failed ≡ false → l.output.failed ≡ false;
 }

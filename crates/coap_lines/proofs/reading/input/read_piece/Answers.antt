@@ -32,6 +32,7 @@ loop-chunks-preserved g c =
       rw items (taken_part _ _ _ _ _ _ c.in_ok-chunk.chunk.now part c.min.result c.line_part-used.result.0 refl c.loop-chunks.invariant.2 c.in_ok-chunk.ensures.front c.fill.follows.holds-at-none.0 more c.consume-in-loop-chunks.ensures.bytes c.line_part-used.ensures.within),
       search rules,
       longer c.loop-chunks.line.items c.in_ok-chunk.chunk.now c.put.new.out.items c.min.result c.line_part-used.result.0 c.loop-chunks.chunks _ _ items c.loop-chunks.line.ok.0 c.put.new.out.ok.0 (c.line_part-used.ensures.whole c.if-ended.false) (eqb-false _ _ (sym c.is_empty.ensures ∙ c.if-is_empty.false)) (search rules) c.loop-chunks.invariant.4,
+      λ some. search rules,
     )
 
 pub returns-in_err-chunk-clause-begun : goal.returns-in_err-chunk-clause-begun
