@@ -11,7 +11,7 @@ pub struct Settings {
     pub address: Option<String>,
     /// `-p`: the port, from 1.
     pub port: Option<u16>,
-    /// `-P`: own names, as a text (`parse_proxy_option`).
+    /// `-P`: a next proxy, if it begins with one, and own names, as a text (`parse_proxy_option`).
     pub names: Option<String>,
     /// `--config`: the path of the configuration.
     pub config: Option<String>,
