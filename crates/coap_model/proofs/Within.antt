@@ -47,10 +47,12 @@ fewer p xs n h = let e = filter-length p xs in omega (arith, e, h)
 one-more : {X : Type 0} (xs ys : List X) (n : ℕ) → length ys ≤ 1 → length xs < n → length (xs ++ ys) ≤ n
 one-more xs ys n one room = omega (arith, length-append xs ys, one, room)
 
+-- so it is with the exchanges that an event opens
 one-opened : (event : Event) (x : ℕ) → length (open_since event x) ≤ 1
 one-opened (arrival source bytes) x = omega arith
 one-opened tick x = omega arith
 
+-- and with the clients whose request it brings
 one-waiting : (event : Event) (v x : ℕ) → length (waiting_since event v x) ≤ 1
 one-waiting (arrival source bytes) v x = omega arith
 one-waiting tick v x = omega arith
@@ -98,13 +100,15 @@ standing-within setting (d ∷ past) all =
 
 -- ---- those of one client
 
--- who opened an exchange, sent a request, or sent a message that is remembered
+-- who opened an exchange
 abbrev pub opener : Open → Endpoint
 opener o = o.client
 
+-- who sent a pending request
 abbrev pub asker : Standing → Endpoint
 asker s = s.client
 
+-- who sent a message that is remembered
 abbrev pub sender : Record → Endpoint
 sender r = r.from
 
@@ -165,7 +169,7 @@ admitted-room setting past d Joined j one source bytes came = subst (λ (e : End
 admitted-room setting past d Opened j one source bytes came = subst (λ (e : Endpoint). waiters_of e past < setting.limits.client_waiters) (sent-by source bytes j.asked came) j.room.own.waiter
 admitted-room setting past d _ j one source bytes came = absurd (omega (arith, one))
 
--- so these limits hold at each place
+-- so the limit of exchanges holds at each place for each client
 pub open-own-within : (setting : Setting) (history : List Deed) → AllJustified setting history → AreFew opener setting.limits.client_exchanges (open_in history)
 open-own-within setting [] all = λ client. omega arith
 open-own-within setting (d ∷ past) all =
@@ -176,6 +180,7 @@ open-own-within setting (d ∷ past) all =
         let j : IsOpening setting past d = subst (λ (o : Outcome). JustifiedBy o setting past d) is all.0 in
         subst (λ (e : Endpoint). exchanges_of e past < setting.limits.client_exchanges) (sent-by source bytes j.asked came) j.room.own.exchange
 
+-- and so does that of pending requests
 pub standing-own-within : (setting : Setting) (history : List Deed) → AllJustified setting history → AreFew asker setting.limits.client_waiters (standing_in history)
 standing-own-within setting [] all = λ client. omega arith
 standing-own-within setting (d ∷ past) all =
