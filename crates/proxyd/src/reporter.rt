@@ -1,19 +1,14 @@
 //! What the program writes of its counts while it serves a socket.
-ghost use Rattle.std.specs.Prelude.{◌≡◌, ◌<◌, ◌≤◌};
+ghost use Rattle.std.specs.Prelude.{◌≡◌, ◌<◌, ◌≤◌, IfOk, IfSome};
+ghost use Rattle.coap_stats.specs.Clock.{period_of};
 
 use coap_core::{Core, Counts, LimitValues};
 use coap_message::{LAST_MOMENT, OutOfMemory};
 use coap_proxyd::{Fault, Plan, Seen, Watch};
-use coap_stats::{StandingClock, Tally, period_end, put_line, put_metrics};
+use coap_stats::{StandingClock, Tally, period_end, period_of, put_line, put_metrics};
 use coap_store::Store;
 use std::io::Write;
 use std::{fs, io};
-
-/// The period of a file of counts if no other is given, in seconds.
-const PERIOD: u64 = 60;
-
-/// The longest period, in seconds.
-const LONGEST: u64 = 86_400;
 
 /// A file that is written beside its name, and then takes it, so that it is never read in part.
 #[derive(Drop)]
@@ -57,14 +52,19 @@ fn stats_file(rt: &HostRuntime, plan: &Plan) -> Result<Option<StatsFile>, OutOfM
 
 impl<'a> Reporter<'a> {
     /// The reporter of a plan, if it asks for counts.
-    pub(crate) fn of(rt: &'a HostRuntime, plan: &Plan) -> Result<Option<Reporter<'a>>, Fault> {
+    pub(crate) fn of(rt: &'a HostRuntime, plan: &Plan) -> Result<Option<Reporter<'a>>, Fault>
+        ensures period { IfOk result (λ asked.
+            IfSome asked (λ reporter. reporter.period ≡ period_of plan.now.stats)) }
+        ensures due { IfOk result (λ asked.
+            IfSome asked (λ reporter. reporter.due ≡ reporter.period)) }
+    {
         if plan.stats.is_none() && plan.stats_file.is_none() {
             return Ok(None);
         }
         let Ok(file) = stats_file(rt, plan) else {
             return Err(Fault::OutOfMemory);
         };
-        let period = plan.stats.unwrap_or(PERIOD).min(LONGEST).max(1) * 1000;
+        let period = period_of(plan.stats);
         Ok(Some(Reporter {
             rt,
             limits: *plan.limits.values(),
