@@ -4,7 +4,7 @@
 //! # First use
 //!
 //! ```rust
-//! let wanted = read_wanted(alloc, &words)?;
+//! let wanted = read_wanted(alloc, &words)?; // `--turns 1`: the port below gives one
 //! let plan = read_plan(alloc, wanted, None)?; // or the bytes of a configuration
 //! let mut port = MemoryPort::new(alloc, None); // or a UdpPort at `plan.local`
 //! port.add(Scripted {

@@ -38,7 +38,7 @@ fn coap_record(rt: HostRuntime) -> Result<(), Fail> {
 fn coap_proxyd(rt: HostRuntime) -> Result<(), Fail> {
     let alloc = rt.alloc();
     let words = fixtures::words(alloc, "--turns 1")?;
-    let wanted = read_wanted(alloc, &words)?;
+    let wanted = read_wanted(alloc, &words)?; // `--turns 1`: the port below gives one
     let plan = read_plan(alloc, wanted, None)?; // or the bytes of a configuration
     let mut port = MemoryPort::new(alloc, None); // or a UdpPort at `plan.local`
     port.add(Scripted {
