@@ -8,7 +8,7 @@ ghost use Rattle.coap_store.specs.Renewing.{max_age_option};
 ghost use Rattle.coap_forward.specs.Answers.{shown_in, stored_answer};
 
 use crate::answers::left_told;
-use coap_message::{Datagram, Full, Head, Options, Token, put_head, put_message, put_payload};
+use coap_message::{Content, Datagram, Full, Head, Token, put_head, put_message, put_payload};
 use coap_store::{Answer, Reply, Stored, put_max_age, put_reply};
 
 // ---- the proxy's own messages
@@ -19,7 +19,7 @@ pub fn put_bare(head: Head, token: &Token, out: &mut Datagram)
     ensures { out.new ≡ holding out.old (spelling (message_of head token.now [] [])) }
 {
     let room = out.room();
-    if put_message(out, room, head, token, &Options::none(), &[]).is_err() {
+    if put_message(out, room, head, token, Content::none()).is_err() {
         unreachable!();
     }
 }

@@ -32,7 +32,7 @@ pub use datagram::Datagram;
 pub use error::{DecodeError, Full, OutOfMemory};
 pub use integers::{uint, uint_bytes, without_zeros};
 pub use kind::Kind;
-pub use message::{Head, Message, MessageRef};
+pub use message::{Content, Head, Message, MessageRef};
 pub use option_list::OptionList;
 pub use options::{Opt, OptRef, OptRefs, Options};
 pub use pieces::{PieceRefs, Pieces};

@@ -1,5 +1,5 @@
 //! Messages (RFC 7252, 3).
-ghost use Rattle.std.specs.Prelude.{◌≡◌, ◌<◌, ◌≤◌, ◌^◌, length, IfOk};
+ghost use Rattle.std.specs.Prelude.{◌≡◌, ◌<◌, ◌≤◌, ◌^◌, [], length, IfOk};
 ghost use Rattle.coap_message.specs.Options.{AreOptions};
 
 use crate::code::Code;
@@ -57,6 +57,26 @@ pub struct Head {
     pub kind: Kind,
     pub code: Code,
     pub id: u16,
+}
+
+/// What a message consists of beside its head and its token: options and a payload, both borrowed.
+#[derive(Drop)]
+pub struct Content<'a> {
+    pub options: Options<'a>,
+    pub payload: &'a [u8],
+}
+
+impl Content<'_> {
+    /// No options and no payload.
+    pub fn none() -> Content<'static>
+        ensures options { result.options ≡ [] }
+        ensures payload { result.payload.now ≡ [] }
+    {
+        Content {
+            options: Options::none(),
+            payload: &[],
+        }
+    }
 }
 
 /// A message whose token, options and payload are borrowed from a datagram. A contract sees the
@@ -162,6 +182,17 @@ impl<'a> MessageRef<'a> {
 }
 
 impl Message {
+    /// The options and the payload, borrowed.
+    pub fn content(&self) -> Content<'_>
+        ensures options { result.options ≡ self.now.options }
+        ensures payload { result.payload.now ≡ self.now.payload }
+    {
+        Content {
+            options: self.options.lent(),
+            payload: self.payload.as_slice(),
+        }
+    }
+
     /// The message, borrowed.
     pub fn lent(&self) -> MessageRef<'_>
         ensures { result ≡ self.now }

@@ -7,7 +7,7 @@ ghost use Rattle.coap_message.specs.Spelling.{Spells, bits_of, more_of, header_s
 
 use crate::datagram::Datagram;
 use crate::error::Full;
-use crate::message::{Head, Message};
+use crate::message::{Content, Head, Message};
 use crate::options::Options;
 use crate::reading::PAYLOAD_MARKER;
 use crate::seq::Seq;
@@ -134,8 +134,8 @@ pub fn put_head(out: &mut Datagram, room: usize, head: Head, token: &Token) -> R
     append(out, room, token)
 }
 
-/// Clears the datagram and writes the message with these parts (RFC 7252, 3), if it is at most
-/// `room` bytes. Doesn't allocate.
+/// Clears the datagram and writes the message with this head, token and content (RFC 7252, 3), if
+/// it is at most `room` bytes. Doesn't allocate.
 ///
 /// # Errors
 /// `Full`, exactly if the message is longer than `room` bytes. Part of it may have been written
@@ -146,17 +146,17 @@ pub fn put_message(
     room: usize,
     head: Head,
     token: &Token,
-    options: &Options<'_>,
-    payload: &[u8],
+    content: Content<'_>,
 ) -> Result<(), Full>
     requires { room ≤ out.old.room }
     ensures written { Appends (holding out.old []) out.new room
-        (spelling (message_of head token.now options.now payload.now)) result }
+        (spelling (message_of head token.now content.entry.options content.entry.payload.now))
+        result }
     ensures within { length token.now ≤ 8 }
 {
     put_head(out, room, head, token)?;
-    put_options(out, room, options)?;
-    put_payload(out, room, payload)
+    put_options(out, room, &content.options)?;
+    put_payload(out, room, content.payload)
 }
 
 /// Clears the datagram and writes the unique encoding of a message, if it is at most `room` bytes.
@@ -176,9 +176,7 @@ pub fn encode_into(message: &Message, out: &mut Datagram, room: usize) -> Result
         code: message.code,
         id: message.id,
     };
-    let options = message.options.lent();
-    let payload = message.payload.as_slice();
-    if let Err(full) = put_message(out, room, head, &message.token, &options, payload) {
+    if let Err(full) = put_message(out, room, head, &message.token, message.content()) {
         out.clear();
         return Err(full);
     }

@@ -107,9 +107,7 @@ fn write_shown(
         }
         _ => {
             let head = reply.head(message.code);
-            let options = message.options.lent();
-            let payload = message.payload.as_slice();
-            put_message(out, room, head, reply.token, &options, payload)
+            put_message(out, room, head, reply.token, message.content())
         }
     }
 }

@@ -9,7 +9,7 @@ pub returns-in_err-put_options-clause-written : goal.returns-in_err-put_options-
 unfolding spelling
 returns-in_err-put_options-clause-written c =
     let p = err_from_is_err_and c.from_residual-in_err-put_options.result c.from_residual-in_err-put_options.ensures.1 in
-    let options = options_spelling 0 c.args.options.now in
-    let payload = payload_spelling c.args.payload.now in
+    let options = options_spelling 0 c.args.content.options in
+    let payload = payload_spelling c.args.content.payload.now in
     rw p.1 (Appends-behind (holding c.args.out.now []) c.put_head.new.out c.put_options.new.out c.args.room (head_spelling c.args.head c.args.token.now) (options ++ payload) tt (Err p.0) c.in_ok-put_head.ensures.written
     (Appends-full c.put_head.new.out c.put_options.new.out c.args.room options payload c.in_err-put_options.field-0.0 p.0 c.in_err-put_options.ensures))
