@@ -1,5 +1,5 @@
-//! How long a response with a Max-Age is, without writing it: bytes are taken off the room that there
-//! is for it (RFC 7252, 3 and 3.1).
+//! How long a response with a Max-Age is, without writing it: bytes are taken off the room that
+//! there is for it (RFC 7252, 3 and 3.1).
 ghost use Rattle.std.specs.Prelude.{◌≡◌, ◌+◌, ◌≤◌, ℕ, nat_le, length, option_map, IfSome};
 ghost use Rattle.coap_message.specs.declared.kind.Kind.{Kind};
 ghost use Rattle.coap_message.specs.Options.{last_number, option_of};
@@ -14,8 +14,8 @@ use crate::show::Part;
 use coap_message::{Message, Options, Token, without_zeros};
 use coap_option::numbers;
 
-/// Whether a response with one Max-Age of so many seconds is at most `most` bytes long, as a message
-/// with this token. Its type and its id make no difference. Nothing is written for that.
+/// Whether a response with one Max-Age of so many seconds is at most `most` bytes long, as a
+/// message with this token. Its type and its id make no difference. Nothing is written for that.
 pub fn aged_fits(message: &Message, token: &Token, left: u64, most: usize) -> bool
     ensures { (kind : Kind) (id : ℕ)
         → result

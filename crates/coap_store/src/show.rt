@@ -72,7 +72,8 @@ pub fn put_reply(
     requires { room ≤ out.old.room }
     ensures ok { OnOk result
         (out.new ≡ holding out.old (spelling (replied reply.entry message.now left))) }
-    ensures full { IsErr result ↔ (room < length (spelling (replied reply.entry message.now left))) }
+    ensures full { IsErr result
+        ↔ (room < length (spelling (replied reply.entry message.now left))) }
     ensures err { OnErr result (out.new ≡ holding out.old []) }
 {
     if let Err(full) = write_shown(message, reply, left, out, room) {
