@@ -221,6 +221,14 @@ not-second p xs ys apart there = go (is_in p ys) refl
 pub apart-empty : (xs ys : List Pair) → ys ≡ [] → AreApart xs ys
 apart-empty xs ys e = λ p there. absurd (let none : is_in p [] ≡ true = subst (λ (l : List Pair). is_in p l ≡ true) e there in cc)
 
+-- what is left was there
+pub in-more : (p q : Pair) (ys less : List Pair) → is_in p less ≡ (not (is_pair p q) && is_in p ys) → is_in p less ≡ true → is_in p ys ≡ true
+in-more p q ys less e there = go (is_pair p q) (is_in p ys) (sym e ∙ there)
+  where
+    go : (a b : Bool) → (not a && b) ≡ true → b ≡ true
+    go true b h = absurd cc
+    go false b h = h
+
 -- parts stay apart where a pair comes into the first that isn't in the second
 pub apart-first : (q : Pair) (xs more ys : List Pair) → AreApart xs ys → is_in q ys ≡ false → ((p : Pair) → is_in p more ≡ (is_pair p q || is_in p xs)) → AreApart more ys
 apart-first q xs more ys apart free e = λ p there. e p ∙ go p (is_pair p q) refl there
@@ -270,3 +278,12 @@ next-both key after xs ys (Some m) (Some k) e f = (omega arith, least-in (leb m 
     least : (n : ℕ) → after < n → (b : Bool) → is_in (key, n) xs ≡ b → is_in (key, n) (xs ++ ys) ≡ true → min m k ≤ n
     least n lt true g there = let le = e.2 n lt g in omega arith
     least n lt false g there = let le = f.2 n lt (in-second (key, n) xs ys there g) in omega arith
+
+-- and that of the first alone where the key has none in the second
+pub next-first : (key after : ℕ) (xs ys : List Pair) (a : Option ℕ) → IsNextOf key after xs a → ((n : ℕ) → is_in (key, n) ys ≡ false) → IsNextOf key after (xs ++ ys) a
+next-first key after xs ys a e none = next-alike key after (xs ++ ys) xs a (λ n. in-append (key, n) xs ys ∙ ap (λ (b : Bool). is_in (key, n) xs || b) (none n) ∙ or_back (is_in (key, n) xs) false) e
+
+-- the next of a key in its own bucket is its next in all
+pub next-own : (place : ℕ → ℕ) (buckets : List OrderedIndex) (key after i : ℕ) (own : OrderedIndex) (next : Option ℕ) → AreBuckets place 0 buckets → i < length buckets → place key ≡ 0 + i → own ≡ get_or buckets i own → IsNextOf key after own.pairs next → IsNextOf key after (pairs_of buckets) next
+next-own place buckets key after i own next are lt at is e =
+    next-alike key after (pairs_of buckets) own.pairs next (λ n. in-own place 0 buckets (key, n) i own are lt at ∙ ap (λ (r : OrderedIndex). is_in (key, n) r.pairs) (sym is)) e

@@ -1,3 +1,4 @@
 pub mod Ordering
 pub mod Buffering
 pub mod Hashing
+pub mod Counting

@@ -1,5 +1,5 @@
 -- Indexes that are split: buckets, each with the pairs of some keys, and the rest.
-use Rattle.std.specs.Prelude.{◌≡◌, ℕ, suc, ◌*◌, ◌/◌, ◌%◌, ◌^◌, min, true, false, List, [], ◌∷◌, ◌++◌, Option, Some, None}
+use Rattle.std.specs.Prelude.{◌≡◌, ℕ, suc, ◌*◌, ◌/◌, ◌%◌, ◌^◌, ◌==◌, ◌<◌, min, true, false, count_by, length, slice_index, List, [], ◌∷◌, ◌++◌, Option, Some, None}
 use Rattle.ordered_index.specs.Ordered.{Pair, OrderedIndex, is_in}
 
 -- the pairs of all buckets, one after the other
@@ -25,6 +25,15 @@ AreBuckets place number (bucket ∷ buckets) =
 -- no pair is in both
 abbrev pub AreApart : List Pair → List Pair → Type 0
 AreApart xs ys = (p : Pair) → is_in p ys ≡ true → is_in p xs ≡ false
+
+-- the number of these pairs that belong to the bucket of this number
+abbrev pub many_for : (ℕ → ℕ) → ℕ → List Pair → ℕ
+many_for place number pairs = count_by (λ p. place p.0 == number) pairs
+
+-- these are, for each bucket, the number of these pairs that belong to it
+abbrev pub AreCounts : (ℕ → ℕ) → List ℕ → List Pair → Type 0
+AreCounts place counts pairs =
+    (i : ℕ) → i < length counts → slice_index counts i ≡ many_for place i pairs
 
 -- the lower of two numbers, if there is one
 abbrev pub lower : Option ℕ → Option ℕ → Option ℕ

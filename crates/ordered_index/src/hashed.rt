@@ -17,8 +17,9 @@ const BUCKET_ROOM: usize = 36;
 
 /// An index that is split, so that a change moves few pairs: the pairs of a key are in the bucket
 /// that the key belongs to, or, where that had no room, among the rest. Few are there, unless most
-/// pairs have the same few keys. Only `new` allocates. A contract sees all pairs: those of the
-/// buckets, one after the other, and then the rest.
+/// pairs have the same few keys; and they are searched only for a key whose bucket has pairs there.
+/// Only `new` allocates. A contract sees all pairs: those of the buckets, one after the other, and
+/// then the rest.
 #[derive(Drop)]
 pub struct HashedIndex {
     /// What spreads the keys over the buckets. It is odd, so that different keys stay different.
@@ -27,11 +28,13 @@ pub struct HashedIndex {
     len: usize,
     buckets: Vec<OrderedIndex>,
     rest: OrderedIndex,
+    /// For each bucket, the number of pairs among the rest that belong to it.
+    outside: Vec<usize>,
 }
 
 impl Model for HashedIndex {
     ghost use Rattle.std.specs.Prelude.{◌≡◌, ◌<◌, ◌++◌, length, vec_len};
-    ghost use Rattle.ordered_index.specs.Hashed.{bucket_of, pairs_of, AreApart, AreBuckets};
+    ghost use Rattle.ordered_index.specs.Hashed.{bucket_of, pairs_of, AreApart, AreBuckets, AreCounts};
     ghost use Rattle.ordered_index.specs.Ordered.{OrderedIndex};
 
     ghost Value = { OrderedIndex };
@@ -43,7 +46,9 @@ impl Model for HashedIndex {
         (h.len ≡ length (pairs_of h.buckets.items ++ h.rest.pairs))
         × (0 < length h.buckets.items)
         × AreBuckets (bucket_of h.factor (length h.buckets.items)) 0 h.buckets.items
-        × AreApart (pairs_of h.buckets.items) h.rest.pairs };
+        × AreApart (pairs_of h.buckets.items) h.rest.pairs
+        × (length h.outside.items ≡ length h.buckets.items)
+        × AreCounts (bucket_of h.factor (length h.buckets.items)) h.outside.items h.rest.pairs };
 }
 
 impl HashedIndex {
@@ -55,14 +60,17 @@ impl HashedIndex {
     pub fn new(alloc: Global, limit: usize, seed: u64) -> Result<HashedIndex, AllocError>
         ensures empty { IfOk result (λ index. index ≡ empty_index limit) }
     {
-        let buckets = empty_buckets(alloc, limit / PAIRS_A_BUCKET + 1)?;
+        let many = limit / PAIRS_A_BUCKET + 1;
+        let buckets = empty_buckets(alloc, many)?;
         let rest = OrderedIndex::new(alloc, limit)?;
+        let outside = vec![in alloc; 0; many]?;
         let factor = factor_of(seed);
         Ok(HashedIndex {
             factor,
             len: 0,
             buckets,
             rest,
+            outside,
         })
     }
 
@@ -75,6 +83,9 @@ impl HashedIndex {
         }
         let bucket = bucket_of(self.factor, self.buckets.len(), key);
         let own = self.buckets[bucket].next_of(key, after);
+        if self.outside[bucket] == 0 {
+            return own;
+        }
         let other = self.rest.next_of(key, after);
         lower(own, other)
     }
@@ -129,7 +140,9 @@ impl HashedIndex {
         let _few = self.rest.limit();
         self.len += 1;
         if !put_in(&mut self.buckets, self.factor, key, number) {
+            let bucket = bucket_of(self.factor, self.outside.len(), key);
             self.rest.put(key, number);
+            self.outside[bucket] += 1;
         }
     }
 
@@ -144,7 +157,9 @@ impl HashedIndex {
     {
         self.len -= 1;
         if !take_from(&mut self.buckets, self.factor, key, number) {
+            let bucket = bucket_of(self.factor, self.outside.len(), key);
             self.rest.take(key, number);
+            self.outside[bucket] -= 1;
         }
     }
 }

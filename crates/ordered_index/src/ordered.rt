@@ -1,6 +1,6 @@
 //! Indexes: which key has which numbers. The first pair, and the numbers of one key, are found
 //! without a scan.
-ghost use Rattle.std.specs.Prelude.{◌≡◌, ◌+◌, ◌==◌, ◌<◌, ◌≤◌, ◌||◌, ◌&&◌, ℕ, length, nat_le, if◌then◌else◌, take, drop, true, false, not, None, Some, IfOk, IfNone, IfSome};
+ghost use Rattle.std.specs.Prelude.{◌≡◌, ◌+◌, ◌==◌, ◌<◌, ◌≤◌, ◌||◌, ◌&&◌, ℕ, Bool, count_by, length, nat_le, if◌then◌else◌, take, drop, true, false, not, None, Some, IfOk, IfNone, IfSome};
 ghost use Rattle.std.specs.List.{slice_get, AllByRecursion};
 ghost use Rattle.ordered_index.specs.Ordered.{empty_index, is_before, is_in, is_key, is_left, is_pair, many_of, one_if, one_of, AreRising, is_some_pair, IsFirstAfter, IsLeast, IsNextOf, IsKeyIn, IsRekeyed, IsReplaced, Pair};
 
@@ -190,6 +190,8 @@ impl OrderedIndex {
             → is_in p self.new.pairs ≡ (is_pair p (key, number) || is_in p self.old.pairs) }
         ensures counts { (k : ℕ)
             → many_of k self.new.pairs ≡ many_of k self.old.pairs + one_if (key == k) }
+        ensures kinds { (f : Pair → Bool)
+            → count_by f self.new.pairs ≡ count_by f self.old.pairs + one_if (f (key, number)) }
     {
         let place = place_after(self.buffer.pairs(), (key, number));
         self.buffer.insert(place, (key, number));
@@ -222,6 +224,8 @@ impl OrderedIndex {
             ≡ (not (is_pair p (key, number)) && is_in p self.old.pairs) }
         ensures counts { (k : ℕ)
             → many_of k self.new.pairs + one_if (key == k) ≡ many_of k self.old.pairs }
+        ensures kinds { (f : Pair → Bool)
+            → count_by f self.new.pairs + one_if (f (key, number)) ≡ count_by f self.old.pairs }
     {
         let place = place_after(self.buffer.pairs(), (key, number));
         self.buffer.remove(place - 1);

@@ -6,10 +6,10 @@ ghost use Rattle.ordered_index.specs.Ordered.{empty_index, OrderedIndex};
 use std::alloc::{AllocError, Global};
 use std::marker::Model;
 
-/// Pairs, contiguous up to the end of a `Vec`. An insertion or a removal shifts the pairs before the
-/// place or those after it, whichever are fewer; but it shifts those after it if there is no room
-/// before the first. If there is none after the last either, all move to the front: more room than
-/// for the most pairs makes that rare. Only `new` allocates.
+/// Pairs, contiguous up to the end of a `Vec`. An insertion or a removal shifts the pairs before
+/// the place or those after it, whichever are fewer; but it shifts those after it if there is no
+/// room before the first. If there is none after the last either, all move to the front: more room
+/// than for the most pairs makes that rare. Only `new` allocates.
 #[derive(Drop)]
 pub(crate) struct PairBuffer {
     items: Vec<(u64, u64)>,

@@ -1,5 +1,7 @@
-use Rattle.std.proofs.Common.{◌+◌, eqb, ◌≡◌, ◌∙◌, ◌||◌, false, ap, sym, subst}
-use Rattle.ordered_index.specs.Ordered.{OrderedIndex, AreRising, is_in, is_pair, many_of, one_if}
+use Rattle.std.proofs.Common.{cond, ◌+◌, eqb, ◌≡◌, ◌∙◌, ◌||◌, false, ap, sym, subst}
+use Rattle.std.specs.Prelude.{count_by}
+use Rattle.std.proofs.lemmas.List.Sums.{sum_by-insert}
+use Rattle.ordered_index.specs.Ordered.{Pair, OrderedIndex, AreRising, is_in, is_pair, many_of, one_if}
 use Rattle.ordered_index.proofs.Ordering.{is_in-insert, many-insert, rising-insert}
 use Rattle.ordered_index.proofs.ordered.OrderedIndex.put.Goals as goal
 
@@ -19,3 +21,9 @@ returns-clause-counts c = λ k.
     ap (λ (r : OrderedIndex). many_of k r.pairs) c.insert.ensures
     ∙ many-insert k (c.args.key, c.args.number) c.place_after-place.result c.self.inside.buffer.pairs
     ∙ ap (λ (r : OrderedIndex). many_of k r.pairs + one_if (eqb c.args.key k)) c.self.view_is
+
+pub returns-clause-kinds : goal.returns-clause-kinds
+returns-clause-kinds c = λ f.
+    ap (λ (r : OrderedIndex). count_by f r.pairs) c.insert.ensures
+    ∙ sum_by-insert (λ (p : Pair). cond (f p) 1 0) c.self.inside.buffer.pairs c.place_after-place.result (c.args.key, c.args.number)
+    ∙ ap (λ (r : OrderedIndex). count_by f r.pairs + one_if (f (c.args.key, c.args.number))) c.self.view_is

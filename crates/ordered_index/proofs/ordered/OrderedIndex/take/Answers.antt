@@ -1,5 +1,6 @@
-use Rattle.std.proofs.Common.{◌+◌, eqb, ◌≡◌, ℕ, ◌<◌, ◌≤◌, ◌-◌, ◌∙◌, ◌&&◌, true, ap, sym, subst, length, take, drop, get_or, List, arith}
-use Rattle.std.specs.Prelude.{not}
+use Rattle.std.proofs.Common.{cond, ◌+◌, eqb, ◌≡◌, ℕ, ◌<◌, ◌≤◌, ◌-◌, ◌∙◌, ◌&&◌, true, ap, sym, subst, length, take, drop, get_or, List, arith}
+use Rattle.std.specs.Prelude.{count_by, not, remove}
+use Rattle.std.proofs.lemmas.List.Sums.{sum_by-remove}
 use Rattle.ordered_index.specs.Ordered.{Pair, OrderedIndex, AreRising, is_in, is_pair, many_of, one_if}
 use Rattle.ordered_index.proofs.Ordering.{AllAfter, NoneAfter, is_in-remove, many-remove, rising-remove, stands-before}
 use Rattle.ordered_index.proofs.ordered.OrderedIndex.take.Goals as goal
@@ -38,3 +39,13 @@ returns-clause-counts c =
     λ k. ap (λ (r : OrderedIndex). many_of k r.pairs + one_if (eqb c.args.key k)) c.remove.ensures
     ∙ many-remove k it (c.place_after-place.result - 1) c.self.inside.buffer.pairs it found.1 found.2
     ∙ ap (λ (r : OrderedIndex). many_of k r.pairs) c.self.view_is
+
+pub returns-clause-kinds : goal.returns-clause-kinds
+returns-clause-kinds c =
+    let place = c.place_after-place.ensures in
+    let it : Pair = (c.args.key, c.args.number) in
+    let found = stands it c.place_after-place.result c.args.self.now c.self.inside.buffer.pairs c.pairs.result.now c.pairs.ensures (ap (λ (r : OrderedIndex). r.pairs) (sym c.self.view_is)) c.requires.there c.self.invariant (place.within, place.below, place.above) in
+    λ f. ap (λ (r : OrderedIndex). count_by f r.pairs + one_if (f it)) c.remove.ensures
+    ∙ ap (λ (p : Pair). count_by f (remove c.self.inside.buffer.pairs (c.place_after-place.result - 1)) + one_if (f p)) (sym found.2)
+    ∙ sum_by-remove (λ (p : Pair). cond (f p) 1 0) c.self.inside.buffer.pairs (c.place_after-place.result - 1) it found.1
+    ∙ ap (λ (r : OrderedIndex). count_by f r.pairs) c.self.view_is
