@@ -144,7 +144,7 @@ impl Records {
     pub fn living_of(&self, from: Endpoint, now: u64) -> usize
         ensures exact { result ≡ living_of from now self.now }
     {
-        let _few = self.ring.len();
+        let _laws = self.ring.len();
         match self.numbers.by_source.share_of(from) {
             Some(share) => {
                 share.count - count_dead_of(&self.ring, &self.numbers, share, self.lifetime, now)
@@ -220,7 +220,7 @@ impl Records {
         ensures found { option_copied result ≡ record_of key.from key.id self.now.items }
         ensures sound { AreRecords self.now }
     {
-        let _few = self.ring.len();
+        let _laws = self.ring.len();
         let number = self.numbers.by_message.get(&key)?;
         self.ring
             .get(number.wrapping_sub(self.numbers.first) as usize)

@@ -170,7 +170,7 @@ impl<'a> Options<'a> {
         ensures in_order { AreOptions 0 self.now }
         ensures few { length self.now < 2 ^ 64 }
     {
-        let _bytes = self.bytes.len();
+        let _laws = self.bytes.len();
         OptRefs {
             before: 0,
             rest: self.bytes,

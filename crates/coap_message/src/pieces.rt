@@ -99,7 +99,7 @@ impl Pieces {
         ensures list { result ≡ self.now }
         ensures few { length self.now < 2 ^ 64 }
     {
-        let _bytes = self.bytes.len();
+        self.bytes.laws();
         PieceRefs {
             rest: self.bytes.as_slice(),
         }
@@ -193,7 +193,7 @@ fn read_length(bytes: &[u8]) -> Option<(usize, &[u8])>
     requires fits { IfSome (length_at bytes.now) (λ found. found.0 ≤ length found.1) }
     ensures { option_map (λ found. (found.0, found.1.now)) result ≡ length_at bytes.now }
 {
-    let _bytes = bytes.len();
+    let _laws = bytes.len();
     let mut len = 0;
     let mut rest = bytes;
     'lengths: while let Some((byte, behind)) = rest.split_first() {
@@ -212,7 +212,7 @@ fn add_length(bytes: &mut Seq<u8>, len: usize) -> Result<(), OutOfMemory>
     ensures err { OnErr result (take (length bytes.old) bytes.new ≡ bytes.old) }
 {
     'bytes: for many in 0..len / 255 {
-        let _many = many;
+        let _laws = many;
         bytes.push(255)?;
     }
     bytes.push((len % 255) as u8)

@@ -1,5 +1,5 @@
 //! A list that contracts see as the list.
-ghost use Rattle.std.specs.Prelude.{◌≡◌, ◌↔◌, ◌++◌, ◌∷◌, [], IsTrue, ◌<◌, OnOk, OnErr, IfOk, length, slice_set, take};
+ghost use Rattle.std.specs.Prelude.{◌≡◌, ◌↔◌, ◌++◌, ◌∷◌, [], IsTrue, ◌<◌, ◌^◌, OnOk, OnErr, IfOk, length, slice_set, take};
 ghost use Rattle.std.specs.Cmp.Lexicographic.{pointwise, lists_per, lists_equiv};
 ghost use Rattle.std.specs.List.{AllZip};
 ghost use Rattle.std.specs.Hash as fed;
@@ -72,6 +72,13 @@ impl<T> Seq<T> {
         ensures { result ≡ length self.now }
     {
         self.items.len()
+    }
+
+    /// Does nothing: the number of items fits a `usize`.
+    pub(crate) fn laws(&self)
+        ensures { length self.now < 2 ^ 64 }
+    {
+        let _laws = self.items.len();
     }
 
     /// Whether there are no items.

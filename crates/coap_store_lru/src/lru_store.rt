@@ -241,7 +241,7 @@ fn put_new<H: BuildHasher + Copy>(
     ensures those { AreThoseOf recent.new.entries total.new
         (is_indexed index.new.secret index.new.groups) }
 {
-    let _few = recent.len();
+    let _laws = recent.len();
     let size = bytes_of(&key, &stored);
     index.insert(&key)?;
     match recent.put(key, stored) {
@@ -344,7 +344,7 @@ fn mark_keys<H: BuildHasher>(
     ensures counted { result ≡ count_by (is_of target.now) keys.now.keys }
     ensures distinct { IsDistinct same_key keys.now.keys }
 {
-    let _few = keys.len();
+    let _laws = keys.len();
     let mut count = 0;
     for key in keys {
         count += mark_of(recent, key, target);

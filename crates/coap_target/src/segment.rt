@@ -84,7 +84,7 @@ pub(crate) fn skip<'a, P: Segments<'a>>(path: &mut P, count: usize)
     ensures { P.left path.new ≡ drop_list count (P.left path.old) }
 {
     for index in 0..count {
-        let _index = index;
+        let _laws = index;
         let _passed = path.next_segment();
     }
 }

@@ -137,7 +137,7 @@ impl HashedIndex {
         ensures more { (p : Pair)
             → is_in p self.new.pairs ≡ (is_pair p (key, number) || is_in p self.old.pairs) }
     {
-        let _few = self.rest.limit();
+        let _laws = self.rest.limit();
         self.len += 1;
         if !put_in(&mut self.buckets, self.factor, key, number) {
             let bucket = bucket_of(self.factor, self.outside.len(), key);

@@ -78,11 +78,11 @@ impl OrderedIndex {
         }
     }
 
-    // Does nothing: it lets a proof conclude that no pair is there twice.
-    pub fn rises(&self)
+    /// Does nothing: each pair is before all that follow, so that none is there twice.
+    pub fn laws(&self)
         ensures { AreRising self.now.pairs }
     {
-        let _ = &self.buffer;
+        let _laws = &self.buffer;
     }
 
     /// The least number of this key that is greater than `after`.

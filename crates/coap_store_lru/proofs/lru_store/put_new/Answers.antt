@@ -12,7 +12,7 @@ use Rattle.coap_store_lru.proofs.lru_store.put_new.Goals as goal
 
 pub returns-in-Ok-clause-ok : goal.returns-in-Ok-clause-ok
 returns-in-Ok-clause-ok g c =
-    let few : length c.args.recent.now.entries ≤ c.args.recent.now.cap - 1 = omega (arith, c.len-few.ensures.len, c.len-few.ensures.fits, c.requires.unlimited) in
+    let few : length c.args.recent.now.entries ≤ c.args.recent.now.cap - 1 = omega (arith, c.len-laws.ensures.len, c.len-laws.ensures.fits, c.requires.unlimited) in
     c.in-Ok.ensures.entries ∙ ap (λ l. lru_cache l c.args.recent.now.cap) (put-added c.args.recent.now c.args.key c.args.stored c.requires.new few)
 
 pub returns-in-Ok-clause-those : goal.returns-in-Ok-clause-those
@@ -20,7 +20,7 @@ returns-in-Ok-clause-those g c =
     let es = c.args.recent.now.entries in
     let k = c.args.key in
     let x : Entry = (k, c.args.stored) in
-    let few : length es ≤ c.args.recent.now.cap - 1 = omega (arith, c.len-few.ensures.len, c.len-few.ensures.fits, c.requires.unlimited) in
+    let few : length es ≤ c.args.recent.now.cap - 1 = omega (arith, c.len-laws.ensures.len, c.len-laws.ensures.fits, c.requires.unlimited) in
     let rest : others entry_key k es ≡ es = others-none entry_key k es (none_stored k es c.requires.new) in
     let are : c.put.new.self.entries ≡ x ∷ others entry_key k es = ap (λ m. m.entries) c.in-Ok.ensures.entries ∙ put-added c.args.recent.now k c.args.stored c.requires.new few ∙ ap (λ l. x ∷ l) (sym rest) in
     subst (λ l. AreThoseOf l (c.args.total.now + c.bytes_of-size.result) (is_indexed c.insert.new.self.secret c.insert.new.self.groups)) (sym are)

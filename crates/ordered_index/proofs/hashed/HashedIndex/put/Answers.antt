@@ -24,7 +24,7 @@ overflow_add-index_mut c =
     let room : length (pairs_of c.self.inside.buckets.items ++ c.self.inside.rest.pairs) < c.self.inside.rest.limit = subst (λ (r : OrderedIndex). length r.pairs < r.limit) (sym c.self.view_is) c.requires.room in
     let counted = c.index_mut.ensures.value ∙ get_or_default_zero c.self.inside.outside.items c.bucket_of-bucket.result c.index_mut.result.now within in
     let most = counted-within (bucket_of c.self.inside.factor (length c.self.inside.buckets.items)) c.self.inside.outside.items c.self.inside.rest.pairs c.bucket_of-bucket.result c.self.invariant.5 within in
-    omega (arith, room, c.limit-few.ensures.exact, length-append (pairs_of c.self.inside.buckets.items) c.self.inside.rest.pairs, counted, most)
+    omega (arith, room, c.limit-laws.ensures.exact, length-append (pairs_of c.self.inside.buckets.items) c.self.inside.rest.pairs, counted, most)
 
 -- else the pair comes
 comes : (c : goal.Else-not-put_in) (p : Pair) → is_in p (pairs_of c.put_in.new.buckets.items) ≡ (is_pair p (c.args.key, c.args.number) || is_in p (pairs_of c.self.inside.buckets.items))
@@ -71,4 +71,4 @@ returns-else-not-put_in-clause-more c = λ p.
 pub overflow_add-self : goal.overflow_add-self
 overflow_add-self c =
     let room : length (pairs_of c.self.inside.buckets.items ++ c.self.inside.rest.pairs) < c.self.inside.rest.limit = subst (λ (r : OrderedIndex). length r.pairs < r.limit) (sym c.self.view_is) c.requires.room in
-    omega (arith, room, c.self.invariant.0, c.limit-few.ensures.exact)
+    omega (arith, room, c.self.invariant.0, c.limit-laws.ensures.exact)
