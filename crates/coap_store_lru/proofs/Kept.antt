@@ -75,15 +75,6 @@ length-used k es = go (of_key entry_key k es) refl
     go None e = omega arith
     go (Some x) e = front-length entry_key k es x e
 
--- adding a key that wasn't there before and removing it again changes nothing
-pub put_back : (indexed between new : CacheKey → Bool) (entries : List Entry) (k : CacheKey) → ((q : CacheKey) → indexed q ≡ is_held entries q) → of_key entry_key k entries ≡ None
-    → ((q : CacheKey) → between q ≡ (same_key k q || indexed q)) → ((q : CacheKey) → new q ≡ (not (same_key k q) && between q)) → (q : CacheKey) → new q ≡ indexed q
-put_back indexed between new entries k are none adds takes q = takes q ∙ ap (λ b. not (same_key k q) && b) (adds q) ∙ go (same_key k q) refl
-  where
-    go : (p : Bool) → same_key k q ≡ p → (not p && (p || indexed q)) ≡ indexed q
-    go true e = sym (subst (λ j. indexed j ≡ false) (same_key-only k q e) (are k ∙ none_held k entries none))
-    go false e = refl
-
 -- a key with an entry is in its group already
 pub held_already : (indexed : CacheKey → Bool) (entries : List Entry) (k : CacheKey) (x : Entry) → ((q : CacheKey) → indexed q ≡ is_held entries q) → of_key entry_key k entries ≡ Some x → (q : CacheKey) → indexed q ≡ (same_key k q || indexed q)
 held_already indexed entries k x are found q = go (same_key k q) refl
@@ -99,7 +90,3 @@ usable-of k now es = go (of_key entry_key k es)
     go : (o : Option Entry) → option_map_or (λ (e : Entry). is_usable now e.1) o false ≡ option_map_or (is_usable now) (option_map (λ (e : Entry). e.1) o) false
     go None = refl
     go (Some x) = refl
-
--- the size of the entry with a key is that of what is stored for it
-pub former-size : (k : CacheKey) (es : List Entry) (x : Entry) (s : Stored) → of_key entry_key k es ≡ Some x → x.1 ≡ s → entry_size x ≡ size_of k s
-former-size k es x s found is = ap (λ (j : CacheKey). size_of j x.1) (of_key-key entry_key k es x found) ∙ ap (size_of k) is

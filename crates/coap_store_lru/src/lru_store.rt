@@ -1,10 +1,11 @@
 //! A store as an LRU map.
-ghost use Rattle.std.specs.Prelude.{◌≡◌, ◌+◌, ◌<◌, ◌≤◌, ◌^◌, ◌-◌, ◌∷◌, None, Ok, true, is_some, IsTrue, OnOk, OnErr, length, take, map, nat_lt, ◌||◌, ◌&&◌, count_by, if◌then◌else◌};
+ghost use Rattle.std.specs.Prelude.{◌≡◌, ◌<◌, ◌≤◌, ◌^◌, ◌-◌, ◌∷◌, None, true, is_ok, is_some, IsTrue, OnOk, OnErr, length, drop, take, map, nat_lt, ◌||◌, ◌&&◌, count_by, if◌then◌else◌};
 ghost use Rattle.std.specs.HashSet.{contains};
 ghost use Rattle.std.specs.List.{IsDistinct};
 ghost use Rattle.lru.specs.LruCache.{lru_cache};
-ghost use Rattle.coap_store.specs.Entries.{entry_key, entry_size, stored_for};
-ghost use Rattle.coap_store_lru.specs.Indexing.{AreThoseOf, has, is_indexed, is_of, keys_in, marked_by};
+ghost use Rattle.coap_store.specs.declared.key.CacheKey.{CacheKey};
+ghost use Rattle.coap_store.specs.Entries.{entry_key, entry_size};
+ghost use Rattle.coap_store_lru.specs.Indexing.{AreThoseOf, has, is_first, is_indexed, is_of, keys_in, marked_by};
 ghost use Rattle.coap_store.specs.Keys.{same_key};
 ghost use Rattle.coap_store.specs.Lists.{are_distinct, cut, of_key, others, used};
 ghost use Rattle.coap_store.specs.Sizes.{size_of};
@@ -187,73 +188,43 @@ fn put_first<H: BuildHasher + Copy>(
     ensures those { AreThoseOf recent.new.entries total.new
         (is_indexed index.new.secret index.new.groups) }
 {
-    match recent.peek(&key) {
-        Some(former) => {
-            let former = bytes_of(&key, former);
-            replace(recent, total, former, key, stored)
-        }
-        None => put_new(recent, total, index, key, stored),
-    }
-}
-
-/// Replaces the entry with the same key, which counts for `former` bytes. Doesn't allocate.
-fn replace<H: BuildHasher>(
-    recent: &mut LruCache<CacheKey, Stored, H>,
-    total: &mut u64,
-    former: u64,
-    key: CacheKey,
-    stored: Stored,
-) -> Result<(), OutOfMemory>
-    requires distinct { are_distinct entry_key recent.old.entries ≡ true }
-    requires found { is_some (stored_for key recent.old.entries) ≡ true }
-    requires within { former ≤ total.old }
-    requires few { total.old < 2 ^ 63 }
-    requires small { size_of key stored < 2 ^ 63 }
-    ensures done { result ≡ Ok tt }
-    ensures ok { recent.new
-        ≡ lru_cache ((key, stored) ∷ others entry_key key recent.old.entries) recent.old.cap }
-    ensures counted { total.new + former ≡ total.old + size_of key stored }
-{
+    let _laws = recent.len();
     let size = bytes_of(&key, &stored);
-    recent.put(key, stored)?;
-    *total = *total - former + size;
+    match recent.push(key, stored)? {
+        Some((of, former)) => {
+            let former = bytes_of(&of, &former);
+            *total = *total - former + size;
+        }
+        None => {
+            index_first(recent, index)?;
+            *total += size;
+        }
+    }
     Ok(())
 }
 
-/// Puts an entry with a new key first.
-fn put_new<H: BuildHasher + Copy>(
+/// Adds the key of the first entry to the index. If memory runs out, the first entry is removed
+/// again.
+fn index_first<H: BuildHasher + Copy>(
     recent: &mut LruCache<CacheKey, Stored, H>,
-    total: &mut u64,
     index: &mut TargetIndex<H>,
-    key: CacheKey,
-    stored: Stored,
 ) -> Result<(), OutOfMemory>
-    requires those { AreThoseOf recent.old.entries total.old
-        (is_indexed index.old.secret index.old.groups) }
-    requires new { stored_for key recent.old.entries ≡ None }
-    requires few { total.old < 2 ^ 63 }
-    requires small { size_of key stored < 2 ^ 63 }
-    requires unlimited { recent.old.cap ≡ 2 ^ 64 - 1 }
-    ensures ok { OnOk result
-        (recent.new ≡ lru_cache ((key, stored) ∷ recent.old.entries) recent.old.cap) }
-    ensures err { OnErr result (recent.new ≡ recent.old) }
-    ensures err_total { OnErr result (total.new ≡ total.old) }
-    ensures those { AreThoseOf recent.new.entries total.new
-        (is_indexed index.new.secret index.new.groups) }
+    ensures ok { OnOk result (recent.new ≡ recent.old) }
+    ensures err { OnErr result
+        (recent.new ≡ lru_cache (drop 1 recent.old.entries) recent.old.cap) }
+    ensures indexed { (k : CacheKey)
+        → is_indexed index.new.secret index.new.groups k
+        ≡ ((is_ok result && is_first k recent.old.entries)
+        || is_indexed index.old.secret index.old.groups k) }
 {
-    let _laws = recent.len();
-    let size = bytes_of(&key, &stored);
-    index.insert(&key)?;
-    match recent.put(key, stored) {
-        Ok(_) => {
-            *total += size;
-            Ok(())
-        }
-        Err(refused) => {
-            index.remove(&refused.value.0);
-            Err(OutOfMemory)
-        }
+    let added = match recent.peek_mru() {
+        Some((key, _)) => index.insert(key),
+        None => Ok(()),
+    };
+    if added.is_err() {
+        recent.pop_mru();
     }
+    added
 }
 
 /// Evicts the least recently used entries until the rest is within the limits.
