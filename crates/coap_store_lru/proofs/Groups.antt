@@ -284,6 +284,14 @@ module _ {H J S : Type 0} (groups new : Groups H J S) (at : ℕ) (others : (e : 
           apart true e = let same : nat_eq at (digest secret k.target) ≡ true = eq-eqb at (digest secret k.target) (of ∙ ap (λ (j : CacheKey). digest secret j.target) (same_key-only key k e)) in absurd (cc)
           apart false e = refl
 
+-- where a group with a key is put, each still contains a key
+pub filled-put : {H J S : Type 0} (groups : Groups H J S) → AreFilled groups → (at : ℕ) (group : Group H J) → length (keys_in group) ≢ 0 → (new : Groups H J S) → ((e : ℕ) → get nat_eq new e ≡ cond (nat_eq at e) (Some group) (get nat_eq groups e)) → AreFilled new
+filled-put groups filled at group some new put = filled-but groups new at (put-elsewhere groups new at (Some group) put) filled (filled_by new at group (put-here groups new at (Some group) put) some)
+
+-- a new group with one key adds that key
+pub more-opened : {H J S : Type 0} (groups : Groups H J S) (at : ℕ) (key : CacheKey) (group : Group H J) → keys_in group ≡ key ∷ [] → get nat_eq groups at ≡ None → (new : Groups H J S) → get nat_eq new at ≡ Some group → (k : CacheKey) → in_group new at k ≡ (same_key key k || in_group groups at k)
+more-opened groups at key group are none new put k = sym (in_group-found new at (Some group) (sym put) k) ∙ one-key (keys_in group) key are k ∙ ap (λ b. same_key key k || b) (sym (none-in_group groups at none k))
+
 -- A store whose entries' keys are indexed.
 module _ {H J S : Type 0} (secret : ℕ) (groups : Groups H J S) (es : List Entry) (target : Target) (indexed : (k : CacheKey) → is_indexed secret groups k ≡ is_held es k) where
   -- the group of a target's digest contains the keys with that target that have entries

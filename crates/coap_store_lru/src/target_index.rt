@@ -12,6 +12,7 @@ use coap_message::OutOfMemory;
 use coap_store::CacheKey;
 use std::alloc::Global;
 use std::collections::HashMap;
+use std::collections::hash_map::Entry;
 use std::hash::{BuildHasher, DefaultHasher, Hash, Hasher};
 
 /// Keys in groups, one for each digest of a target, so that no targets are stored in addition to
@@ -69,24 +70,7 @@ impl<H: BuildHasher + Copy> TargetIndex<H> {
     {
         let copy = key.copied()?;
         let at = digest_of(self.secret, &key.target);
-        let (alloc, hasher) = (self.alloc, self.hasher);
-        match self.groups.get_mut(&at) {
-            Some(group) => group.add(alloc, hasher, copy),
-            None => self.open(at, copy),
-        }
-    }
-
-    /// Adds the first key with a digest.
-    fn open(&mut self, at: u64, key: CacheKey) -> Result<(), OutOfMemory>
-        requires at { at ≡ digest self.old.secret key.target }
-        requires new { get nat_eq self.old.groups at ≡ None }
-        ensures { (k : CacheKey)
-            → is_indexed self.new.secret self.new.groups k
-            ≡ ((is_ok result && same_key key k) || is_indexed self.old.secret self.old.groups k) }
-    {
-        let group = Group::of(self.alloc, key)?;
-        self.groups.insert(at, group)?;
-        Ok(())
+        enter(&mut self.groups, self.alloc, self.hasher, at, copy)
     }
 
     /// Removes a key, and with the last key of a digest its group. Doesn't allocate.
@@ -97,6 +81,32 @@ impl<H: BuildHasher + Copy> TargetIndex<H> {
         let at = digest_of(self.secret, &key.target);
         if leave(&mut self.groups, at, key) {
             self.groups.remove(&at);
+        }
+    }
+}
+
+/// Adds a key to the group of a digest, which is looked up once. If memory runs out, the keys are
+/// unchanged.
+fn enter<H: BuildHasher + Copy>(
+    groups: &mut HashMap<u64, Group<H>>,
+    alloc: Global,
+    hasher: H,
+    at: u64,
+    key: CacheKey,
+) -> Result<(), OutOfMemory>
+    requires { AreFilled groups.old }
+    ensures more { (k : CacheKey) → in_group groups.new at k
+        ≡ ((is_ok result && same_key key k) || in_group groups.old at k) }
+    ensures others { (e : ℕ)
+        → nat_eq at e ≡ false
+        → get nat_eq groups.new e ≡ get nat_eq groups.old e }
+    ensures filled { AreFilled groups.new }
+{
+    match groups.entry(at)? {
+        Entry::Occupied(entry) => entry.into_mut().add(alloc, hasher, key),
+        Entry::Vacant(entry) => {
+            entry.insert(Group::of(alloc, key)?);
+            Ok(())
         }
     }
 }
