@@ -17,19 +17,20 @@ use Rattle.coap_exchange.specs.Timers.{goes_on, sent_again}
 use Rattle.coap_exchange.specs.Waiters.{IsDue, due_in, fire_of_state, fired_state, fired_waiter}
 use Rattle.coap_forward.specs.Messages.{is_con}
 use Rattle.coap_model.specs.History.{is_con_datagram}
-use Rattle.coap_model.specs.Ticks.{abandons, redelivers, on_delivery_timeout, on_waiter}
+use Rattle.coap_model.specs.Ticks.{abandons, redelivers, on_delivery_timeout}
 use Rattle.coap_model.specs.State.{State}
-use Rattle.coap_core.specs.Steps.{IsClientDue, answer_in_state, delivery_at, unheard, unheard_at}
+use Rattle.coap_core.specs.Steps.{IsClientDue, answer_in_state, delivery_at, unheard, unheard_at, waiter_at}
+use Rattle.coap_core.specs.declared.timing.Timing.{Timing}
 
 -- ---- how far a client was served
 
-module _ (w : State) (now draw number : ℕ) (v : Waiter) (found : item_at number w.waiters ≡ Some v) where
+module _ (w : State) (t : Timing) (number : ℕ) (v : Waiter) (found : item_at number w.waiters ≡ Some v) where
   -- one that waits is given the answer of its exchange
-  pub waiting-step : (exchange : ℕ) → v.state ≡ Waiting exchange → on_waiter w now draw number (item_at number w.waiters) ≡ delivery_at w now draw number exchange
+  pub waiting-step : (exchange : ℕ) → v.state ≡ Waiting exchange → waiter_at w t number ≡ delivery_at w t number exchange
   waiting-step exchange state = rw (found, state) refl
 
   -- the timeout has ended of one that was given it
-  pub unheard-step : (bytes : List ℕ) (id : ℕ) (timer : Timer) → v.state ≡ Delivering bytes id timer → on_waiter w now draw number (item_at number w.waiters) ≡ unheard_at w now number
+  pub unheard-step : (bytes : List ℕ) (id : ℕ) (timer : Timer) → v.state ≡ Delivering bytes id timer → waiter_at w t number ≡ unheard_at w t.now number
   unheard-step bytes id timer state = rw (found, state) refl
 
 -- that one is due where its timeout has ended

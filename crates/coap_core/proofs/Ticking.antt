@@ -21,9 +21,10 @@ use Rattle.coap_exchange.proofs.Changes.{changed_at-below}
 use Rattle.coap_model.specs.declared.due.DueItem.{DueItem}
 use Rattle.coap_model.specs.declared.due.DueItem.TheVariants.{OfExchange, OfWaiter}
 use Rattle.coap_model.specs.State.{State, later, next_id}
-use Rattle.coap_model.specs.Ticks.{exchange_due, waiter_due, first_item, item_due, if_due, sends, resends, gives_up, on_request_timeout, on_exchange, on_waiter, on_item, on_tick}
+use Rattle.coap_model.specs.Ticks.{exchange_due, waiter_due, first_item, item_due, if_due, sends, resends, gives_up, on_request_timeout, on_item, on_tick}
 use Rattle.coap_model.proofs.FirstDue.{first_due-holds}
-use Rattle.coap_core.specs.Steps.{IsExchangeDue, IsDueAt, sending_at, firing_at, form_at, IsClientDueAt}
+use Rattle.coap_core.specs.Steps.{IsExchangeDue, IsDueAt, exchange_at, waiter_at, sending_at, firing_at, form_at, IsClientDueAt}
+use Rattle.coap_core.specs.declared.timing.Timing.{Timing}
 
 -- ---- items of a table
 
@@ -103,18 +104,18 @@ waiter-first (Some x) (Some v) at number e = go (nat_le x.0 v.0) e
     go true f = absurd cc
     go false f = second-first v at number f
 
-module _ (w : State) (now draw : ℕ) where
+module _ (w : State) (t : Timing) where
   -- an exchange is due
-  pub of-exchange : (at number : ℕ) → Some (OfExchange at number) ≡ item_due w → at ≤ now → on_tick w now draw ≡ on_exchange w now draw number (item_at number w.exchanges)
+  pub of-exchange : (at number : ℕ) → Some (OfExchange at number) ≡ item_due w → at ≤ t.now → on_tick w t.now t.draw ≡ exchange_at w t number
   of-exchange at number e le =
-      let due : leb at now ≡ true = le-leb _ _ le in
-      ap (λ (o : Option DueItem). on_item w now draw (if_due now o)) (sym e) ∙ rw due refl
+      let due : leb at t.now ≡ true = le-leb _ _ le in
+      ap (λ (o : Option DueItem). on_item w t.now t.draw (if_due t.now o)) (sym e) ∙ rw due refl
 
   -- a client is due
-  pub of-waiter : (at number : ℕ) → Some (OfWaiter at number) ≡ item_due w → at ≤ now → on_tick w now draw ≡ on_waiter w now draw number (item_at number w.waiters)
+  pub of-waiter : (at number : ℕ) → Some (OfWaiter at number) ≡ item_due w → at ≤ t.now → on_tick w t.now t.draw ≡ waiter_at w t number
   of-waiter at number e le =
-      let due : leb at now ≡ true = le-leb _ _ le in
-      ap (λ (o : Option DueItem). on_item w now draw (if_due now o)) (sym e) ∙ rw due refl
+      let due : leb at t.now ≡ true = le-leb _ _ le in
+      ap (λ (o : Option DueItem). on_item w t.now t.draw (if_due t.now o)) (sym e) ∙ rw due refl
 
 -- the exchange that is due first is due
 pub due-at : (w : State) (now at number : ℕ) → IsRising 0 w.exchanges → Some (OfExchange at number) ≡ item_due w → at ≤ now → IsDueAt w now number
@@ -195,18 +196,18 @@ fired-same now x e = let p = sending x.sending e in λ i. record x { sending = p
 
 -- ---- the step of what is due, by how far it has come
 
-module _ (w : State) (now draw number : ℕ) (x : Exchange) (found : item_at number w.exchanges ≡ Some x) where
-  pub queued-step : nat_le (deadline w.setting.limits.exchange_ms x) now ≡ false → x.state ≡ Queued → on_exchange w now draw number (item_at number w.exchanges) ≡ sending_at w now draw number
+module _ (w : State) (t : Timing) (number : ℕ) (x : Exchange) (found : item_at number w.exchanges ≡ Some x) where
+  pub queued-step : nat_le (deadline w.setting.limits.exchange_ms x) t.now ≡ false → x.state ≡ Queued → exchange_at w t number ≡ sending_at w t number
   queued-step early state = rw (found, early, state) refl
 
-  pub sent-step : nat_le (deadline w.setting.limits.exchange_ms x) now ≡ false → x.state ≡ Sent → on_exchange w now draw number (item_at number w.exchanges) ≡ firing_at w now number
+  pub sent-step : nat_le (deadline w.setting.limits.exchange_ms x) t.now ≡ false → x.state ≡ Sent → exchange_at w t number ≡ firing_at w t.now number
   sent-step early state = rw (found, early, state) refl
 
 -- ---- the bytes that are sent
 
 -- the form of a request that was sent is what the step sends
-pub sent-form : (w : State) (now draw number : ℕ) (s : Sending) (x : Exchange) → item_at number w.exchanges ≡ Some x → s.id ≡ next_id w → form_at number (changed_at number (sent s) w.exchanges) ≡ (sending_at w now draw number).bytes
-sent-form w now draw number s x found id = rw (changed-found number (sent s) w.exchanges x found, found, id) refl
+pub sent-form : (w : State) (t : Timing) (number : ℕ) (s : Sending) (x : Exchange) → item_at number w.exchanges ≡ Some x → s.id ≡ next_id w → form_at number (changed_at number (sent s) w.exchanges) ≡ (sending_at w t number).bytes
+sent-form w t number s x found id = rw (changed-found number (sent s) w.exchanges x found, found, id) refl
 
 -- ---- what is done where a timeout has ended
 

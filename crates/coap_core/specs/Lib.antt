@@ -1,6 +1,7 @@
 pub mod Arrivals
 pub mod Events
 pub mod Forms
+pub mod Settings
 pub mod Steps
 pub mod Storing
 pub use Rattle.coap_model.specs.Setting

@@ -26,9 +26,11 @@ mod proxy;
 mod request_target;
 mod requests;
 mod responses;
+mod setting;
 mod state;
 mod step;
 mod ticks;
+mod timing;
 
 pub use coap_endpoint::{Endpoint, Ip};
 pub use coap_message::{Code, Datagram, OutOfMemory};

@@ -17,8 +17,10 @@ ghost use Rattle.coap_core.specs.Events.{IsUnread, seen};
 ghost use Rattle.coap_core.specs.Steps.{CarriesOn, Does, GivesConfirmable, KeepsWordOn, LeavesRoomOn, PromisesOn, entry_told, wants_memory};
 
 use crate::event::Event;
+use crate::setting::Setting;
 use crate::state::State;
 use crate::ticks::moment_of;
+use crate::timing::Timing;
 use coap_endpoint::Endpoint;
 use coap_message::{Datagram, OutOfMemory};
 use coap_model::laws::{
@@ -90,7 +92,13 @@ impl<S: Store + Drop> Core<S> {
         new_proxies_carry_nothing();
         // The call's contract says that the maps are sound, which each step relies on.
         routes.maps();
-        let state = State::new(alloc, seed, limits, routes, first_id, salt)?;
+        let setting = Setting {
+            limits,
+            routes,
+            first_id,
+            salt,
+        };
+        let state = State::new(alloc, seed, setting)?;
         let due = state.first_due();
         Ok(Core { state, due })
     }
@@ -196,7 +204,8 @@ impl<S: Store + Drop> Core<S> {
         datagrams_fit();
         settings_stay();
         event.holds_bytes();
-        let done = self.state.step(now, draw, event, self.due, out);
+        let timing = Timing { now, draw };
+        let done = self.state.step(timing, event, self.due, out);
         self.due = self.state.first_due();
         done
     }
@@ -243,6 +252,6 @@ impl<S: Store + Drop> Core<S> {
     pub fn datagram(&self) -> usize
         ensures exact { result ≡ self.now.setting.limits.datagram }
     {
-        self.state.limits.values().datagram as usize
+        self.state.setting.limits.values().datagram as usize
     }
 }

@@ -45,6 +45,16 @@ pub(crate) enum Verdict {
     MayAsk,
 }
 
+/// What an exchange is opened with, beside its request.
+#[derive(Drop)]
+pub(crate) struct NewExchange {
+    key: CacheKey,
+    /// The tags of the responses that the client already holds.
+    tags: Pieces,
+    /// The stored response that the request asks to validate.
+    copy: Option<Stored>,
+}
+
 /// Whether the method is GET.
 fn is_get(code: Code) -> bool
     ensures { result ≡ is_get code }
@@ -309,7 +319,7 @@ impl<S: Store + Drop> State<S> {
         }
         let copy = self.put_validating(arrival.message, asked, out)?;
         let (key, tags) = asked.copied()?;
-        self.open(arrival, key, tags, copy, out)
+        self.open(arrival, NewExchange { key, tags, copy }, out)
     }
 
     /// What is stored for the key of a request, if that is a GET.
@@ -389,10 +399,10 @@ impl<S: Store + Drop> State<S> {
         targets_fit_options();
         requests_to_the_proxy_are_mapped();
         if says_uri(request) {
-            let target = self.routes.target_of_ref(self.alloc, request)?;
+            let target = self.setting.routes.target_of_ref(self.alloc, request)?;
             return Ok(RequestTarget::Named(target));
         }
-        match self.routes.mapped(request) {
+        match self.setting.routes.mapped(request) {
             Some(target) => Ok(RequestTarget::Mapped(target)),
             None => Err(TargetError::NotFound),
         }
@@ -425,8 +435,8 @@ impl<S: Store + Drop> State<S> {
             request.now 0)) }
         ensures kept { out.new.room ≡ out.old.room }
     {
-        let token = token_of(self.salt, self.under_way.exchanges().admitted() + 1);
-        let room = self.limits.values().datagram as usize;
+        let token = token_of(self.setting.salt, self.under_way.exchanges().admitted() + 1);
+        let room = self.setting.limits.values().datagram as usize;
         let form = Form {
             request,
             target,
@@ -468,7 +478,7 @@ impl<S: Store + Drop> State<S> {
     {
         let head = self.reply_head(arrival.message, Code::SERVICE_UNAVAILABLE);
         let token = Token::new(arrival.message.token());
-        put_with_max_age(head, &token, self.limits.values().retry_s, &[], out);
+        put_with_max_age(head, &token, self.setting.limits.values().retry_s, &[], out);
         self.reply(arrival, Outcome::Overloaded, out)
     }
 
@@ -513,37 +523,35 @@ impl<S: Store + Drop> State<S> {
         Ok(Report { send, outcome })
     }
 
-    /// Opens an exchange for a key, and has the client wait for it. `out` holds the forwarded
-    /// request, and `copy` is the response that it asks to validate.
+    /// Opens an exchange, and has the client wait for it. `out` holds the forwarded request.
     fn open(
         &mut self,
         arrival: Arrival<'_, '_>,
-        key: CacheKey,
-        tags: Pieces,
-        copy: Option<Stored>,
+        exchange: NewExchange,
         out: &mut Datagram,
     ) -> Result<Report, OutOfMemory>
         requires reply { CanReplyTo arrival self.old }
-        requires tags { tags ≡ tags_of arrival.message.now }
-        requires copy { copy
-            ≡ copy_of self.old.setting.limits.datagram key.target arrival.message.now
-            (held_for self.old arrival.message.now key) }
+        requires tags { exchange.tags ≡ tags_of arrival.message.now }
+        requires copy { exchange.copy
+            ≡ copy_of self.old.setting.limits.datagram exchange.key.target arrival.message.now
+            (held_for self.old arrival.message.now exchange.key) }
         requires form { out.old.bytes
             ≡ spelling
-            (forwarded (next_token self.old) key.target
-            (tag_carried self.old.setting.limits.datagram key.target arrival.message.now
-            (held_for self.old arrival.message.now key))
+            (forwarded (next_token self.old) exchange.key.target
+            (tag_carried self.old.setting.limits.datagram exchange.key.target arrival.message.now
+            (held_for self.old arrival.message.now exchange.key))
             arrival.message.now 0) }
         requires fits { length
-            (of_arrival (opens self.old) arrival key
-            (held_for self.old arrival.message.now key)).bytes
+            (of_arrival (opens self.old) arrival exchange.key
+            (held_for self.old arrival.message.now exchange.key)).bytes
             ≤ out.old.room }
         ensures { IsDone
             (of_arrival remembers arrival.entry
-            (of_arrival (opens self.old) arrival.entry key
-            (held_for self.old arrival.entry.message.now key)))
+            (of_arrival (opens self.old) arrival.entry exchange.key
+            (held_for self.old arrival.entry.message.now exchange.key)))
             result out.old out.new self.old self.new }
     {
+        let NewExchange { key, tags, copy } = exchange;
         let form = Seq::from_slice(self.alloc, out.bytes())?;
         let to_get = is_get(arrival.message.code());
         let client = arrival.from;

@@ -211,7 +211,7 @@ impl<S: Store + Drop> State<S> {
         ensures exact { result ≡ option_map (λ x. x.0) (awaiting self.now source response.now) }
         ensures open { IfSome result (λ number. IsOpenAt number self.now.exchanges) }
     {
-        let number = number_of(self.salt, response.token())?;
+        let number = number_of(self.setting.salt, response.token())?;
         let exchange = self.under_way.exchange(number)?;
         if awaits(exchange, source, response) {
             Some(number)
@@ -286,7 +286,7 @@ impl<S: Store + Drop> State<S> {
     fn is_wide(&self)
         ensures { 128 ≤ self.now.setting.limits.datagram }
     {
-        let _values = self.limits.values();
+        let _values = self.setting.limits.values();
     }
 
     /// The answer that a response makes for an exchange.
@@ -299,7 +299,7 @@ impl<S: Store + Drop> State<S> {
         ensures { IfOk result (λ answer.
             answer ≡ answer_for self.now now response.now exchange.now) }
     {
-        let most = self.limits.values().datagram as usize;
+        let most = self.setting.limits.values().datagram as usize;
         let request = SentRequest {
             is_get: exchange.is_get,
             copy: exchange.copy.as_ref(),

@@ -3,11 +3,12 @@ ghost use Rattle.std.specs.Prelude.{◌≡◌, ◌+◌, ◌<◌, ◌≤◌, ◌^
 ghost use Rattle.coap_exchange.specs.Ids.{called, left_of};
 ghost use Rattle.coap_exchange.specs.Table.{empty_table};
 ghost use Rattle.coap_limits.specs.Limits.{AreLimits};
-ghost use Rattle.coap_model.specs.Setting.{setting_of};
 ghost use Rattle.coap_model.specs.State.{next_id, later, reserved, has_ids, has_exchange_room, has_waiter_room, has_room_to_join, has_room_to_open, new_state, no_con_records, no_non_records, client_counts, counts};
+ghost use Rattle.coap_core.specs.Settings.{seen};
 ghost use Rattle.coap_core.specs.Steps.{CanGoOn, CanStep};
 
 use crate::request_target::CacheQuery;
+use crate::setting::Setting;
 use coap_dedup::{EXCHANGE_LIFETIME, NON_LIFETIME, Records};
 use coap_endpoint::Endpoint;
 use coap_exchange::{Exchanges, Ids, UnderWay, Waiters};
@@ -22,9 +23,7 @@ use std::mem;
 /// What a proxy was made with, and what it holds. A contract sees the model's state.
 pub(crate) struct State<S: Store> {
     pub(crate) alloc: Global,
-    pub(crate) limits: Limits,
-    pub(crate) routes: Routes,
-    pub(crate) salt: u64,
+    pub(crate) setting: Setting,
     /// Exchanges, and the clients that wait for them.
     pub(crate) under_way: UnderWay,
     pub(crate) store: S,
@@ -33,8 +32,6 @@ pub(crate) struct State<S: Store> {
     pub(crate) con_records: Records,
     pub(crate) non_records: Records,
     pub(crate) ids: Ids,
-    /// The first Message ID given, or to be given.
-    pub(crate) first_id: u16,
     pub(crate) last: u64,
     pub(crate) events: u64,
 }
@@ -43,16 +40,13 @@ impl<S: Store + Drop> Drop for State<S> {
     fn drop(self) {
         let State {
             alloc: _,
-            limits: _,
-            routes: _,
-            salt: _,
+            setting: _,
             under_way: _,
             store: _,
             room: _,
             con_records: _,
             non_records: _,
             ids: _,
-            first_id: _,
             last: _,
             events: _,
         } = self;
@@ -61,15 +55,15 @@ impl<S: Store + Drop> Drop for State<S> {
 
 impl<S: Store> Model for State<S> {
     ghost use Rattle.std.specs.Prelude.{◌≡◌};
-    ghost use Rattle.coap_model.specs.Setting.{setting_of};
     ghost use Rattle.coap_model.specs.State.{State};
+    ghost use Rattle.coap_core.specs.Settings.{seen};
     ghost use Rattle.coap_core.specs.Storing.{AreStoreLimits};
 
     ghost Value = { State };
 
     ghost view = { λ w.
         record {
-          setting = setting_of w.limits w.routes w.first_id w.salt;
+          setting = seen w.setting;
           exchanges = w.under_way.exchanges.items;
           waiters = w.under_way.waiters.items;
           store = S.entries w.store;
@@ -83,11 +77,11 @@ impl<S: Store> Model for State<S> {
         } };
 
     ghost invariant = { λ w.
-        (w.under_way.exchanges.limit ≡ w.limits.exchanges)
-        × (w.under_way.waiters.limit ≡ w.limits.waiters)
-        × (w.under_way.exchanges.per_client ≡ w.limits.client_exchanges)
-        × (w.under_way.waiters.per_client ≡ w.limits.client_waiters)
-        × AreStoreLimits w.limits (S.limits w.store) };
+        (w.under_way.exchanges.limit ≡ w.setting.limits.exchanges)
+        × (w.under_way.waiters.limit ≡ w.setting.limits.waiters)
+        × (w.under_way.exchanges.per_client ≡ w.setting.limits.client_exchanges)
+        × (w.under_way.waiters.per_client ≡ w.setting.limits.client_waiters)
+        × AreStoreLimits w.setting.limits (S.limits w.store) };
 }
 
 impl<S: Store + Drop> State<S> {
@@ -96,32 +90,27 @@ impl<S: Store + Drop> State<S> {
     pub(crate) fn new(
         alloc: Global,
         seed: S::Seed,
-        limits: Limits,
-        routes: Routes,
-        first_id: u16,
-        salt: u64,
+        setting: Setting,
     ) -> Result<State<S>, OutOfMemory>
-        ensures exact { IfOk result (λ state.
-            state ≡ new_state (setting_of limits routes first_id salt)) }
-        ensures limits { AreLimits limits }
+        ensures exact { IfOk result (λ state. state ≡ new_state (seen setting)) }
+        ensures limits { AreLimits setting.limits }
     {
+        let limits = setting.limits;
         let (bytes, entries) = (limits.values().cache_bytes, limits.values().cache_entries);
         let store = S::with_limits(alloc, seed, bytes, entries as usize)?;
-        let (con_records, non_records) = new_records(alloc, &limits, salt)?;
-        let under_way = new_tables(alloc, &limits, salt)?;
-        let room = new_room(alloc, &limits, &routes)?;
+        let (con_records, non_records) = new_records(alloc, &limits, setting.salt)?;
+        let under_way = new_tables(alloc, &limits, setting.salt)?;
+        let room = new_room(alloc, &limits, &setting.routes)?;
+        let ids = Ids::new(setting.first_id);
         Ok(State {
             alloc,
-            limits,
-            routes,
-            salt,
+            setting,
             under_way,
             store,
             room,
             con_records,
             non_records,
-            ids: Ids::new(first_id),
-            first_id,
+            ids,
             last: 0,
             events: 0,
         })
@@ -191,18 +180,18 @@ impl<S: Store + Drop> State<S> {
     fn has_exchange_room(&self, client: Endpoint) -> bool
         ensures { result ≡ has_exchange_room self.now client }
     {
-        (self.under_way.exchanges().len() as u64) < self.limits.values().exchanges
+        (self.under_way.exchanges().len() as u64) < self.setting.limits.values().exchanges
             && (self.under_way.exchanges().count_of(client) as u64)
-                < self.limits.values().client_exchanges
+                < self.setting.limits.values().client_exchanges
     }
 
     /// Whether there is room for one more request of this client to wait.
     fn has_waiter_room(&self, client: Endpoint) -> bool
         ensures { result ≡ has_waiter_room self.now client }
     {
-        (self.under_way.waiters().len() as u64) < self.limits.values().waiters
+        (self.under_way.waiters().len() as u64) < self.setting.limits.values().waiters
             && (self.under_way.waiters().count_of(client) as u64)
-                < self.limits.values().client_waiters
+                < self.setting.limits.values().client_waiters
     }
 
     /// Whether this client may wait for an exchange that is in progress.

@@ -14,6 +14,7 @@ ghost use Rattle.coap_core.specs.Steps.{Does, IsDoneBy, CanGoOn, CanStep, GivesC
 use crate::arrival::Arrival;
 use crate::event::Event;
 use crate::state::{State, silent};
+use crate::timing::Timing;
 use coap_endpoint::Endpoint;
 use coap_forward::put_bare;
 use coap_message::{Code, Datagram, Head, Kind, MessageRef, OutOfMemory, Token, head_of};
@@ -25,32 +26,34 @@ impl<S: Store + Drop> State<S> {
     /// `out` is empty.
     pub(crate) fn step(
         &mut self,
-        now: u64,
-        draw: u16,
+        timing: Timing,
         event: Event<'_>,
         due: Option<DueItem>,
         out: &mut Datagram,
     ) -> Result<Report, OutOfMemory>
-        requires ready { CanStep now self.old }
-        requires draw { draw ≤ 1000 }
+        requires ready { CanStep timing.now self.old }
+        requires draw { timing.draw ≤ 1000 }
         requires due { due ≡ item_due self.old }
         requires room { self.old.setting.limits.datagram ≤ out.old.room }
-        requires fits { length (step_of self.old now draw true (seen event)).bytes ≤ out.old.room }
+        requires fits { length (step_of self.old timing.now timing.draw true (seen event)).bytes
+            ≤ out.old.room }
         ensures exact { IfOk result (λ report.
-            Does (step_of self.old now draw (grown_of report.outcome) (seen event.entry)) report
-            out.old out.new self.new) }
+            Does
+            (step_of self.old timing.now timing.draw (grown_of report.outcome) (seen event.entry))
+            report out.old out.new self.new) }
         ensures err { OnErr result (self.new ≡ self.old) }
         ensures none { OnErr result (out.new ≡ holding out.old []) }
         ensures memory { OnErr result
-            (wants_memory (step_of self.old now draw true (seen event.entry)) ≡ true) }
+            (wants_memory (step_of self.old timing.now timing.draw true (seen event.entry))
+            ≡ true) }
         ensures ticks { seen event.entry ≡ tick
-            → OnErr result (GivesConfirmable (on_tick self.old now draw)) }
+            → OnErr result (GivesConfirmable (on_tick self.old timing.now timing.draw)) }
         ensures unread { IsUnread self.old.setting.limits.datagram (seen event.entry)
             → IsOk result }
     {
         let done = match event {
-            Event::Datagram { from, bytes } => self.on_datagram(now, from, bytes, out),
-            Event::Tick => self.on_tick(now, draw, due, out),
+            Event::Datagram { from, bytes } => self.on_datagram(timing.now, from, bytes, out),
+            Event::Tick => self.on_tick(timing, due, out),
         };
         if done.is_err() {
             out.clear();
@@ -85,7 +88,7 @@ impl<S: Store + Drop> State<S> {
             return self.on_message(arrival, out);
         }
         match head_of(bytes) {
-            Some(head) => Ok(self.unprocessed(now, source, head.kind, head.id, out)),
+            Some(head) => Ok(self.unprocessed(now, source, head, out)),
             None => Ok(self.ignore(now, out)),
         }
     }
@@ -95,7 +98,7 @@ impl<S: Store + Drop> State<S> {
     fn message_in<'a>(&self, bytes: &'a [u8]) -> Option<MessageRef<'a>>
         ensures { result ≡ message_in self.now.setting.limits.datagram bytes.now }
     {
-        if bytes.len() > self.limits.values().datagram as usize {
+        if bytes.len() > self.setting.limits.values().datagram as usize {
             return None;
         }
         MessageRef::read(bytes).ok()
@@ -126,31 +129,28 @@ impl<S: Store + Drop> State<S> {
             Kind::Ack | Kind::Rst if arrival.message.code() == Code::EMPTY => {
                 Ok(self.on_empty(arrival, out))
             }
-            kind => Ok(self.unprocessed(
-                arrival.now,
-                arrival.from,
-                kind,
-                arrival.message.id(),
-                out,
-            )),
+            kind => {
+                let head = Head {
+                    kind,
+                    code: arrival.message.code(),
+                    id: arrival.message.id(),
+                };
+                Ok(self.unprocessed(arrival.now, arrival.from, head, out))
+            }
         }
     }
 
-    /// Rejects a Confirmable message that can't be processed, and ignores any other.
-    fn unprocessed(
-        &mut self,
-        now: u64,
-        source: Endpoint,
-        kind: Kind,
-        id: u16,
-        out: &mut Datagram,
-    ) -> Report
+    /// Rejects a Confirmable message that can't be processed, and ignores any other: `head` is its
+    /// start.
+    fn unprocessed(&mut self, now: u64, source: Endpoint, head: Head, out: &mut Datagram) -> Report
         requires can { CanGoOn self.old }
-        requires fits { length (unprocessed self.old now source kind id).bytes ≤ out.old.room }
-        ensures { Does (unprocessed self.old now source kind id) result out.old out.new self.new }
+        requires fits { length (unprocessed self.old now source head.kind head.id).bytes
+            ≤ out.old.room }
+        ensures { Does (unprocessed self.old now source head.kind head.id) result out.old out.new
+            self.new }
     {
-        match kind {
-            Kind::Con => self.reject(now, source, id, out),
+        match head.kind {
+            Kind::Con => self.reject(now, source, head.id, out),
             Kind::Non | Kind::Ack | Kind::Rst => self.ignore(now, out),
         }
     }

@@ -5,12 +5,13 @@ ghost use Rattle.coap_exchange.specs.Table.{item_at};
 ghost use Rattle.coap_exchange.specs.declared.waiter.WaiterState.TheVariants.{Waiting};
 ghost use Rattle.coap_message.specs.Datagram.{holding};
 ghost use Rattle.coap_forward.specs.Messages.{is_con};
-ghost use Rattle.coap_model.specs.Ticks.{abandons, item_due, moment_of, gives_up, idles, on_exchange, on_waiter, on_tick, without_idle};
+ghost use Rattle.coap_model.specs.Ticks.{abandons, item_due, moment_of, gives_up, idles, on_tick, without_idle};
 ghost use Rattle.coap_exchange.specs.Waiters as waiters;
 ghost use Rattle.coap_exchange.specs.Waiters.{is_waiting};
-ghost use Rattle.coap_core.specs.Steps.{Does, IsDone, CanGoOn, CanStep, GivesConfirmable, IsClientDueAt, IsClientFoundAs, IsDueAt, IsFoundAs, IsReadyAt, answer_at, delivery_at, firing_at, form_at, sending_at, told_in, unheard_at};
+ghost use Rattle.coap_core.specs.Steps.{Does, IsDone, CanGoOn, CanStep, GivesConfirmable, IsClientDueAt, IsClientFoundAs, IsDueAt, IsFoundAs, IsReadyAt, answer_at, delivery_at, exchange_at, firing_at, form_at, sending_at, told_in, unheard_at, waiter_at};
 
 use crate::state::{State, silent};
+use crate::timing::Timing;
 use coap_endpoint::Endpoint;
 use coap_exchange::{Exchange, ExchangeState, Fire, Sending, Timer, WaiterState};
 use coap_forward::{gateway_timeout, put_shown};
@@ -52,27 +53,26 @@ impl<S: Store + Drop> State<S> {
     /// `due` is what is due first.
     pub(crate) fn on_tick(
         &mut self,
-        now: u64,
-        draw: u16,
+        timing: Timing,
         due: Option<DueItem>,
         out: &mut Datagram,
     ) -> Result<Report, OutOfMemory>
-        requires ready { CanStep now self.old }
-        requires draw { draw ≤ 1000 }
+        requires ready { CanStep timing.now self.old }
+        requires draw { timing.draw ≤ 1000 }
         requires due { due ≡ item_due self.old }
-        requires fits { length (on_tick self.old now draw).bytes ≤ out.old.room }
-        ensures done { IsDone (on_tick self.old now draw)
+        requires fits { length (on_tick self.old timing.now timing.draw).bytes ≤ out.old.room }
+        ensures done { IsDone (on_tick self.old timing.now timing.draw)
             result out.old out.new self.old self.new }
-        ensures memory { OnErr result (GivesConfirmable (on_tick self.old now draw)) }
+        ensures memory { OnErr result (GivesConfirmable (on_tick self.old timing.now timing.draw)) }
     {
         match due {
-            Some(DueItem::OfExchange { at, number }) if at <= now => {
-                Ok(self.on_exchange(now, draw, number, out))
+            Some(DueItem::OfExchange { at, number }) if at <= timing.now => {
+                Ok(self.on_exchange(timing, number, out))
             }
-            Some(DueItem::OfWaiter { at, number }) if at <= now => {
-                self.on_waiter(now, draw, number, out)
+            Some(DueItem::OfWaiter { at, number }) if at <= timing.now => {
+                self.on_waiter(timing, number, out)
             }
-            _ => Ok(self.idle(now, out)),
+            _ => Ok(self.idle(timing.now, out)),
         }
     }
 
@@ -80,7 +80,7 @@ impl<S: Store + Drop> State<S> {
     pub(crate) fn first_due(&self) -> Option<DueItem>
         ensures { result ≡ item_due self.now }
     {
-        let limits = self.limits.values();
+        let limits = self.setting.limits.values();
         let exchange = self
             .under_way
             .exchanges()
@@ -116,27 +116,24 @@ impl<S: Store + Drop> State<S> {
 
     /// Handles the exchange numbered `number`, which is due: it times out at its deadline, and
     /// before that its request is sent, or sent again.
-    fn on_exchange(&mut self, now: u64, draw: u16, number: u64, out: &mut Datagram) -> Report
-        requires ready { CanStep now self.old }
-        requires draw { draw ≤ 1000 }
-        requires due { IsDueAt self.old now number }
-        requires fits { length
-            (on_exchange self.old now draw number (item_at number self.old.exchanges)).bytes
-            ≤ out.old.room }
-        ensures { Does (on_exchange self.old now draw number (item_at number self.old.exchanges))
-            result out.old out.new self.new }
+    fn on_exchange(&mut self, timing: Timing, number: u64, out: &mut Datagram) -> Report
+        requires ready { CanStep timing.now self.old }
+        requires draw { timing.draw ≤ 1000 }
+        requires due { IsDueAt self.old timing.now number }
+        requires fits { length (exchange_at self.old timing number).bytes ≤ out.old.room }
+        ensures { Does (exchange_at self.old timing number) result out.old out.new self.new }
     {
         let Some(exchange) = self.under_way.exchange(number) else {
             unreachable!()
         };
-        if self.is_late(now, exchange) {
-            return self.give_up(now, number, out);
+        if self.is_late(timing.now, exchange) {
+            return self.give_up(timing.now, number, out);
         }
         let to = exchange.key.target.at;
         let due = DueExchange { number, to };
         match &exchange.state {
-            ExchangeState::Queued => self.send(now, draw, due, out),
-            ExchangeState::Sent => self.on_request_timeout(now, due, out),
+            ExchangeState::Queued => self.send(timing, due, out),
+            ExchangeState::Sent => self.on_request_timeout(timing.now, due, out),
             ExchangeState::Acked | ExchangeState::Done(_) => unreachable!(),
         }
     }
@@ -146,24 +143,24 @@ impl<S: Store + Drop> State<S> {
         ensures { result
             ≡ nat_le (deadline self.now.setting.limits.exchange_ms exchange.now) now }
     {
-        now.saturating_sub(exchange.admitted) >= self.limits.values().exchange_ms
+        now.saturating_sub(exchange.admitted) >= self.setting.limits.values().exchange_ms
     }
 
     /// Sends the request of an exchange to its origin, with a new Message ID. It is to be sent again
     /// until it is acknowledged or answered (RFC 7252, 4.2).
-    fn send(&mut self, now: u64, draw: u16, due: DueExchange, out: &mut Datagram) -> Report
-        requires ready { CanStep now self.old }
-        requires draw { draw ≤ 1000 }
+    fn send(&mut self, timing: Timing, due: DueExchange, out: &mut Datagram) -> Report
+        requires ready { CanStep timing.now self.old }
+        requires draw { timing.draw ≤ 1000 }
         requires queued { IsFoundAs (λ x. is_queued x ≡ true) self.old due }
-        requires fits { length (sending_at self.old now draw due.number).bytes ≤ out.old.room }
-        ensures { Does (sending_at self.old now draw due.number) result out.old out.new self.new }
+        requires fits { length (sending_at self.old timing due.number).bytes ≤ out.old.room }
+        ensures { Does (sending_at self.old timing due.number) result out.old out.new self.new }
     {
-        let (asked, timer) = (self.events, Timer::start(now, draw));
-        let id = self.take_id(now);
+        let (asked, timer) = (self.events, Timer::start(timing.now, timing.draw));
+        let id = self.take_id(timing.now);
         let sending = Sending { asked, id, timer };
         self.under_way.send(due.number, sending);
         self.put_form(due.number, out);
-        self.advance(now);
+        self.advance(timing.now);
         Report {
             send: Some(due.to),
             outcome: Outcome::SentRequest,
@@ -222,21 +219,17 @@ impl<S: Store + Drop> State<S> {
     /// of its exchange, and otherwise its answer is retransmitted or abandoned.
     fn on_waiter(
         &mut self,
-        now: u64,
-        draw: u16,
+        timing: Timing,
         number: u64,
         out: &mut Datagram,
     ) -> Result<Report, OutOfMemory>
-        requires ready { CanStep now self.old }
-        requires draw { draw ≤ 1000 }
-        requires due { IsClientDueAt self.old now number }
-        requires fits { length
-            (on_waiter self.old now draw number (item_at number self.old.waiters)).bytes
-            ≤ out.old.room }
-        ensures done { IsDone (on_waiter self.old now draw number (item_at number self.old.waiters))
+        requires ready { CanStep timing.now self.old }
+        requires draw { timing.draw ≤ 1000 }
+        requires due { IsClientDueAt self.old timing.now number }
+        requires fits { length (waiter_at self.old timing number).bytes ≤ out.old.room }
+        ensures done { IsDone (waiter_at self.old timing number)
             result out.old out.new self.old self.new }
-        ensures memory { OnErr result (GivesConfirmable
-            (on_waiter self.old now draw number (item_at number self.old.waiters))) }
+        ensures memory { OnErr result (GivesConfirmable (waiter_at self.old timing number)) }
     {
         let Some(waiter) = self.under_way.waiter(number) else {
             unreachable!()
@@ -244,11 +237,11 @@ impl<S: Store + Drop> State<S> {
         match &waiter.state {
             WaiterState::Waiting(exchange) => {
                 let exchange = *exchange;
-                self.deliver(now, draw, number, exchange, out)
+                self.deliver(timing, number, exchange, out)
             }
             WaiterState::Delivering { .. } => {
                 let to = waiter.client;
-                Ok(self.on_delivery_timeout(now, DueClient { number, to }, out))
+                Ok(self.on_delivery_timeout(timing.now, DueClient { number, to }, out))
             }
         }
     }
@@ -258,21 +251,19 @@ impl<S: Store + Drop> State<S> {
     /// exchange, it is closed.
     fn deliver(
         &mut self,
-        now: u64,
-        draw: u16,
+        timing: Timing,
         number: u64,
         exchange: u64,
         out: &mut Datagram,
     ) -> Result<Report, OutOfMemory>
-        requires ready { CanStep now self.old }
-        requires draw { draw ≤ 1000 }
+        requires ready { CanStep timing.now self.old }
+        requires draw { timing.draw ≤ 1000 }
         requires waits { IsReadyAt self.old number exchange }
-        requires fits { length (delivery_at self.old now draw number exchange).bytes
-            ≤ out.old.room }
-        ensures done { IsDone (delivery_at self.old now draw number exchange)
+        requires fits { length (delivery_at self.old timing number exchange).bytes ≤ out.old.room }
+        ensures done { IsDone (delivery_at self.old timing number exchange)
             result out.old out.new self.old self.new }
         ensures memory { OnErr result
-            (GivesConfirmable (delivery_at self.old now draw number exchange)) }
+            (GivesConfirmable (delivery_at self.old timing number exchange)) }
     {
         let Some(waiter) = self.under_way.waiter(number) else {
             unreachable!()
@@ -292,11 +283,11 @@ impl<S: Store + Drop> State<S> {
             token,
             tags,
         };
-        put_shown(now, answer, awaited.is_get, reply, out);
-        self.record_delivery(now, draw, number, kind, out)?;
-        self.take_id(now);
+        put_shown(timing.now, answer, awaited.is_get, reply, out);
+        self.record_delivery(timing, number, kind, out)?;
+        self.take_id(timing.now);
         self.close_if_unused(exchange);
-        self.advance(now);
+        self.advance(timing.now);
         Ok(Report {
             send: Some(client),
             outcome: Outcome::Delivered,
@@ -308,25 +299,24 @@ impl<S: Store + Drop> State<S> {
     /// is acknowledged (RFC 7252, 4.2).
     fn record_delivery(
         &mut self,
-        now: u64,
-        draw: u16,
+        timing: Timing,
         number: u64,
         kind: Kind,
         out: &Datagram,
     ) -> Result<(), OutOfMemory>
-        requires moment { now ≤ 2 ^ 62 }
-        requires draw { draw ≤ 1000 }
+        requires moment { timing.now ≤ 2 ^ 62 }
+        requires draw { timing.draw ≤ 1000 }
         requires waits { IfSome (item_at number self.old.waiters) (λ v. is_waiting v ≡ true) }
         ensures ok { OnOk result
             (self.new
-            ≡ record self.old { waiters = told_in self.old now draw number kind out.now.bytes }) }
+            ≡ record self.old { waiters = told_in self.old timing number kind out.now.bytes }) }
         ensures err { OnErr result (self.new ≡ self.old) }
         ensures memory { OnErr result (is_con kind ≡ true) }
     {
         match kind {
             Kind::Con => {
                 let bytes = Seq::from_slice(self.alloc, out.bytes())?;
-                let (id, timer) = (self.next_id(), Timer::start(now, draw));
+                let (id, timer) = (self.next_id(), Timer::start(timing.now, timing.draw));
                 self.under_way.deliver(number, bytes, id, timer);
             }
             Kind::Non | Kind::Ack | Kind::Rst => self.under_way.close_waiter(number),

@@ -13,10 +13,10 @@ pub returns-in_err-number-clause-exact : goal.returns-in_err-number-clause-exact
 returns-in_err-number-clause-exact g c =
     let m = c.args.response.now in
     let short : length m.token ≢ 8 = rw (← c.token.ensures.bytes) c.in_err-number.ensures.missing in
-    rw (← c.self.view_is) (c.from_residual.ensures ∙ ap (option_map {T = Numbered Exchange} (λ x. x.0)) (sym (nobody-awaits c.self.inside.salt c.args.source m c.self.inside.under_way.exchanges.items short)))
+    rw (← c.self.view_is) (c.from_residual.ensures ∙ ap (option_map {T = Numbered Exchange} (λ x. x.0)) (sym (nobody-awaits c.self.inside.setting.salt c.args.source m c.self.inside.under_way.exchanges.items short)))
 
 -- the response has the token of the exchange of that number
-token : (g : Over) (c : After-exchange g) → token_of c.self.inside.salt c.in_ok-number.number ≡ c.args.response.now.token
+token : (g : Over) (c : After-exchange g) → token_of c.self.inside.setting.salt c.in_ok-number.number ≡ c.args.response.now.token
 token g c = rw (← c.token.ensures.bytes) c.in_ok-number.ensures.found
 
 -- the numbers that were given fit eight bytes
@@ -27,19 +27,19 @@ pub returns-in_err-exchange-clause-exact : goal.returns-in_err-exchange-clause-e
 returns-in_err-exchange-clause-exact g c =
     let m = c.args.response.now in
     let got = (goal.at.returns-in_err-exchange-clause-exact g c).After-exchange in
-    rw (← c.self.view_is) (c.from_residual-in_err-exchange.ensures ∙ sym (awaits-none c.self.inside.salt c.args.source m c.in_ok-number.number c.self.inside.under_way.exchanges c.in_ok-number.ensures.small (token g got) c.exchange.ensures.sound (few g got) (sym c.in_err-exchange.ensures.exact)))
+    rw (← c.self.view_is) (c.from_residual-in_err-exchange.ensures ∙ sym (awaits-none c.self.inside.setting.salt c.args.source m c.in_ok-number.number c.self.inside.under_way.exchanges c.in_ok-number.ensures.small (token g got) c.exchange.ensures.sound (few g got) (sym c.in_err-exchange.ensures.exact)))
 
 pub returns-then-awaits-clause-exact : goal.returns-then-awaits-clause-exact
 returns-then-awaits-clause-exact g c =
     let m = c.args.response.now in
     let got = (goal.at.returns-then-awaits-clause-exact g c).After-exchange in
-    rw (← c.self.view_is) (sym (awaits-one c.self.inside.salt c.args.source m c.in_ok-number.number c.self.inside.under_way.exchanges c.in_ok-number.ensures.small (token g got) c.exchange.ensures.sound (few g got) c.in_ok-exchange.exchange.now (sym c.in_ok-exchange.ensures.exact) true c.if-awaits.ensures))
+    rw (← c.self.view_is) (sym (awaits-one c.self.inside.setting.salt c.args.source m c.in_ok-number.number c.self.inside.under_way.exchanges c.in_ok-number.ensures.small (token g got) c.exchange.ensures.sound (few g got) c.in_ok-exchange.exchange.now (sym c.in_ok-exchange.ensures.exact) true c.if-awaits.ensures))
 
 pub returns-else-awaits-clause-exact : goal.returns-else-awaits-clause-exact
 returns-else-awaits-clause-exact g c =
     let m = c.args.response.now in
     let got = (goal.at.returns-else-awaits-clause-exact g c).After-exchange in
-    rw (← c.self.view_is) (sym (awaits-one c.self.inside.salt c.args.source m c.in_ok-number.number c.self.inside.under_way.exchanges c.in_ok-number.ensures.small (token g got) c.exchange.ensures.sound (few g got) c.in_ok-exchange.exchange.now (sym c.in_ok-exchange.ensures.exact) false c.if-awaits.ensures))
+    rw (← c.self.view_is) (sym (awaits-one c.self.inside.setting.salt c.args.source m c.in_ok-number.number c.self.inside.under_way.exchanges c.in_ok-number.ensures.small (token g got) c.exchange.ensures.sound (few g got) c.in_ok-exchange.exchange.now (sym c.in_ok-exchange.ensures.exact) false c.if-awaits.ensures))
 
 pub returns-then-awaits-clause-open : goal.returns-then-awaits-clause-open
 returns-then-awaits-clause-open g c =

@@ -21,7 +21,7 @@ take_id-requires g c =
     let same : c.requires.waits.waiter ≡ v = same_Some _ _ (sym c.requires.waits.found ∙ found) in
     let state : v.state ≡ Waiting c.args.exchange = subst (λ (u : Waiter). u.state ≡ Waiting c.args.exchange) same c.requires.waits.waits in
     let waits : is_waiting v ≡ true = rw state refl in
-    subst (λ (w : State). 0 < left_of c.args.now w.ids) (sym c.in_ok-record_delivery.ensures.ok) (id-for-waiting c.args.self.now c.args.now c.args.number v c.requires.ready.can c.requires.ready.onward found waits)
+    subst (λ (w : State). 0 < left_of c.args.timing.now w.ids) (sym c.in_ok-record_delivery.ensures.ok) (id-for-waiting c.args.self.now c.args.timing.now c.args.number v c.requires.ready.can c.requires.ready.onward found waits)
 
 pub returns-in_err-record_delivery-clause-memory : goal.returns-in_err-record_delivery-clause-memory
 returns-in_err-record_delivery-clause-memory g c =
@@ -33,4 +33,4 @@ returns-in_err-record_delivery-clause-memory g c =
     let awaited : item_at c.args.exchange w.exchanges ≡ Some x = rw (← c.self.view_is) (sym c.in-Some-exchange.ensures.exact) in
     let answer : answer_at x ≡ Some a = sym c.in-Some-answer.ensures.exact in
     let con : is_con v.kind ≡ true = c.in_err-record_delivery.ensures.memory in
-    on_err c.from_residual.result (rw (found, awaited, answer) (refl, con-spelled (given_to w c.args.now v x.is_get a) c.is_short.ensures ∙ con))
+    on_err c.from_residual.result (rw (found, awaited, answer) (refl, con-spelled (given_to w c.args.timing.now v x.is_get a) c.is_short.ensures ∙ con))

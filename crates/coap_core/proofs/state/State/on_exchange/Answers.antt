@@ -13,19 +13,19 @@ found : (g : Over) (c : In-Some g) → item_at c.args.number c.args.self.now.exc
 found g c = rw (← c.self.view_is) (sym c.in-Some.ensures.exact)
 
 -- it is due
-due : (g : Over) (c : In-Some g) → IsExchangeDue c.args.self.now c.args.now c.in-Some.exchange.now
-due g c = subst (IsExchangeDue c.args.self.now c.args.now) (same_Some _ _ (sym c.requires.due.found ∙ found g c)) c.requires.due.due
+due : (g : Over) (c : In-Some g) → IsExchangeDue c.args.self.now c.args.timing.now c.in-Some.exchange.now
+due g c = subst (IsExchangeDue c.args.self.now c.args.timing.now) (same_Some _ _ (sym c.requires.due.found ∙ found g c)) c.requires.due.due
 
 pub give_up-requires-clause-open : goal.give_up-requires-clause-open
 give_up-requires-clause-open g c =
     let k = (goal.at.give_up-requires-clause-open g c).In-Some in
-    rw (found g k) (is-open c.args.self.now c.args.now c.in-Some.exchange.now (due g k))
+    rw (found g k) (is-open c.args.self.now c.args.timing.now c.in-Some.exchange.now (due g k))
 
 pub send-requires-clause-fits : goal.send-requires-clause-fits
 send-requires-clause-fits g c =
     let k = (goal.at.send-requires-clause-fits g c).In-Some in
     subst (λ (s : Step). length s.bytes ≤ c.args.out.now.room)
-    (queued-step c.args.self.now c.args.now c.args.draw c.args.number c.in-Some.exchange.now (found g k) (sym c.if-is_late.ensures) c.in-Queued.is) c.requires.fits
+    (queued-step c.args.self.now c.args.timing c.args.number c.in-Some.exchange.now (found g k) (sym c.if-is_late.ensures) c.in-Queued.is) c.requires.fits
 
 pub on_request_timeout-requires-clause-ended : goal.on_request_timeout-requires-clause-ended
 on_request_timeout-requires-clause-ended g c =
@@ -34,7 +34,7 @@ on_request_timeout-requires-clause-ended g c =
       exchange = c.in-Some.exchange.now;
       found = found g k;
       to = refl;
-      holds = has-ended c.args.self.now c.args.now c.in-Some.exchange.now (due g k) c.in-Sent.is (sym c.if-is_late.ensures);
+      holds = has-ended c.args.self.now c.args.timing.now c.in-Some.exchange.now (due g k) c.in-Sent.is (sym c.if-is_late.ensures);
     }
 
 pub send-requires-clause-queued : goal.send-requires-clause-queued
@@ -51,16 +51,16 @@ pub on_request_timeout-requires-clause-fits : goal.on_request_timeout-requires-c
 on_request_timeout-requires-clause-fits g c =
     let k = (goal.at.on_request_timeout-requires-clause-fits g c).In-Some in
     subst (λ (s : Step). length s.bytes ≤ c.args.out.now.room)
-    (sent-step c.args.self.now c.args.now c.args.draw c.args.number c.in-Some.exchange.now (found g k) (sym c.if-is_late.ensures) c.in-Sent.is) c.requires.fits
+    (sent-step c.args.self.now c.args.timing c.args.number c.in-Some.exchange.now (found g k) (sym c.if-is_late.ensures) c.in-Sent.is) c.requires.fits
 
 pub returns-in-Queued : goal.returns-in-Queued
 returns-in-Queued g c =
     let k = (goal.at.returns-in-Queued g c).In-Some in
     subst (λ (s : Step). Does s c.send.result c.args.out.now c.send.new.out c.send.new.self)
-    (sym (queued-step c.args.self.now c.args.now c.args.draw c.args.number c.in-Some.exchange.now (found g k) (sym c.if-is_late.ensures) c.in-Queued.is)) c.send.ensures
+    (sym (queued-step c.args.self.now c.args.timing c.args.number c.in-Some.exchange.now (found g k) (sym c.if-is_late.ensures) c.in-Queued.is)) c.send.ensures
 
 pub returns-in-Sent : goal.returns-in-Sent
 returns-in-Sent g c =
     let k = (goal.at.returns-in-Sent g c).In-Some in
     subst (λ (s : Step). Does s c.on_request_timeout.result c.args.out.now c.on_request_timeout.new.out c.on_request_timeout.new.self)
-    (sym (sent-step c.args.self.now c.args.now c.args.draw c.args.number c.in-Some.exchange.now (found g k) (sym c.if-is_late.ensures) c.in-Sent.is)) c.on_request_timeout.ensures
+    (sym (sent-step c.args.self.now c.args.timing c.args.number c.in-Some.exchange.now (found g k) (sym c.if-is_late.ensures) c.in-Sent.is)) c.on_request_timeout.ensures

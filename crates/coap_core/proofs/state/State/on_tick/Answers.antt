@@ -1,9 +1,8 @@
 use Rattle.std.proofs.Common.{rules, ◌≡◌, ◌≤◌, Some, length, IfOk, OnErr, sym, subst, ◌∙◌}
-use Rattle.coap_exchange.specs.Table.{item_at}
 use Rattle.coap_model.specs.declared.due.DueItem.TheVariants.{OfExchange, OfWaiter}
 use Rattle.coap_model.specs.State.{Step}
-use Rattle.coap_model.specs.Ticks.{item_due, on_tick, on_waiter}
-use Rattle.coap_core.specs.Steps.{Does, GivesConfirmable}
+use Rattle.coap_model.specs.Ticks.{item_due, on_tick}
+use Rattle.coap_core.specs.Steps.{Does, GivesConfirmable, waiter_at}
 use Rattle.coap_core.proofs.Ticking.{client-due-at, due-at, of-exchange, of-waiter}
 use Rattle.coap_core.proofs.state.State.on_tick.Given.{Over}
 use Rattle.coap_core.proofs.state.State.on_tick.Goals.{In-Some-OfExchange, In-Some-OfWaiter}
@@ -24,20 +23,20 @@ waiter g c =
 pub on_exchange-requires-clause-due : goal.on_exchange-requires-clause-due
 on_exchange-requires-clause-due g c =
     let k = (goal.at.on_exchange-requires-clause-due g c).In-Some-OfExchange in
-    due-at c.args.self.now c.args.now c.in-Some-OfExchange.at c.in-Some-OfExchange.number c.requires.ready.can.exchanges (exchange g k) c.if-at-now.true
+    due-at c.args.self.now c.args.timing.now c.in-Some-OfExchange.at c.in-Some-OfExchange.number c.requires.ready.can.exchanges (exchange g k) c.if-at-timing.true
 
 pub on_exchange-requires-clause-fits : goal.on_exchange-requires-clause-fits
 on_exchange-requires-clause-fits g c =
     let k = (goal.at.on_exchange-requires-clause-fits g c).In-Some-OfExchange in
     subst (λ (s : Step). length s.bytes ≤ c.args.out.now.room)
-    (of-exchange c.args.self.now c.args.now c.args.draw c.in-Some-OfExchange.at c.in-Some-OfExchange.number (exchange g k) c.if-at-now.true) c.requires.fits
+    (of-exchange c.args.self.now c.args.timing c.in-Some-OfExchange.at c.in-Some-OfExchange.number (exchange g k) c.if-at-timing.true) c.requires.fits
 
 pub returns-in-Some-OfExchange-clause-done : goal.returns-in-Some-OfExchange-clause-done
 returns-in-Some-OfExchange-clause-done g c =
     let k = (goal.at.returns-in-Some-OfExchange-clause-done g c).In-Some-OfExchange in
     record {
       exact = subst (λ (s : Step). Does s c.on_exchange.result c.args.out.now c.on_exchange.new.out c.on_exchange.new.self)
-          (sym (of-exchange c.args.self.now c.args.now c.args.draw c.in-Some-OfExchange.at c.in-Some-OfExchange.number (exchange g k) c.if-at-now.true)) c.on_exchange.ensures;
+          (sym (of-exchange c.args.self.now c.args.timing c.in-Some-OfExchange.at c.in-Some-OfExchange.number (exchange g k) c.if-at-timing.true)) c.on_exchange.ensures;
       err = search rules;
       kept = search rules;
     }
@@ -46,23 +45,23 @@ pub on_waiter-requires-clause-fits : goal.on_waiter-requires-clause-fits
 on_waiter-requires-clause-fits g c =
     let k = (goal.at.on_waiter-requires-clause-fits g c).In-Some-OfWaiter in
     subst (λ (s : Step). length s.bytes ≤ c.args.out.now.room)
-    (of-waiter c.args.self.now c.args.now c.args.draw c.in-Some-OfWaiter.at c.in-Some-OfWaiter.number (waiter g k) c.if-at-now-2.true) c.requires.fits
+    (of-waiter c.args.self.now c.args.timing c.in-Some-OfWaiter.at c.in-Some-OfWaiter.number (waiter g k) c.if-at-timing-2.true) c.requires.fits
 
 -- the step is that of the client
-step : (g : Over) (c : In-Some-OfWaiter g) → c.in-Some-OfWaiter.at ≤ c.args.now → on_waiter c.args.self.now c.args.now c.args.draw c.in-Some-OfWaiter.number (item_at c.in-Some-OfWaiter.number c.args.self.now.waiters) ≡ on_tick c.args.self.now c.args.now c.args.draw
-step g c due = sym (of-waiter c.args.self.now c.args.now c.args.draw c.in-Some-OfWaiter.at c.in-Some-OfWaiter.number (waiter g c) due)
+step : (g : Over) (c : In-Some-OfWaiter g) → c.in-Some-OfWaiter.at ≤ c.args.timing.now → waiter_at c.args.self.now c.args.timing c.in-Some-OfWaiter.number ≡ on_tick c.args.self.now c.args.timing.now c.args.timing.draw
+step g c due = sym (of-waiter c.args.self.now c.args.timing c.in-Some-OfWaiter.at c.in-Some-OfWaiter.number (waiter g c) due)
 
 pub on_waiter-requires-clause-due : goal.on_waiter-requires-clause-due
 on_waiter-requires-clause-due g c =
     let k = (goal.at.on_waiter-requires-clause-due g c).In-Some-OfWaiter in
-    client-due-at c.args.self.now c.args.now c.in-Some-OfWaiter.at c.in-Some-OfWaiter.number c.requires.ready.can.waiters (waiter g k) c.if-at-now-2.true
+    client-due-at c.args.self.now c.args.timing.now c.in-Some-OfWaiter.at c.in-Some-OfWaiter.number c.requires.ready.can.waiters (waiter g k) c.if-at-timing-2.true
 
 pub returns-in-Some-OfWaiter-clause-done : goal.returns-in-Some-OfWaiter-clause-done
 returns-in-Some-OfWaiter-clause-done g c =
     let k = (goal.at.returns-in-Some-OfWaiter-clause-done g c).In-Some-OfWaiter in
     record {
       exact = subst (λ (s : Step). IfOk c.on_waiter.result (λ report. Does s report c.args.out.now c.on_waiter.new.out c.on_waiter.new.self))
-          (step g k c.if-at-now-2.true) c.on_waiter.ensures.done.exact;
+          (step g k c.if-at-timing-2.true) c.on_waiter.ensures.done.exact;
       err = search rules;
       kept = search rules;
     }
@@ -70,4 +69,4 @@ returns-in-Some-OfWaiter-clause-done g c =
 pub returns-in-Some-OfWaiter-clause-memory : goal.returns-in-Some-OfWaiter-clause-memory
 returns-in-Some-OfWaiter-clause-memory g c =
     let k = (goal.at.returns-in-Some-OfWaiter-clause-memory g c).In-Some-OfWaiter in
-    subst (λ (s : Step). OnErr c.on_waiter.result (GivesConfirmable s)) (step g k c.if-at-now-2.true) c.on_waiter.ensures.memory
+    subst (λ (s : Step). OnErr c.on_waiter.result (GivesConfirmable s)) (step g k c.if-at-timing-2.true) c.on_waiter.ensures.memory

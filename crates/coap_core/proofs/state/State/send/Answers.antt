@@ -17,7 +17,7 @@ take_id-id-requires g c =
     let x = c.requires.queued.exchange in
     let found = c.requires.queued.found in
     let queued = c.requires.queued.holds in
-    id-for-queued c.args.self.now c.args.now c.args.due.number x c.requires.ready.can c.requires.ready.onward found queued
+    id-for-queued c.args.self.now c.args.timing.now c.args.due.number x c.requires.ready.can c.requires.ready.onward found queued
 
 pub put_form-requires : goal.put_form-requires
 put_form-requires g c =
@@ -26,7 +26,7 @@ put_form-requires g c =
     let found = c.requires.queued.found in
     let items : c.self-2.inside.under_way.exchanges.items ≡ w.exchanges = ap (λ (v : State). v.exchanges) (c.self-2.view_is ∙ c.take_id-id.ensures.given) in
     let s : Sending = record { asked = c.self.inside.events; id = c.take_id-id.result; timer = c.start-timer.result } in
-    let form : form_at c.args.due.number (changed_at c.args.due.number (sent s) w.exchanges) ≡ (sending_at w c.args.now c.args.draw c.args.due.number).bytes = sent-form w c.args.now c.args.draw c.args.due.number s x found c.take_id-id.ensures.id in
+    let form : form_at c.args.due.number (changed_at c.args.due.number (sent s) w.exchanges) ≡ (sending_at w c.args.timing c.args.due.number).bytes = sent-form w c.args.timing c.args.due.number s x found c.take_id-id.ensures.id in
     rw (c.send.ensures.sent, items) (subst (λ (b : List ℕ). length b ≤ c.args.out.now.room) (sym form) c.requires.fits)
 
 pub returns : goal.returns
@@ -38,10 +38,10 @@ returns g c =
     let items : c.self-2.inside.under_way.exchanges.items ≡ w.exchanges = ap (λ (v : State). v.exchanges) (c.self-2.view_is ∙ c.take_id-id.ensures.given) in
     let s : Sending = record { asked = c.self.inside.events; id = c.take_id-id.result; timer = c.start-timer.result } in
     let asked : c.self.inside.events ≡ w.events = ap (λ (v : State). v.events) c.self.view_is in
-    let is : s ≡ record { asked = w.events; id = next_id w; timer = started c.args.now c.args.draw } = λ i. record { asked = asked i; id = c.take_id-id.ensures.id i; timer = c.start-timer.ensures.exact i } in
-    let form : form_at c.args.due.number (changed_at c.args.due.number (sent s) w.exchanges) ≡ (sending_at w c.args.now c.args.draw c.args.due.number).bytes = sent-form w c.args.now c.args.draw c.args.due.number s x found c.take_id-id.ensures.id in
+    let is : s ≡ record { asked = w.events; id = next_id w; timer = started c.args.timing.now c.args.timing.draw } = λ i. record { asked = asked i; id = c.take_id-id.ensures.id i; timer = c.start-timer.ensures.exact i } in
+    let form : form_at c.args.due.number (changed_at c.args.due.number (sent s) w.exchanges) ≡ (sending_at w c.args.timing c.args.due.number).bytes = sent-form w c.args.timing c.args.due.number s x found c.take_id-id.ensures.id in
     let put : c.put_form.new.out ≡ holding c.args.out.now (form_at c.args.due.number (changed_at c.args.due.number (sent s) w.exchanges)) = rw (c.send.ensures.sent, items) at c.put_form.ensures in
-    let after : c.advance.new.self ≡ later (record v { exchanges = changed_at c.args.due.number (sent s) v.exchanges }) c.args.now = rw (← c.self-2.view_is) (rw c.send.ensures.sent at c.advance.ensures) in
-    let state : c.advance.new.self ≡ (sends w c.args.now c.args.draw c.args.due.number x).state = after ∙ sent-state w v c.args.now c.args.draw c.args.due.number s x found c.take_id-id.ensures.given is in
-    let bytes : c.put_form.new.out ≡ holding c.args.out.now (sending_at w c.args.now c.args.draw c.args.due.number).bytes = put ∙ ap (λ (b : List ℕ). holding c.args.out.now b) form in
+    let after : c.advance.new.self ≡ later (record v { exchanges = changed_at c.args.due.number (sent s) v.exchanges }) c.args.timing.now = rw (← c.self-2.view_is) (rw c.send.ensures.sent at c.advance.ensures) in
+    let state : c.advance.new.self ≡ (sends w c.args.timing.now c.args.timing.draw c.args.due.number x).state = after ∙ sent-state w v c.args.timing.now c.args.timing.draw c.args.due.number s x found c.take_id-id.ensures.given is in
+    let bytes : c.put_form.new.out ≡ holding c.args.out.now (sending_at w c.args.timing c.args.due.number).bytes = put ∙ ap (λ (b : List ℕ). holding c.args.out.now b) form in
     rw found ((λ i. record { send = Some (c.requires.queued.to i); outcome = SentRequest }), rw found at bytes, state)

@@ -1,0 +1,10 @@
+//! When a step is taken, and what is drawn for it.
+
+/// The moment of a step, and its draw.
+#[derive(Clone, Copy)]
+pub(crate) struct Timing {
+    /// The moment, in milliseconds.
+    pub(crate) now: u64,
+    /// A random number of milliseconds, added to the first timeout of what is sent.
+    pub(crate) draw: u16,
+}
