@@ -1,6 +1,6 @@
 -- The exchange that awaits a response, found by the number that its token says.
 use Rattle.std.proofs.Common.{◌≡◌, ◌≢◌, ℕ, ◌^◌, ◌<◌, ◌≤◌, Bool, true, false, cond, eqb, List, [], ◌∷◌, length, Option, Some, None, refl, sym, ap, ◌∙◌, subst, arith}
-use Rattle.std.specs.Prelude.{◌&&◌, ◌||◌, not, option_map, if◌then◌else◌}
+use Rattle.std.specs.Prelude.{◌&&◌, ◌||◌, not, option_map, is_some, if◌then◌else◌}
 use Rattle.std.specs.List.{AllByRecursion, find}
 use Rattle.std.proofs.lemmas.Bool.{eqb-true, eqb-false}
 use Rattle.std.proofs.lemmas.Option.{same_Some}
@@ -13,7 +13,7 @@ use Rattle.coap_exchange.specs.declared.exchange.Exchange.{Exchange}
 use Rattle.coap_exchange.specs.declared.exchange.ExchangeState.{ExchangeState}
 use Rattle.coap_exchange.specs.declared.exchange.ExchangeState.TheVariants.{Queued, Sent, Acked, Done}
 use Rattle.coap_exchange.specs.Exchanges.{answer_in_state, is_missing, is_done, is_sent, is_sent_state, is_acked_state}
-use Rattle.coap_exchange.specs.Table.{Numbered, Table, IsRising, IsTable, item_at}
+use Rattle.coap_exchange.specs.Table.{Numbered, Table, IsRising, IsTable, first_that, item_at}
 use Rattle.coap_forward.specs.Messages.{token_of}
 use Rattle.coap_model.specs.State.{State}
 use Rattle.coap_model.specs.Responses.{is_in_flight, has_id, awaits, awaiting}
@@ -166,10 +166,12 @@ awaited w source m number Q rising e each = go (awaiting w source m) refl e
         let found = found-at (awaits w.setting.salt source m) 0 w.exchanges x rising is in
         subst (λ (n : ℕ). Q (Some (n, x.1))) same (each x.1 (rw same found))
 
--- none awaits it where no number is found
-pub unawaited : (w : State) (source : Endpoint) (m : Message) → None ≡ option_map {T = Numbered Exchange} (λ x. x.0) (awaiting w source m) → awaiting w source m ≡ None
-unawaited w source m e = go (awaiting w source m) e
+-- there is an exchange of a number that is found
+pub first-there : (test : Exchange → Bool) (xs : List (Numbered Exchange)) (number : ℕ) → IsRising 0 xs → Some number ≡ first_that test xs → is_some (item_at number xs) ≡ true
+first-there test xs number rising e = go (find (λ (x : Numbered Exchange). test x.1) xs) refl e
   where
-    go : (o : Option (Numbered Exchange)) → None ≡ option_map {T = Numbered Exchange} (λ x. x.0) o → o ≡ None
-    go None f = refl
-    go (Some x) f = absurd cc
+    go : (o : Option (Numbered Exchange)) → find (λ (x : Numbered Exchange). test x.1) xs ≡ o → Some number ≡ option_map {T = Numbered Exchange} (λ x. x.0) o → is_some (item_at number xs) ≡ true
+    go None is f = absurd cc
+    go (Some x) is f =
+        let same : number ≡ x.0 = cc in
+        rw (same, found-at (λ (y : Numbered Exchange). test y.1) 0 xs x rising is) refl

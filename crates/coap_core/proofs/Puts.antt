@@ -60,17 +60,21 @@ still-open t x e = go (is_changed_with t x)
     go true = e
     go false = e
 
-open-tainted : (number : ℕ) (t : Target) (xs : List (Numbered Exchange)) → IsOpenAt number xs → IsOpenAt number (all_changed (tainted_by t) xs)
+-- no answer has come for the exchange of this number, if there is one
+abbrev IsNotDone : ℕ → List (Numbered Exchange) → Type 0
+IsNotDone number xs = IfSome (item_at number xs) (λ x. is_done x ≡ false)
+
+open-tainted : (number : ℕ) (t : Target) (xs : List (Numbered Exchange)) → IsNotDone number xs → IsNotDone number (all_changed (tainted_by t) xs)
 open-tainted number t [] e = e
 open-tainted number t (x ∷ xs) e = go (eqb number x.0) e (open-tainted number t xs)
   where
-    go : (b : Bool) → IfSome (cond b (Some x.1) (item_at number xs)) (λ y. is_done y ≡ false) → (IsOpenAt number xs → IsOpenAt number (all_changed (tainted_by t) xs))
+    go : (b : Bool) → IfSome (cond b (Some x.1) (item_at number xs)) (λ y. is_done y ≡ false) → (IsNotDone number xs → IsNotDone number (all_changed (tainted_by t) xs))
         → IfSome (cond b (Some (tainted_by t x.1)) (item_at number (all_changed (tainted_by t) xs))) (λ y. is_done y ≡ false)
     go true f rest = still-open t x.1 f
     go false f rest = rest f
 
 -- so the exchange of a number is open where it was, whatever is changed
-pub open-changed : (number : ℕ) (changed : List Target) (xs : List (Numbered Exchange)) → IsOpenAt number xs → IsOpenAt number (tainted_all changed xs)
+open-changed : (number : ℕ) (changed : List Target) (xs : List (Numbered Exchange)) → IsNotDone number xs → IsNotDone number (tainted_all changed xs)
 open-changed number [] xs e = e
 open-changed number (t ∷ changed) xs e = open-changed number changed (all_changed (tainted_by t) xs) (open-tainted number t xs e)
 
@@ -196,8 +200,8 @@ module _ (w v : State) (now number : ℕ) (source : Endpoint) (m : Message) (cha
   events-taken false = refl
 
   -- the exchange that has its answer then was open
-  pub left-open : IsOpenAt number w.exchanges → IsOpenAt number v.exchanges
-  left-open was = subst (λ (xs : List (Numbered Exchange)). IsOpenAt number xs) (sym (ap (λ (u : State). u.exchanges) beside ∙ exchanges-taken (is_con m.kind))) (open-changed number changed w.exchanges was)
+  pub left-open : IsOpenAt number w.exchanges → IfSome (item_at number v.exchanges) (λ x. is_done x ≡ false)
+  left-open was = subst (IsNotDone number) (sym (ap (λ (u : State). u.exchanges) beside ∙ exchanges-taken (is_con m.kind))) (open-changed number changed w.exchanges (rw was.found was.holds))
 
   -- no event was counted yet
   pub left-events : v.events ≡ w.events

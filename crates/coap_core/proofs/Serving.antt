@@ -1,7 +1,6 @@
 -- What is done with a client that is due: it is given its answer, given it again, or given up.
-use Rattle.std.proofs.Common.{◌≡◌, ℕ, ◌+◌, ◌*◌, ◌/◌, ◌%◌, ◌<◌, ◌≤◌, Bool, true, false, cond, eqb, List, length, Some, refl, sym, ap, subst, arith}
+use Rattle.std.proofs.Common.{◌≡◌, ℕ, ◌+◌, ◌*◌, ◌/◌, ◌%◌, ◌<◌, ◌≤◌, Bool, true, false, cond, eqb, length, Some, refl, sym, ap, arith}
 use Rattle.std.proofs.lemmas.Bool.{eq-eqb}
-use Rattle.std.proofs.lemmas.Option.{same_Some}
 use Rattle.coap_message.specs.declared.kind.Kind.{Kind}
 use Rattle.coap_message.specs.declared.kind.Kind.TheVariants.{Con, Non, Ack, Rst}
 use Rattle.coap_message.specs.Kind.{kind_number, kind_of}
@@ -14,30 +13,12 @@ use Rattle.coap_exchange.specs.declared.waiter.WaiterState.{WaiterState}
 use Rattle.coap_exchange.specs.declared.waiter.WaiterState.TheVariants.{Waiting, Delivering}
 use Rattle.coap_exchange.specs.Table.{item_at}
 use Rattle.coap_exchange.specs.Timers.{goes_on, sent_again}
-use Rattle.coap_exchange.specs.Waiters.{IsDue, due_in, fire_of_state, fired_state, fired_waiter}
+use Rattle.coap_exchange.specs.Waiters.{HasEnded, IsDue, fire_of_state, fired_state, fired_waiter, is_waiting_state}
 use Rattle.coap_forward.specs.Messages.{is_con}
 use Rattle.coap_model.specs.History.{is_con_datagram}
 use Rattle.coap_model.specs.Ticks.{abandons, redelivers, on_delivery_timeout}
 use Rattle.coap_model.specs.State.{State}
-use Rattle.coap_core.specs.Steps.{IsClientDue, answer_in_state, delivery_at, unheard, unheard_at, waiter_at}
-use Rattle.coap_core.specs.declared.timing.Timing.{Timing}
-
--- ---- how far a client was served
-
-module _ (w : State) (t : Timing) (number : ℕ) (v : Waiter) (found : item_at number w.waiters ≡ Some v) where
-  -- one that waits is given the answer of its exchange
-  pub waiting-step : (exchange : ℕ) → v.state ≡ Waiting exchange → waiter_at w t number ≡ delivery_at w t number exchange
-  waiting-step exchange state = rw (found, state) refl
-
-  -- the timeout has ended of one that was given it
-  pub unheard-step : (bytes : List ℕ) (id : ℕ) (timer : Timer) → v.state ≡ Delivering bytes id timer → waiter_at w t number ≡ unheard_at w t.now number
-  unheard-step bytes id timer state = rw (found, state) refl
-
--- that one is due where its timeout has ended
-pub has-ended : (w : State) (now : ℕ) (v : Waiter) (bytes : List ℕ) (id : ℕ) (timer : Timer) → IsClientDue w now v → v.state ≡ Delivering bytes id timer → IsDue now v
-has-ended w now v bytes id timer due state =
-    let at : Some timer.due ≡ Some due.at = subst (λ (s : WaiterState). due_in s w.exchanges ≡ Some due.at) state due.due in
-    rw state (let same = same_Some timer.due due.at at in let past = due.past in omega arith)
+use Rattle.coap_core.specs.Steps.{answer_in_state, unheard, unheard_at}
 
 -- ---- what is done where the timeout has ended
 
@@ -62,6 +43,11 @@ module _ (w : State) (now number : ℕ) (v : Waiter) (found : item_at number w.w
 pub fired-answer : (now : ℕ) (s : WaiterState) → answer_in_state (fired_state now s) ≡ answer_in_state s
 fired-answer now (Waiting exchange) = refl
 fired-answer now (Delivering bytes id timer) = refl
+
+-- and the client still doesn't wait
+pub fired-told : (now : ℕ) (s : WaiterState) → HasEnded now s → is_waiting_state (fired_state now s) ≡ false
+fired-told now (Waiting exchange) ended = absurd ended
+fired-told now (Delivering bytes id timer) ended = refl
 
 -- one that doesn't go on leaves the client as it is
 pub fired-same : (now : ℕ) (v : Waiter) → GiveUp ≡ fire_of_state now v.state → fired_waiter now v ≡ v

@@ -8,14 +8,13 @@ use Rattle.coap_exchange.specs.declared.exchange.Exchange.{Exchange}
 use Rattle.coap_exchange.specs.declared.exchange.ExchangeState.{ExchangeState}
 use Rattle.coap_exchange.specs.declared.exchange.ExchangeState.TheVariants.{Queued, Sent, Acked, Done}
 use Rattle.coap_exchange.specs.declared.exchange.Sending.{Sending}
-use Rattle.coap_store.specs.declared.answer.Answer.{Answer}
 use Rattle.coap_exchange.specs.declared.timer.Fire.TheVariants.{Again, GiveUp}
 use Rattle.coap_exchange.specs.declared.timer.Timer.{Timer}
+use Rattle.coap_exchange.specs.Due.{first_due}
 use Rattle.coap_exchange.specs.Exchanges.{sent, answer_in_state, is_missing, is_done, deadline, due_in, due_among, timer_or, is_blocked, fire_of_sending, fired_option, fired_exchange, HasEnded, IsDue}
 use Rattle.coap_exchange.specs.Ids.{called}
 use Rattle.coap_exchange.specs.Table.{Numbered, IsRising, item_at, changed_at}
 use Rattle.coap_exchange.specs.Timers.{started, goes_on, sent_again}
-use Rattle.coap_exchange.specs.declared.waiter.Waiter.{Waiter}
 use Rattle.coap_exchange.specs.Waiters.{due_after}
 use Rattle.coap_exchange.proofs.Changes.{changed_at-below}
 use Rattle.coap_model.specs.declared.due.DueItem.{DueItem}
@@ -23,7 +22,7 @@ use Rattle.coap_model.specs.declared.due.DueItem.TheVariants.{OfExchange, OfWait
 use Rattle.coap_model.specs.State.{State, later, next_id}
 use Rattle.coap_model.specs.Ticks.{exchange_due, waiter_due, first_item, item_due, if_due, sends, resends, gives_up, on_request_timeout, on_item, on_tick}
 use Rattle.coap_model.proofs.FirstDue.{first_due-holds}
-use Rattle.coap_core.specs.Steps.{IsExchangeDue, IsDueAt, exchange_at, waiter_at, sending_at, firing_at, form_at, IsClientDueAt}
+use Rattle.coap_core.specs.Steps.{HasCome, IsClientDue, IsExchangeDue, IsFound, exchange_at, waiter_at, sending_at, firing_at, form_at}
 use Rattle.coap_core.specs.declared.timing.Timing.{Timing}
 
 -- ---- items of a table
@@ -117,23 +116,23 @@ module _ (w : State) (t : Timing) where
       let due : leb at t.now ≡ true = le-leb _ _ le in
       ap (λ (o : Option DueItem). on_item w t.now t.draw (if_due t.now o)) (sym e) ∙ rw due refl
 
--- the exchange that is due first is due
-pub due-at : (w : State) (now at number : ℕ) → IsRising 0 w.exchanges → Some (OfExchange at number) ≡ item_due w → at ≤ now → IsDueAt w now number
-due-at w now at number rising e le =
-    let first : exchange_due w ≡ Some (at, number) = exchange-first (exchange_due w) (waiter_due w) at number (sym e) in
-    let found = first_due-holds (λ (x : Numbered Exchange). item_at x.0 w.exchanges ≡ Some x.1) (due_among w.setting.limits.nstart w.setting.limits.exchange_ms w.exchanges) w.exchanges (at, number) (items-found 0 w.exchanges rising) first in
-    let x = found.0.1 in
-    let here : item_at number w.exchanges ≡ Some x = subst (λ (n : ℕ). item_at n w.exchanges ≡ Some x) found.2 found.1 in
-    record { exchange = x; found = here; due = record { at = at; due = found.3; past = le } }
+-- the item of a table that is due first is due
+first-due-at : {A : Type 0} (due : A → Option ℕ) (items : List (Numbered A)) (now at number : ℕ) → IsRising 0 items → first_due due items ≡ Some (at, number) → at ≤ now → IsFound (λ (a : A). HasCome (due a) now) number items
+first-due-at {A} due items now at number rising first le =
+    let found = first_due-holds (λ (x : Numbered A). item_at x.0 items ≡ Some x.1) due items (at, number) (items-found 0 items rising) first in
+    let a = found.0.1 in
+    let here : item_at number items ≡ Some a = subst (λ (n : ℕ). item_at n items ≡ Some a) found.2 found.1 in
+    record { item = a; found = here; holds = record { at = at; due = found.3; past = le } }
 
--- so is the client that is due first
-pub client-due-at : (w : State) (now at number : ℕ) → IsRising 0 w.waiters → Some (OfWaiter at number) ≡ item_due w → at ≤ now → IsClientDueAt w now number
+-- so is the exchange that is due first
+pub due-at : (w : State) (now at number : ℕ) → IsRising 0 w.exchanges → Some (OfExchange at number) ≡ item_due w → at ≤ now → IsFound (λ x. IsExchangeDue w now x) number w.exchanges
+due-at w now at number rising e le =
+    first-due-at (due_among w.setting.limits.nstart w.setting.limits.exchange_ms w.exchanges) w.exchanges now at number rising (exchange-first (exchange_due w) (waiter_due w) at number (sym e)) le
+
+-- and the client
+pub client-due-at : (w : State) (now at number : ℕ) → IsRising 0 w.waiters → Some (OfWaiter at number) ≡ item_due w → at ≤ now → IsFound (λ v. IsClientDue w now v) number w.waiters
 client-due-at w now at number rising e le =
-    let first : waiter_due w ≡ Some (at, number) = waiter-first (exchange_due w) (waiter_due w) at number (sym e) in
-    let found = first_due-holds (λ (v : Numbered Waiter). item_at v.0 w.waiters ≡ Some v.1) (due_after w.exchanges) w.waiters (at, number) (items-found 0 w.waiters rising) first in
-    let v = found.0.1 in
-    let here : item_at number w.waiters ≡ Some v = subst (λ (n : ℕ). item_at n w.waiters ≡ Some v) found.2 found.1 in
-    record { waiter = v; found = here; due = record { at = at; due = found.3; past = le } }
+    first-due-at (due_after w.exchanges) w.waiters now at number rising (waiter-first (exchange_due w) (waiter_due w) at number (sym e)) le
 
 -- ---- an exchange that is due
 
@@ -160,17 +159,6 @@ module _ (w : State) (now : ℕ) (x : Exchange) (due : IsExchangeDue w now x) wh
       go Sent e = refl
       go Acked e = refl
       go (Done a) e = absurd cc
-
-  -- where it was acknowledged or answered, its deadline has come
-  pub not-acked : x.state ≡ Acked → nat_le (deadline ms x) now ≡ false → ⊥
-  not-acked acked early =
-      let moment : deadline ms x ≡ due.at = same_Some _ _ (subst (λ (s : ExchangeState). due_in s (is_blocked w.setting.limits.nstart w.exchanges x) ms x ≡ Some due.at) acked due.due) in
-      let p = leb-false _ _ early in
-      let q = due.past in
-      omega arith
-
-  pub not-done : (a : Answer) → x.state ≡ Done a → ⊥
-  not-done a done = let e : not (is_missing (answer_in_state (Done a))) ≡ false = subst (λ (s : ExchangeState). not (is_missing (answer_in_state s)) ≡ false) done is-open in absurd cc
 
   -- where it was sent, and its deadline hasn't come, the timeout has ended
   pub has-ended : x.state ≡ Sent → nat_le (deadline ms x) now ≡ false → IsDue now x

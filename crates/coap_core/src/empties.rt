@@ -1,6 +1,6 @@
 //! The step of an Empty message: an acknowledgement or a Reset of a request that was sent, or of an
 //! answer (RFC 7252, 4.2 and 4.3).
-ghost use Rattle.std.specs.Prelude.{◌≡◌, true};
+ghost use Rattle.std.specs.Prelude.{◌≡◌, true, is_some};
 ghost use Rattle.coap_exchange.specs.Table.{item_at};
 ghost use Rattle.coap_forward.specs.Messages.{is_bare, is_rst};
 ghost use Rattle.coap_model.specs.Empties.{acknowledges, closes, on_client, on_exchange, on_empty};
@@ -36,13 +36,14 @@ impl<S: Store + Drop> State<S> {
     fn on_sent(&mut self, arrival: Arrival<'_, '_>, number: u64, out: &mut Datagram) -> Report
         requires can { CanGoOn self.old }
         requires bare { is_bare arrival.message.now ≡ true }
+        requires there { is_some (item_at number self.old.exchanges) ≡ true }
         ensures { Does
             (of_grown (on_exchange self.old) arrival.entry (grown_of result.outcome) number
             (item_at number self.old.exchanges))
             result out.old out.new self.new }
     {
         let Some(exchange) = self.under_way.exchange(number) else {
-            return self.on_client(arrival, out);
+            unreachable!()
         };
         if !exchange.is_sent() {
             return self.on_client(arrival, out);

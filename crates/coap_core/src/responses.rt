@@ -241,7 +241,7 @@ impl<S: Store + Drop> State<S> {
     {
         self.is_wide();
         let Some(exchange) = self.under_way.exchange(number) else {
-            return Ok(self.ignore(arrival.now, out));
+            unreachable!()
         };
         let answer = self.answer_made(arrival.now, exchange, arrival.message)?;
         let entry = self.entry_made(arrival.now, exchange, &answer)?;

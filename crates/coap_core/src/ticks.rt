@@ -1,19 +1,19 @@
 //! The step of a tick: what is due is done, one item at a time (RFC 7252, 4.2 and 4.7).
-ghost use Rattle.std.specs.Prelude.{◌≡◌, ◌≤◌, ◌<◌, ◌^◌, true, false, nat_le, length, option_map, IfOk, IfSome, OnOk, OnErr};
+ghost use Rattle.std.specs.Prelude.{◌≡◌, ◌≤◌, ◌<◌, ◌^◌, true, false, nat_le, length, is_some, option_map, IfOk, IfSome, OnOk, OnErr};
 ghost use Rattle.coap_exchange.specs.Exchanges.{deadline, is_done, is_queued, IsDue};
 ghost use Rattle.coap_exchange.specs.Table.{item_at};
-ghost use Rattle.coap_exchange.specs.declared.waiter.WaiterState.TheVariants.{Waiting};
 ghost use Rattle.coap_message.specs.Datagram.{holding};
 ghost use Rattle.coap_forward.specs.Messages.{is_con};
+ghost use Rattle.coap_model.specs.History.{is_con_datagram};
 ghost use Rattle.coap_model.specs.Ticks.{abandons, item_due, moment_of, gives_up, idles, on_tick, without_idle};
 ghost use Rattle.coap_exchange.specs.Waiters as waiters;
 ghost use Rattle.coap_exchange.specs.Waiters.{is_waiting};
-ghost use Rattle.coap_core.specs.Steps.{Does, IsDone, CanGoOn, CanStep, GivesConfirmable, IsClientDueAt, IsClientFoundAs, IsDueAt, IsFoundAs, IsReadyAt, answer_at, delivery_at, exchange_at, firing_at, form_at, sending_at, told_in, unheard_at, waiter_at};
+ghost use Rattle.coap_core.specs.Steps.{Does, IsDone, CanGoOn, CanStep, GivesConfirmable, HasAnswer, IsClientDue, IsExchangeDue, IsFound, IsServed, answer_at, delivery_at, exchange_at, firing_at, form_at, given_at, sending_at, told_in, unheard_at, waiter_at};
 
 use crate::state::{State, silent};
 use crate::timing::Timing;
 use coap_endpoint::Endpoint;
-use coap_exchange::{Exchange, ExchangeState, Fire, Sending, Timer, WaiterState};
+use coap_exchange::{Exchange, ExchangeState, Fire, Sending, Timer, Waiter, WaiterState};
 use coap_forward::{gateway_timeout, put_shown};
 use coap_message::{Datagram, Kind, OutOfMemory, Seq, Token};
 use coap_model::{DueItem, Outcome, Report};
@@ -35,18 +35,21 @@ pub(crate) fn moment_of(due: Option<DueItem>) -> Option<u64>
     }
 }
 
-/// An exchange that was found due: its number, and the endpoint that its request is for.
+/// An exchange or a client that was found due: its number, and the endpoint that is sent its
+/// request, or its answer.
 #[derive(Clone, Copy)]
-pub(crate) struct DueExchange {
+pub(crate) struct Due {
     number: u64,
     to: Endpoint,
 }
 
-/// A client that was found due, and was sent its answer: its number, and its endpoint.
+/// A client that was found due, and waits for this exchange: it is sent its answer in a message of
+/// this type.
 #[derive(Clone, Copy)]
-pub(crate) struct DueClient {
-    number: u64,
-    to: Endpoint,
+pub(crate) struct Delivery {
+    client: Due,
+    kind: Kind,
+    exchange: u64,
 }
 
 impl<S: Store + Drop> State<S> {
@@ -119,7 +122,7 @@ impl<S: Store + Drop> State<S> {
     fn on_exchange(&mut self, timing: Timing, number: u64, out: &mut Datagram) -> Report
         requires ready { CanStep timing.now self.old }
         requires draw { timing.draw ≤ 1000 }
-        requires due { IsDueAt self.old timing.now number }
+        requires due { IsFound (IsExchangeDue self.old timing.now) number self.old.exchanges }
         requires fits { length (exchange_at self.old timing number).bytes ≤ out.old.room }
         ensures { Does (exchange_at self.old timing number) result out.old out.new self.new }
     {
@@ -130,7 +133,7 @@ impl<S: Store + Drop> State<S> {
             return self.give_up(timing.now, number, out);
         }
         let to = exchange.key.target.at;
-        let due = DueExchange { number, to };
+        let due = Due { number, to };
         match &exchange.state {
             ExchangeState::Queued => self.send(timing, due, out),
             ExchangeState::Sent => self.on_request_timeout(timing.now, due, out),
@@ -146,12 +149,13 @@ impl<S: Store + Drop> State<S> {
         now.saturating_sub(exchange.admitted) >= self.setting.limits.values().exchange_ms
     }
 
-    /// Sends the request of an exchange to its origin, with a new Message ID. It is to be sent again
-    /// until it is acknowledged or answered (RFC 7252, 4.2).
-    fn send(&mut self, timing: Timing, due: DueExchange, out: &mut Datagram) -> Report
+    /// Sends the request of an exchange to its origin, with a new Message ID. It is to be sent
+    /// again until it is acknowledged or answered (RFC 7252, 4.2).
+    fn send(&mut self, timing: Timing, due: Due, out: &mut Datagram) -> Report
         requires ready { CanStep timing.now self.old }
         requires draw { timing.draw ≤ 1000 }
-        requires queued { IsFoundAs (λ x. is_queued x ≡ true) self.old due }
+        requires queued { IsFound (λ x. (is_queued x ≡ true) × (due.to ≡ x.key.target.at))
+            due.number self.old.exchanges }
         requires fits { length (sending_at self.old timing due.number).bytes ≤ out.old.room }
         ensures { Does (sending_at self.old timing due.number) result out.old out.new self.new }
     {
@@ -167,11 +171,12 @@ impl<S: Store + Drop> State<S> {
         }
     }
 
-    /// Handles the end of the current timeout of an exchange: its request is retransmitted, with the
-    /// same bytes, or abandoned (RFC 7252, 4.2).
-    fn on_request_timeout(&mut self, now: u64, due: DueExchange, out: &mut Datagram) -> Report
+    /// Handles the end of the current timeout of an exchange: its request is retransmitted, with
+    /// the same bytes, or abandoned (RFC 7252, 4.2).
+    fn on_request_timeout(&mut self, now: u64, due: Due, out: &mut Datagram) -> Report
         requires ready { CanStep now self.old }
-        requires ended { IsFoundAs (IsDue now) self.old due }
+        requires ended { IsFound (λ x. IsDue now x × (due.to ≡ x.key.target.at)) due.number
+            self.old.exchanges }
         requires fits { length (firing_at self.old now due.number).bytes ≤ out.old.room }
         ensures { Does (firing_at self.old now due.number) result out.old out.new self.new }
     {
@@ -190,13 +195,15 @@ impl<S: Store + Drop> State<S> {
 
     /// Writes the request of the exchange numbered `number`.
     fn put_form(&self, number: u64, out: &mut Datagram)
-        requires { length (form_at number self.now.exchanges) ≤ out.old.room }
+        requires there { is_some (item_at number self.now.exchanges) ≡ true }
+        requires fits { length (form_at number self.now.exchanges) ≤ out.old.room }
         ensures { out.new ≡ holding out.old (form_at number self.now.exchanges) }
     {
+        let Some(exchange) = self.under_way.exchange(number) else {
+            unreachable!()
+        };
         out.clear();
-        if let Some(exchange) = self.under_way.exchange(number) {
-            out.put(exchange.form.as_slice());
-        }
+        out.put(exchange.form.as_slice());
     }
 
     /// Answers the exchange numbered `number` with the proxy's own answer, because none came in
@@ -225,7 +232,7 @@ impl<S: Store + Drop> State<S> {
     ) -> Result<Report, OutOfMemory>
         requires ready { CanStep timing.now self.old }
         requires draw { timing.draw ≤ 1000 }
-        requires due { IsClientDueAt self.old timing.now number }
+        requires due { IsFound (IsClientDue self.old timing.now) number self.old.waiters }
         requires fits { length (waiter_at self.old timing number).bytes ≤ out.old.room }
         ensures done { IsDone (waiter_at self.old timing number)
             result out.old out.new self.old self.new }
@@ -234,86 +241,98 @@ impl<S: Store + Drop> State<S> {
         let Some(waiter) = self.under_way.waiter(number) else {
             unreachable!()
         };
+        let client = Due {
+            number,
+            to: waiter.client,
+        };
         match &waiter.state {
             WaiterState::Waiting(exchange) => {
-                let exchange = *exchange;
-                self.deliver(timing, number, exchange, out)
+                let (kind, exchange) = (waiter.kind, *exchange);
+                self.put_delivery(timing.now, waiter, exchange, out);
+                let delivery = Delivery {
+                    client,
+                    kind,
+                    exchange,
+                };
+                self.deliver(timing, delivery, out)
             }
             WaiterState::Delivering { .. } => {
-                let to = waiter.client;
-                Ok(self.on_delivery_timeout(timing.now, DueClient { number, to }, out))
+                Ok(self.on_delivery_timeout(timing.now, client, out))
             }
         }
     }
 
-    /// Sends the client numbered `number`, which is waiting for this exchange, its answer, with a
-    /// new Message ID, in a message of the type of its request. If no other client waits for the
-    /// exchange, it is closed.
-    fn deliver(
-        &mut self,
-        timing: Timing,
-        number: u64,
-        exchange: u64,
-        out: &mut Datagram,
-    ) -> Result<Report, OutOfMemory>
-        requires ready { CanStep timing.now self.old }
-        requires draw { timing.draw ≤ 1000 }
-        requires waits { IsReadyAt self.old number exchange }
-        requires fits { length (delivery_at self.old timing number exchange).bytes ≤ out.old.room }
-        ensures done { IsDone (delivery_at self.old timing number exchange)
-            result out.old out.new self.old self.new }
-        ensures memory { OnErr result
-            (GivesConfirmable (delivery_at self.old timing number exchange)) }
+    /// Writes what a client is sent for the answer of this exchange, with the next Message ID, in a
+    /// message of the type of its request.
+    fn put_delivery(&self, now: u64, waiter: &Waiter, exchange: u64, out: &mut Datagram)
+        requires answered { HasAnswer exchange self.now.exchanges }
+        requires fits { length (given_at self.now now waiter.now exchange) ≤ out.old.room }
+        ensures put { out.new ≡ holding out.old (given_at self.now now waiter.now exchange) }
+        ensures con { is_con_datagram out.new.bytes ≡ is_con waiter.now.kind }
     {
-        let Some(waiter) = self.under_way.waiter(number) else {
-            unreachable!()
-        };
         let Some(awaited) = self.under_way.exchange(exchange) else {
             unreachable!()
         };
         let Some(answer) = awaited.answer() else {
             unreachable!()
         };
-        let (client, kind, id) = (waiter.client, waiter.kind, self.next_id());
-        let (token, tags) = (&waiter.token, &waiter.tags);
-        is_short(token);
+        is_short(&waiter.token);
         let reply = Reply {
-            kind,
-            id,
-            token,
-            tags,
+            kind: waiter.kind,
+            id: self.next_id(),
+            token: &waiter.token,
+            tags: &waiter.tags,
         };
-        put_shown(timing.now, answer, awaited.is_get, reply, out);
-        self.record_delivery(timing, number, kind, out)?;
+        put_shown(now, answer, awaited.is_get, reply, out);
+    }
+
+    /// Sends a client its answer, which `out` holds, with the next Message ID. If no other client
+    /// waits for the exchange, it is closed.
+    fn deliver(
+        &mut self,
+        timing: Timing,
+        delivery: Delivery,
+        out: &Datagram,
+    ) -> Result<Report, OutOfMemory>
+        requires ready { CanStep timing.now self.old }
+        requires draw { timing.draw ≤ 1000 }
+        requires waits { IsFound (IsServed delivery) delivery.client.number self.old.waiters }
+        requires answered { HasAnswer delivery.exchange self.old.exchanges }
+        requires written { out.now.bytes ≡ (delivery_at self.old timing delivery).bytes }
+        ensures done { IsDone (delivery_at self.old timing delivery)
+            result out.now out.now self.old self.new }
+        ensures memory { OnErr result (is_con delivery.kind ≡ true) }
+    {
+        self.record_delivery(timing, delivery, out)?;
         self.take_id(timing.now);
-        self.close_if_unused(exchange);
+        self.close_if_unused(delivery.exchange);
         self.advance(timing.now);
         Ok(Report {
-            send: Some(client),
+            send: Some(delivery.client.to),
             outcome: Outcome::Delivered,
         })
     }
 
-    /// Records that the client numbered `number`, which was waiting, is sent what `out` holds, a
-    /// message of this type with the next id. A Confirmable one is kept, to be sent again until it
-    /// is acknowledged (RFC 7252, 4.2).
+    /// Records that a client is sent what `out` holds, with the next Message ID. A Confirmable
+    /// message is kept, to be sent again until it is acknowledged (RFC 7252, 4.2).
     fn record_delivery(
         &mut self,
         timing: Timing,
-        number: u64,
-        kind: Kind,
+        delivery: Delivery,
         out: &Datagram,
     ) -> Result<(), OutOfMemory>
         requires moment { timing.now ≤ 2 ^ 62 }
         requires draw { timing.draw ≤ 1000 }
-        requires waits { IfSome (item_at number self.old.waiters) (λ v. is_waiting v ≡ true) }
+        requires waits { IfSome (item_at delivery.client.number self.old.waiters)
+            (λ v. is_waiting v ≡ true) }
         ensures ok { OnOk result
             (self.new
-            ≡ record self.old { waiters = told_in self.old timing number kind out.now.bytes }) }
+            ≡ record self.old { waiters = told_in self.old timing delivery out.now.bytes }) }
         ensures err { OnErr result (self.new ≡ self.old) }
-        ensures memory { OnErr result (is_con kind ≡ true) }
+        ensures memory { OnErr result (is_con delivery.kind ≡ true) }
     {
-        match kind {
+        let number = delivery.client.number;
+        match delivery.kind {
             Kind::Con => {
                 let bytes = Seq::from_slice(self.alloc, out.bytes())?;
                 let (id, timer) = (self.next_id(), Timer::start(timing.now, timing.draw));
@@ -338,9 +357,10 @@ impl<S: Store + Drop> State<S> {
 
     /// Handles the end of the current timeout of a client that was sent its answer: the answer is
     /// retransmitted, with the same bytes, or abandoned (RFC 7252, 4.2).
-    fn on_delivery_timeout(&mut self, now: u64, due: DueClient, out: &mut Datagram) -> Report
+    fn on_delivery_timeout(&mut self, now: u64, due: Due, out: &mut Datagram) -> Report
         requires ready { CanStep now self.old }
-        requires ended { IsClientFoundAs (waiters.IsDue now) self.old due }
+        requires ended { IsFound (λ v. waiters.IsDue now v × (due.to ≡ v.client)) due.number
+            self.old.waiters }
         requires fits { length (unheard_at self.old now due.number).bytes ≤ out.old.room }
         ensures { Does (unheard_at self.old now due.number) result out.old out.new self.new }
     {
@@ -359,16 +379,18 @@ impl<S: Store + Drop> State<S> {
 
     /// Writes the answer that the client numbered `number` was sent.
     fn put_answer(&self, number: u64, out: &mut Datagram)
-        requires { length (answer_at number self.now.waiters) ≤ out.old.room }
+        requires told { IsFound (λ v. is_waiting v ≡ false) number self.now.waiters }
+        requires fits { length (answer_at number self.now.waiters) ≤ out.old.room }
         ensures { out.new ≡ holding out.old (answer_at number self.now.waiters) }
     {
-        out.clear();
         let Some(waiter) = self.under_way.waiter(number) else {
-            return;
+            unreachable!()
         };
-        if let WaiterState::Delivering { bytes, .. } = &waiter.state {
-            out.put(bytes.as_slice());
-        }
+        let WaiterState::Delivering { bytes, .. } = &waiter.state else {
+            unreachable!()
+        };
+        out.clear();
+        out.put(bytes.as_slice());
     }
 
     /// Removes the client numbered `number`, which didn't acknowledge its answer in time.

@@ -44,4 +44,8 @@ returns-else-awaits-clause-exact g c =
 pub returns-then-awaits-clause-open : goal.returns-then-awaits-clause-open
 returns-then-awaits-clause-open g c =
     let found : item_at c.in_ok-number.number c.args.self.now.exchanges ≡ Some c.in_ok-exchange.exchange.now = rw (← c.self.view_is) (sym c.in_ok-exchange.ensures.exact) in
-    rw found (open-with c.args.response.now c.in_ok-exchange.exchange.now (same_endpoint c.in_ok-exchange.exchange.now.key.target.at c.args.source) (sym c.if-awaits.ensures))
+    record {
+      item = c.in_ok-exchange.exchange.now;
+      found = found;
+      holds = open-with c.args.response.now c.in_ok-exchange.exchange.now (same_endpoint c.in_ok-exchange.exchange.now.key.target.at c.args.source) (sym c.if-awaits.ensures);
+    }

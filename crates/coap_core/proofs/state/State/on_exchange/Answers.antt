@@ -14,7 +14,7 @@ found g c = rw (← c.self.view_is) (sym c.in-Some.ensures.exact)
 
 -- it is due
 due : (g : Over) (c : In-Some g) → IsExchangeDue c.args.self.now c.args.timing.now c.in-Some.exchange.now
-due g c = subst (IsExchangeDue c.args.self.now c.args.timing.now) (same_Some _ _ (sym c.requires.due.found ∙ found g c)) c.requires.due.due
+due g c = subst (IsExchangeDue c.args.self.now c.args.timing.now) (same_Some _ _ (sym c.requires.due.found ∙ found g c)) c.requires.due.holds
 
 pub give_up-requires-clause-open : goal.give_up-requires-clause-open
 give_up-requires-clause-open g c =
@@ -31,20 +31,18 @@ pub on_request_timeout-requires-clause-ended : goal.on_request_timeout-requires-
 on_request_timeout-requires-clause-ended g c =
     let k = (goal.at.on_request_timeout-requires-clause-ended g c).In-Some in
     record {
-      exchange = c.in-Some.exchange.now;
+      item = c.in-Some.exchange.now;
       found = found g k;
-      to = refl;
-      holds = has-ended c.args.self.now c.args.timing.now c.in-Some.exchange.now (due g k) c.in-Sent.is (sym c.if-is_late.ensures);
+      holds = (has-ended c.args.self.now c.args.timing.now c.in-Some.exchange.now (due g k) c.in-Sent.is (sym c.if-is_late.ensures), refl);
     }
 
 pub send-requires-clause-queued : goal.send-requires-clause-queued
 send-requires-clause-queued g c =
     let k = (goal.at.send-requires-clause-queued g c).In-Some in
     record {
-      exchange = c.in-Some.exchange.now;
+      item = c.in-Some.exchange.now;
       found = found g k;
-      to = refl;
-      holds = rw c.in-Queued.is refl;
+      holds = (rw c.in-Queued.is refl, refl);
     }
 
 pub on_request_timeout-requires-clause-fits : goal.on_request_timeout-requires-clause-fits

@@ -1,4 +1,4 @@
-use Rattle.std.proofs.Common.{◌≡◌, ◌≤◌, ◌∙◌, Some, length, sym, subst}
+use Rattle.std.proofs.Common.{◌≡◌, ◌≤◌, ◌∙◌, Some, length, refl, sym, subst}
 use Rattle.coap_exchange.specs.declared.timer.Fire.TheVariants.{Again, GiveUp}
 use Rattle.coap_exchange.specs.Exchanges.{fire_of_sending, fired_exchange, IsDue}
 use Rattle.coap_exchange.specs.Table.{IsRising, item_at, changed_at}
@@ -11,9 +11,15 @@ use Rattle.coap_core.proofs.Awaiting.{sent-open}
 use Rattle.coap_core.proofs.Ticking.{changed-found, changed-same, fired-same, again-step, over-step}
 use Rattle.coap_core.proofs.state.State.on_request_timeout.Goals as goal
 
-pub put_form-requires : goal.put_form-requires
-put_form-requires g c =
-    let x = c.requires.ended.exchange in
+pub put_form-requires-clause-there : goal.put_form-requires-clause-there
+put_form-requires-clause-there g c =
+    let x = c.requires.ended.item in
+    let here : item_at c.args.due.number c.self.inside.under_way.exchanges.items ≡ Some x = subst (λ (v : State). item_at c.args.due.number v.exchanges ≡ Some x) (sym c.self.view_is) c.requires.ended.found in
+    rw (c.fire.ensures.fired, changed-found c.args.due.number (fired_exchange c.args.now) c.self.inside.under_way.exchanges.items x here) refl
+
+pub put_form-requires-clause-fits : goal.put_form-requires-clause-fits
+put_form-requires-clause-fits g c =
+    let x = c.requires.ended.item in
     let w = c.args.self.now in
     let found = c.requires.ended.found in
     let here : item_at c.args.due.number c.self.inside.under_way.exchanges.items ≡ Some x = subst (λ (v : State). item_at c.args.due.number v.exchanges ≡ Some x) (sym c.self.view_is) found in
@@ -23,27 +29,27 @@ put_form-requires g c =
 
 pub give_up-requires-clause-open : goal.give_up-requires-clause-open
 give_up-requires-clause-open g c =
-    let x = c.requires.ended.exchange in
+    let x = c.requires.ended.item in
     let found = c.requires.ended.found in
     let here : item_at c.args.due.number c.self.inside.under_way.exchanges.items ≡ Some x = subst (λ (v : State). item_at c.args.due.number v.exchanges ≡ Some x) (sym c.self.view_is) found in
-    let due : IsDue c.args.now x = c.requires.ended.holds in
+    let due : IsDue c.args.now x = c.requires.ended.holds.0 in
     rw (c.fire.ensures.fired, changed-found c.args.due.number (fired_exchange c.args.now) c.self.inside.under_way.exchanges.items x here) (sent-open x due.0)
 
 pub returns-in-Again : goal.returns-in-Again
 returns-in-Again g c =
-    let x = c.requires.ended.exchange in
+    let x = c.requires.ended.item in
     let w = c.args.self.now in
     let found = c.requires.ended.found in
     let here : item_at c.args.due.number c.self.inside.under_way.exchanges.items ≡ Some x = subst (λ (v : State). item_at c.args.due.number v.exchanges ≡ Some x) (sym c.self.view_is) found in
     let again : Again ≡ fire_of_sending c.args.now x.sending = rw here at c.in-Again.ensures.exact in
     let bytes : c.put_form.new.out ≡ holding c.args.out.now x.form = rw (c.fire.ensures.fired, changed-found c.args.due.number (fired_exchange c.args.now) c.self.inside.under_way.exchanges.items x here) at c.put_form.ensures in
     let state : c.advance.new.self ≡ (resends w c.args.now c.args.due.number x).state = rw (← c.self.view_is) (rw c.fire.ensures.fired at c.advance.ensures) in
-    rw (again-step w c.args.now c.args.due.number x found again) ((λ i. record { send = Some (c.requires.ended.to i); outcome = Resent }), bytes, state)
+    rw (again-step w c.args.now c.args.due.number x found again) ((λ i. record { send = Some (c.requires.ended.holds.1 i); outcome = Resent }), bytes, state)
 
 pub returns-in-GiveUp : goal.returns-in-GiveUp
 returns-in-GiveUp g c =
     let t = c.self.inside.under_way.exchanges in
-    let x = c.requires.ended.exchange in
+    let x = c.requires.ended.item in
     let w = c.args.self.now in
     let found = c.requires.ended.found in
     let here : item_at c.args.due.number t.items ≡ Some x = subst (λ (v : State). item_at c.args.due.number v.exchanges ≡ Some x) (sym c.self.view_is) found in
