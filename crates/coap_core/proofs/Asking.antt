@@ -26,21 +26,34 @@ use Rattle.coap_model.specs.declared.report.Report.{Report}
 use Rattle.coap_forward.specs.Forms.{form_fits}
 use Rattle.coap_forward.specs.Messages.{is_get}
 use Rattle.coap_model.specs.Verdicts.{Verdict, refused_with, may_ask, verdict_of}
-use Rattle.coap_model.specs.State.{State, Step, reserved, has_ids, can_reply, has_exchange_room, has_waiter_room, has_room_to_join, has_room_to_open, known_of, repeats}
+use Rattle.coap_model.specs.State.{State, Step, reserved, has_ids, can_reply, has_exchange_room, has_waiter_room, has_room_to_join, has_room_to_open, known_of, remembers, repeats}
 use Rattle.coap_model.specs.Requests.{lacks_id, refuses, overloads, opens, turns_down, turns_away, hits, joins, on_exchange_needed, on_joinable, on_miss, on_entry, on_key, on_verdict, on_new}
-use Rattle.coap_core.specs.Steps.{Does, held_for, repetition_of, wants_memory}
+use Rattle.coap_core.specs.Arrivals.{of_arrival}
+use Rattle.coap_core.specs.Steps.{Does, IsDone, CanAsk, missed_step, needing_step, opening_step, repetition_of, wants_memory}
+use Rattle.coap_core.specs.declared.arrival.Arrival.{Arrival}
+use Rattle.coap_core.specs.declared.request_target.CacheQuery.{CacheQuery}
+use Rattle.coap_core.specs.declared.requests.Miss.{Miss}
+use Rattle.coap_model.proofs.Verdicts.{IsAskable, askable}
 use Rattle.coap_core.proofs.Puts.{taken-takes}
 use Rattle.coap_core.proofs.Records.{held-same}
 
 -- what is done in a step is done in one that is equal, where the datagram was written to before
-pub does-as : (s t : Step) (r : Result Report OutOfMemory) (old mid new : Datagram) (v : State) → t ≡ s → mid.room ≡ old.room → IfOk r (λ report. Does s report mid new v) → IfOk r (λ report. Does t report old new v)
-does-as s t r old mid new v same room does =
-    subst (λ (x : Step). IfOk r (λ report. Does x report old new v)) (sym same)
-    (IfOk-weaker r (λ report. Does s report mid new v) (λ report. Does s report old new v) (λ report d. (d.0, d.1 ∙ held-same mid old s.bytes room, d.2)) does)
+pub done-as : {s t : Step} {r : Result Report OutOfMemory} {old mid new : Datagram} {w v : State} → t ≡ s → mid.room ≡ old.room → IsDone s r mid new w v → IsDone t r old new w v
+done-as {s} {t} {r} {old} {mid} {new} {w} {v} same room done =
+    record {
+      exact = subst (λ (x : Step). IfOk r (λ report. Does x report old new v)) (sym same)
+          (IfOk-weaker r (λ report. Does s report mid new v) (λ report. Does s report old new v) (λ report d. (d.0, d.1 ∙ held-same mid old s.bytes room, d.2)) done.exact);
+      err = done.err;
+      kept = done.kept ∙ room;
+    }
+
+-- the same for a request that is remembered
+pub remembered-as : (a : Arrival) {s t : Step} {r : Result Report OutOfMemory} {old mid new : Datagram} {w v : State} → t ≡ s → mid.room ≡ old.room → IsDone (of_arrival remembers a s) r mid new w v → IsDone (of_arrival remembers a t) r old new w v
+remembered-as a same room done = done-as (ap (of_arrival remembers a) same) room done
 
 -- what is sent in a step fits where what is sent in an equal one does
-pub fits-as : (s t : Step) (room other : ℕ) → t ≡ s → other ≡ room → length t.bytes ≤ room → length s.bytes ≤ other
-fits-as s t room other same rooms fits = subst (λ (n : ℕ). length s.bytes ≤ n) (sym rooms) (subst (λ (x : Step). length x.bytes ≤ room) same fits)
+pub fits-as : {s t : Step} {room other : ℕ} → t ≡ s → other ≡ room → length t.bytes ≤ room → length s.bytes ≤ other
+fits-as {s} {t} {room} same rooms fits = subst (λ (n : ℕ). length s.bytes ≤ n) (sym rooms) (subst (λ (x : Step). length x.bytes ≤ room) same fits)
 
 -- ---- duplicates
 
@@ -105,41 +118,16 @@ module _ (w : State) (now : ℕ) (client : Endpoint) (m : Message) where
 
   -- ---- requests for a key
 
-  module _ (key : CacheKey) (stored : Option Stored) where
-    -- the form is too long
-    pub too-long : can_reply w now m.kind ≡ true → form_fits w.setting.limits.datagram key.target None m ≡ false → on_exchange_needed w now client m key stored ≡ refuses w now client m REQUEST_ENTITY_TOO_LARGE
-    too-long reply fits = rw (fits, reply) refl
-
-    -- there is no room
-    pub turned-away : can_reply w now m.kind ≡ true → form_fits w.setting.limits.datagram key.target None m ≡ true → has_room_to_open w now client ≡ false → on_exchange_needed w now client m key stored ≡ overloads w now client m
-    turned-away reply fits closed = rw (fits, closed, reply) refl
-
-    -- it is asked for
-    pub opened : form_fits w.setting.limits.datagram key.target None m ≡ true → has_room_to_open w now client ≡ true → on_exchange_needed w now client m key stored ≡ opens w now client m key stored
-    opened fits free = rw (fits, free) refl
-
   module _ (key : CacheKey) where
-    -- it isn't asked for with GET
-    pub unstored : is_get m.code ≡ false → on_key w now client m key ≡ on_exchange_needed w now client m key (held_for w m key)
-    unstored other = rw other refl
-
     -- what is stored for it, if anything is, can't be shown
-    pub missed : is_get m.code ≡ true → has_usable key now w.store ≡ false → on_key w now client m key ≡ on_miss w now client m key (held_for w m key)
+    pub missed : is_get m.code ≡ true → has_usable key now w.store ≡ false → on_key w now client m key ≡ missed_step w now client m key
     missed get none = rw get (go (of_key entry_key key w.store) none)
       where
         go : (o : Option Entry) → option_map_or (λ entry. is_usable now entry.1) o false ≡ false → on_entry w now client m key o ≡ on_miss w now client m key (option_map (λ entry. entry.1) o)
         go None e = refl
         go (Some entry) e = rw e refl
 
-    -- the verdict is that it may be asked for
-    pub asked : verdict_of w.setting.routes m ≡ may_ask key → on_new w now client m ≡ on_key w now client m key
-    asked verdict = ap (on_verdict w now client m) verdict
-
   -- ---- requests that are new
-
-  -- it is refused
-  pub refused : (code : Code) → can_reply w now m.kind ≡ true → verdict_of w.setting.routes m ≡ refused_with code → on_new w now client m ≡ refuses w now client m code
-  refused code reply verdict = rw (verdict, reply) refl
 
   -- where no id is free for a reply none is for a client that waits, and none for an exchange
   last-false : (a b : Bool) → b ≡ false → (a && b) ≡ false
@@ -197,3 +185,23 @@ module _ (w : State) (now : ℕ) (client : Endpoint) (m : Message) where
       of : (v : Verdict) → on_verdict w now client m v ≡ lacks_id w now
       of (refused_with code) = rw none refl
       of (may_ask key) = keyed key (is_get m.code)
+
+-- ---- requests that aren't answered from the store
+
+module _ {a : Arrival} {query : CacheQuery} {miss : Miss} {w : State} (can : CanAsk a query miss w) where
+  -- they may be forwarded
+  pub passed : IsAskable w.setting.routes a.message.now query.key
+  passed = askable w.setting.routes a.message.now can.reply.ready.can.routes query.key can.asked.key
+
+  -- the form is too long
+  pub too-long : form_fits w.setting.limits.datagram query.key.target None a.message.now ≡ false → of_arrival (needing_step w) a query.key ≡ of_arrival (refuses w) a REQUEST_ENTITY_TOO_LARGE
+  too-long fits = rw (fits, can.reply.ids) refl
+
+  module _ (fits : form_fits w.setting.limits.datagram query.key.target None a.message.now ≡ true) where
+    -- there is no room
+    pub turned-away : has_room_to_open w a.now a.from ≡ false → of_arrival (needing_step w) a query.key ≡ of_arrival (overloads w) a
+    turned-away closed = rw (fits, closed, can.reply.ids) refl
+
+    -- it is asked for
+    pub opened : has_room_to_open w a.now a.from ≡ true → of_arrival (needing_step w) a query.key ≡ of_arrival (opening_step w) a query.key
+    opened free = rw (fits, free) refl

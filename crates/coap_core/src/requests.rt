@@ -12,11 +12,11 @@ ghost use Rattle.coap_forward.specs.Messages.{is_get, is_method};
 ghost use Rattle.coap_model.specs.Verdicts.{verdict_of};
 ghost use Rattle.coap_store.specs.Entries.{has_usable};
 ghost use Rattle.coap_message.specs.Datagram.{holding};
-ghost use Rattle.coap_model.specs.Requests.{lacks_id, refuses, overloads, opens, next_token, copy_of, tag_carried, joins, on_key, on_miss, on_exchange_needed, on_new, on_request};
+ghost use Rattle.coap_model.specs.Requests.{lacks_id, refuses, overloads, next_token, copy_of, tag_carried, joins, on_key, on_new, on_request};
 ghost use Rattle.coap_model.specs.State.{can_reply, later, remembers, takes_up};
 ghost use Rattle.coap_core.specs.Arrivals.{of_arrival};
 ghost use Rattle.coap_core.specs.Forms.{seen};
-ghost use Rattle.coap_core.specs.Steps.{Does, IsDone, CanGoOn, CanRemember, CanReplyTo, CanStep, IsAsked, held_for, joinable_step, verdict_seen, wants_memory};
+ghost use Rattle.coap_core.specs.Steps.{Does, IsDone, CanGoOn, CanRemember, CanAsk, CanReplyTo, CanStep, IsAsked, IsMissed, held_for, joinable_step, missed_step, needing_step, opening_step, verdict_seen, wants_memory};
 ghost use Rattle.coap_core.specs.Storing.{taken_up_bytes};
 ghost use Rattle.coap_core.specs.declared.requests.Verdict.TheVariants as verdicts;
 
@@ -43,6 +43,15 @@ pub(crate) enum Verdict {
     RefusedWith(Code),
     /// It may be forwarded.
     MayAsk,
+}
+
+/// What is stored for the key of a request that isn't answered from the store.
+#[derive(Clone, Copy)]
+pub(crate) enum Miss {
+    /// Nothing, or the request isn't a GET, so that nothing is looked up.
+    Nothing,
+    /// A response that isn't usable.
+    Stale,
 }
 
 /// What an exchange is opened with, beside its request.
@@ -191,28 +200,40 @@ impl<S: Store + Drop> State<S> {
             result out.old out.new self.old self.new }
     {
         if !is_get(arrival.message.code()) {
-            return self.on_exchange_needed(arrival, asked, out);
+            return self.on_exchange_needed(arrival, asked, Miss::Nothing, out);
         }
-        if self.put_usable(arrival, asked, out) {
-            let report = self.reply(arrival, Outcome::Hit, out)?;
-            self.store.touch(&asked.key);
-            return Ok(report);
+        match self.put_usable(arrival, asked, out) {
+            Ok(()) => {
+                let report = self.reply(arrival, Outcome::Hit, out)?;
+                self.store.touch(&asked.key);
+                Ok(report)
+            }
+            Err(miss) => self.on_miss(arrival, asked, miss, out),
         }
-        self.on_miss(arrival, asked, out)
     }
 
-    /// Whether a usable response is stored for the key. If so, `out` gets what the client is sent
-    /// for it.
-    fn put_usable(&self, arrival: Arrival<'_, '_>, asked: &CacheQuery, out: &mut Datagram) -> bool
+    /// Writes to `out` what the client is sent for a usable response that is stored for the key.
+    ///
+    /// # Errors
+    /// What is stored instead, if none is.
+    fn put_usable(
+        &self,
+        arrival: Arrival<'_, '_>,
+        asked: &CacheQuery,
+        out: &mut Datagram,
+    ) -> Result<(), Miss>
         requires get { is_get arrival.message.now.code ≡ true }
         requires ids { can_reply self.now arrival.now arrival.message.now.kind ≡ true }
         requires tags { asked.now.tags ≡ tags_of arrival.message.now }
         requires fits { length (of_arrival (on_key self.now) arrival asked.now.key).bytes
             ≤ out.old.room }
-        ensures usable { result ≡ has_usable asked.now.key arrival.entry.now self.now.store }
-        ensures shown { result ≡ true
-            → out.new
-            ≡ holding out.old (of_arrival (on_key self.now) arrival.entry asked.now.key).bytes }
+        ensures usable { is_ok result
+            ≡ has_usable asked.now.key arrival.entry.now self.now.store }
+        ensures missed { IfErr result
+            (IsMissed self.now arrival.entry.message.now asked.now.key) }
+        ensures shown { OnOk result
+            (out.new
+            ≡ holding out.old (of_arrival (on_key self.now) arrival.entry asked.now.key).bytes) }
         ensures kept { out.new.room ≡ out.old.room }
     {
         match self.store.peek(&asked.key) {
@@ -227,9 +248,10 @@ impl<S: Store + Drop> State<S> {
                     tags: &asked.tags,
                 };
                 put_stored(arrival.now, stored, reply, out);
-                true
+                Ok(())
             }
-            _ => false,
+            Some(_) => Err(Miss::Stale),
+            None => Err(Miss::Nothing),
         }
     }
 
@@ -239,24 +261,21 @@ impl<S: Store + Drop> State<S> {
         &mut self,
         arrival: Arrival<'_, '_>,
         asked: &CacheQuery,
+        miss: Miss,
         out: &mut Datagram,
     ) -> Result<Report, OutOfMemory>
-        requires reply { CanReplyTo arrival self.old }
-        requires asked { IsAsked self.old arrival.message.now asked.now }
+        requires can { CanAsk arrival asked.now miss self.old }
         requires room { self.old.setting.limits.datagram ≤ out.old.room }
-        requires fits { length
-            (of_arrival (on_miss self.old) arrival asked.now.key
-            (held_for self.old arrival.message.now asked.now.key)).bytes
+        requires fits { length (of_arrival (missed_step self.old) arrival asked.now.key).bytes
             ≤ out.old.room }
         ensures { IsDone
             (of_arrival remembers arrival.entry
-            (of_arrival (on_miss self.old) arrival.entry asked.now.key
-            (held_for self.old arrival.entry.message.now asked.now.key)))
+            (of_arrival (missed_step self.old) arrival.entry asked.now.key))
             result out.old out.new self.old self.new }
     {
         match self.under_way.exchanges().joinable(&asked.key) {
             Some(exchange) => self.on_joinable(arrival, exchange, asked, out),
-            None => self.on_exchange_needed(arrival, asked, out),
+            None => self.on_exchange_needed(arrival, asked, miss, out),
         }
     }
 
@@ -291,19 +310,16 @@ impl<S: Store + Drop> State<S> {
         &mut self,
         arrival: Arrival<'_, '_>,
         asked: &CacheQuery,
+        miss: Miss,
         out: &mut Datagram,
     ) -> Result<Report, OutOfMemory>
-        requires reply { CanReplyTo arrival self.old }
-        requires asked { IsAsked self.old arrival.message.now asked.now }
+        requires can { CanAsk arrival asked.now miss self.old }
         requires room { self.old.setting.limits.datagram ≤ out.old.room }
-        requires fits { length
-            (of_arrival (on_exchange_needed self.old) arrival asked.now.key
-            (held_for self.old arrival.message.now asked.now.key)).bytes
+        requires fits { length (of_arrival (needing_step self.old) arrival asked.now.key).bytes
             ≤ out.old.room }
         ensures { IsDone
             (of_arrival remembers arrival.entry
-            (of_arrival (on_exchange_needed self.old) arrival.entry asked.now.key
-            (held_for self.old arrival.entry.message.now asked.now.key)))
+            (of_arrival (needing_step self.old) arrival.entry asked.now.key))
             result out.old out.new self.old self.new }
     {
         let target = &asked.key.target;
@@ -317,20 +333,9 @@ impl<S: Store + Drop> State<S> {
         if !self.has_room_to_open(arrival.now, arrival.from) {
             return self.overload(arrival, out);
         }
-        let copy = self.put_validating(arrival.message, asked, out)?;
+        let copy = self.put_validating(arrival.message, asked, miss, out)?;
         let (key, tags) = asked.copied()?;
         self.open(arrival, NewExchange { key, tags, copy }, out)
-    }
-
-    /// What is stored for the key of a request, if that is a GET.
-    fn held_for(&self, request: &MessageRef<'_>, key: &CacheKey) -> Option<&Stored>
-        ensures { option_map (λ stored. stored.now) result ≡ held_for self.now request.now key.now }
-    {
-        if is_get(request.code()) {
-            self.store.peek(key)
-        } else {
-            None
-        }
     }
 
     /// Rewrites the forwarded request, which `out` holds, with the tag of what is stored for the
@@ -340,9 +345,11 @@ impl<S: Store + Drop> State<S> {
         &self,
         request: &MessageRef<'_>,
         asked: &CacheQuery,
+        miss: Miss,
         out: &mut Datagram,
     ) -> Result<Option<Stored>, OutOfMemory>
         requires can { CanGoOn self.now }
+        requires missed { IsMissed self.now request.now asked.now.key miss }
         requires room { self.now.setting.limits.datagram ≤ out.old.room }
         requires method { is_method request.now.code ≡ true }
         requires screened { first_refused Side.Request request.now.options ≡ None }
@@ -365,9 +372,12 @@ impl<S: Store + Drop> State<S> {
             request.now 0)) }
         ensures kept { out.new.room ≡ out.old.room }
     {
-        let target = &asked.key.target;
-        let Some(stored) = self.held_for(request, &asked.key) else {
+        if let Miss::Nothing = miss {
             return Ok(None);
+        }
+        let target = &asked.key.target;
+        let Some(stored) = self.store.peek(&asked.key) else {
+            unreachable!()
         };
         let Some(tag) = validating_tag(request, &stored.response) else {
             return Ok(None);
@@ -542,13 +552,11 @@ impl<S: Store + Drop> State<S> {
             (held_for self.old arrival.message.now exchange.key))
             arrival.message.now 0) }
         requires fits { length
-            (of_arrival (opens self.old) arrival exchange.key
-            (held_for self.old arrival.message.now exchange.key)).bytes
+            (of_arrival (opening_step self.old) arrival exchange.key).bytes
             ≤ out.old.room }
         ensures { IsDone
             (of_arrival remembers arrival.entry
-            (of_arrival (opens self.old) arrival.entry exchange.key
-            (held_for self.old arrival.entry.message.now exchange.key)))
+            (of_arrival (opening_step self.old) arrival.entry exchange.key))
             result out.old out.new self.old self.new }
     {
         let NewExchange { key, tags, copy } = exchange;
