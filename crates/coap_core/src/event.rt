@@ -1,8 +1,8 @@
 //! Events, which borrow their bytes.
-ghost use Rattle.coap_message.specs.Uint.{IsBytes};
 ghost use Rattle.coap_model.specs.Events.{IsEvent};
 ghost use Rattle.coap_core.specs.Events.{seen};
 
+use crate::laws;
 use coap_endpoint::Endpoint;
 
 /// What happens to a proxy.
@@ -15,16 +15,12 @@ pub enum Event<'a> {
 }
 
 impl Event<'_> {
-    // Does nothing: it lets a proof conclude that the bytes of a datagram are below 256.
-    pub(crate) fn holds_bytes(&self)
+    /// Does nothing: the bytes of a datagram are below 256.
+    pub(crate) fn laws(&self)
         ensures { IsEvent (seen self.now) }
     {
         if let Event::Datagram { bytes, .. } = self {
-            are_bytes(bytes);
+            laws::bytes_are_small(bytes);
         }
     }
 }
-
-fn are_bytes(bytes: &[u8])
-    ensures { IsBytes bytes.now }
-{}

@@ -22,6 +22,7 @@ mod copies;
 mod empties;
 mod event;
 mod known;
+mod laws;
 mod proxy;
 mod request_target;
 mod requests;

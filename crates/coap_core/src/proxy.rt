@@ -23,11 +23,7 @@ use crate::ticks::moment_of;
 use crate::timing::Timing;
 use coap_endpoint::Endpoint;
 use coap_message::{Datagram, OutOfMemory};
-use coap_model::laws::{
-    datagrams_fit, new_proxies_carry_nothing, settings_stay, steps_are_carried,
-    what_is_carried_is_promised,
-};
-use coap_model::{ClientCounts, Counts, DueItem, Limits, Report};
+use coap_model::{ClientCounts, Counts, DueItem, Limits, Report, laws};
 use coap_store::Store;
 use coap_target::Routes;
 use std::alloc::Global;
@@ -89,9 +85,8 @@ impl<S: Store + Drop> Core<S> {
             core ≡ new_state (setting_of limits routes first_id salt)) }
         ensures carries { IfOk result (λ core. Carries [] core) }
     {
-        new_proxies_carry_nothing();
-        // The call's contract says that the maps are sound, which each step relies on.
-        routes.maps();
+        laws::new_proxies_carry_nothing();
+        let _laws = routes.maps();
         let setting = Setting {
             limits,
             routes,
@@ -199,11 +194,11 @@ impl<S: Store + Drop> Core<S> {
         ensures unread { IsUnread self.old.setting.limits.datagram (seen event.entry)
             → IsOk result }
     {
-        steps_are_carried();
-        what_is_carried_is_promised();
-        datagrams_fit();
-        settings_stay();
-        event.holds_bytes();
+        laws::steps_are_carried();
+        laws::what_is_carried_is_promised();
+        laws::datagrams_fit();
+        laws::settings_stay();
+        event.laws();
         let timing = Timing { now, draw };
         let done = self.state.step(timing, event, self.due, out);
         self.due = self.state.first_due();

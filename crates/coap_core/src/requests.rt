@@ -33,8 +33,7 @@ use coap_message::{Code, Datagram, Full, MessageRef, OutOfMemory, Pieces, Seq, T
 use coap_model::{Outcome, Report};
 use coap_option::screen_request_ref;
 use coap_store::{CacheKey, Reply, Store, Stored};
-use coap_target::laws::{requests_to_the_proxy_are_mapped, targets_fit_options};
-use coap_target::{TargetError, says_uri};
+use coap_target::{TargetError, laws, says_uri};
 
 /// The verdict on a request, apart from its length, the room, and what is stored.
 #[derive(Drop)]
@@ -406,8 +405,8 @@ impl<S: Store + Drop> State<S> {
             (error ≡ errors.OutOfMemory)
             ⊎ (request_target self.now.setting.routes request.now ≡ Err error)) }
     {
-        targets_fit_options();
-        requests_to_the_proxy_are_mapped();
+        laws::targets_fit_options();
+        laws::requests_to_the_proxy_are_mapped();
         if says_uri(request) {
             let target = self.setting.routes.target_of_ref(self.alloc, request)?;
             return Ok(RequestTarget::Named(target));

@@ -239,7 +239,7 @@ impl<S: Store + Drop> State<S> {
         ensures err { OnErr result (self.new ≡ self.old) }
         ensures kept { out.new.room ≡ out.old.room }
     {
-        self.is_wide();
+        self.laws();
         let Some(exchange) = self.under_way.exchange(number) else {
             unreachable!()
         };
@@ -282,11 +282,11 @@ impl<S: Store + Drop> State<S> {
         Ok(send)
     }
 
-    // Does nothing: it lets a proof conclude how long a datagram may be at least.
-    fn is_wide(&self)
+    /// Does nothing: a datagram of 128 bytes isn't too long.
+    fn laws(&self)
         ensures { 128 ≤ self.now.setting.limits.datagram }
     {
-        let _values = self.setting.limits.values();
+        let _laws = self.setting.limits.values();
     }
 
     /// The answer that a response makes for an exchange.

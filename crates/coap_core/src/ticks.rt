@@ -10,21 +10,15 @@ ghost use Rattle.coap_exchange.specs.Waiters as waiters;
 ghost use Rattle.coap_exchange.specs.Waiters.{is_waiting};
 ghost use Rattle.coap_core.specs.Steps.{Does, IsDone, CanGoOn, CanStep, GivesConfirmable, HasAnswer, IsClientDue, IsExchangeDue, IsFound, IsServed, answer_at, delivery_at, exchange_at, firing_at, form_at, given_at, sending_at, told_in, unheard_at, waiter_at};
 
+use crate::laws;
 use crate::state::{State, silent};
 use crate::timing::Timing;
 use coap_endpoint::Endpoint;
 use coap_exchange::{Exchange, ExchangeState, Fire, Sending, Timer, Waiter, WaiterState};
 use coap_forward::{gateway_timeout, put_shown};
-use coap_message::{Datagram, Kind, OutOfMemory, Seq, Token};
+use coap_message::{Datagram, Kind, OutOfMemory, Seq};
 use coap_model::{DueItem, Outcome, Report};
 use coap_store::{Reply, Store};
-
-// Does nothing: it lets a proof conclude that a token has at most eight bytes.
-fn is_short(token: &Token)
-    ensures { length token.now ≤ 8 }
-{
-    let _bytes = token.as_slice();
-}
 
 /// The moment from which on this is due, if it is something.
 pub(crate) fn moment_of(due: Option<DueItem>) -> Option<u64>
@@ -276,7 +270,7 @@ impl<S: Store + Drop> State<S> {
         let Some(answer) = awaited.answer() else {
             unreachable!()
         };
-        is_short(&waiter.token);
+        laws::tokens_are_short(&waiter.token);
         let reply = Reply {
             kind: waiter.kind,
             id: self.next_id(),

@@ -17,14 +17,14 @@ pub step-done-requires-clause-fits : goal.step-done-requires-clause-fits
 step-done-requires-clause-fits g c =
     let i = c.self.invariant in
     let room = rw (← c.self.view_is) at c.requires.room in
-    let fits = c.datagrams_fit.ensures.fits c.self.inside.state i.1.0 c.args.now c.args.draw true (seen c.args.event) i.1.1 i.0 c.holds_bytes.ensures in
+    let fits = c.datagrams_fit.ensures.fits c.self.inside.state i.1.0 c.args.now c.args.draw true (seen c.args.event) i.1.1 i.0 c.laws.ensures in
     omega (arith, room, fits)
 
 -- what the step leaves
 leaves : (g : Over) (c : After-step-done g) → IsLeft c.self.inside.state c.step-done.new.self
 leaves g c =
     let i = c.self.invariant in
-    is-left c.self.inside.state c.args.now c.args.draw (seen c.args.event) i.1.0 i.1.1 i.1.2 c.requires.moment c.requires.draw (rw (← c.self.view_is) at c.requires.onward) c.holds_bytes.ensures c.step-done.result c.args.out.now c.step-done.new.out c.step-done.new.self c.step-done.ensures.exact c.step-done.ensures.err
+    is-left c.self.inside.state c.args.now c.args.draw (seen c.args.event) i.1.0 i.1.1 i.1.2 c.requires.moment c.requires.draw (rw (← c.self.view_is) at c.requires.onward) c.laws.ensures c.step-done.result c.args.out.now c.step-done.new.out c.step-done.new.self c.step-done.ensures.exact c.step-done.ensures.err
 
 pub invariant_of-self : goal.invariant_of-self
 invariant_of-self g c =
@@ -57,7 +57,7 @@ returns-clause-short g c =
     let i = c.self.invariant in
     let w = c.self.inside.state in
     let left = leaves g (goal.at.returns-clause-short g c).After-step-done in
-    let short : (grown : Bool) → length (step_of w c.args.now c.args.draw grown (seen c.args.event)).bytes ≤ w.setting.limits.datagram = λ grown. c.datagrams_fit.ensures.fits w i.1.0 c.args.now c.args.draw grown (seen c.args.event) i.1.1 i.0 c.holds_bytes.ensures in
+    let short : (grown : Bool) → length (step_of w c.args.now c.args.draw grown (seen c.args.event)).bytes ≤ w.setting.limits.datagram = λ grown. c.datagrams_fit.ensures.fits w i.1.0 c.args.now c.args.draw grown (seen c.args.event) i.1.1 i.0 c.laws.ensures in
     rw left.setting (is-short c.step-done.result (λ grown. step_of w c.args.now c.args.draw grown (seen c.args.event)) c.args.out.now c.step-done.new.out c.step-done.new.self w.setting.limits.datagram short c.step-done.ensures.exact c.step-done.ensures.none)
 
 pub returns-clause-entries : goal.returns-clause-entries
@@ -83,17 +83,17 @@ returns-clause-non_records g c =
 pub returns-clause-promised : goal.returns-clause-promised
 returns-clause-promised g c =
     rw (← c.self.view_is)
-    (promises-on c.self.inside.state c.args.now c.args.draw (seen c.args.event) (rw (← c.self.view_is) at c.requires.onward) c.holds_bytes.ensures c.step-done.result c.args.out.now c.step-done.new.out c.step-done.new.self c.step-done.ensures.exact)
+    (promises-on c.self.inside.state c.args.now c.args.draw (seen c.args.event) (rw (← c.self.view_is) at c.requires.onward) c.laws.ensures c.step-done.result c.args.out.now c.step-done.new.out c.step-done.new.self c.step-done.ensures.exact)
 
 pub returns-clause-word : goal.returns-clause-word
 returns-clause-word g c =
     rw (← c.self.view_is)
-    (word-on c.self.inside.state c.args.now c.args.draw (seen c.args.event) (rw (← c.self.view_is) at c.requires.onward) c.holds_bytes.ensures c.step-done.result c.args.out.now c.step-done.new.out c.step-done.new.self c.step-done.ensures.exact)
+    (word-on c.self.inside.state c.args.now c.args.draw (seen c.args.event) (rw (← c.self.view_is) at c.requires.onward) c.laws.ensures c.step-done.result c.args.out.now c.step-done.new.out c.step-done.new.self c.step-done.ensures.exact)
 
 pub returns-clause-shares : goal.returns-clause-shares
 returns-clause-shares g c =
     rw (← c.self.view_is)
-    (room-on c.self.inside.state c.args.now c.args.draw (seen c.args.event) (rw (← c.self.view_is) at c.requires.onward) c.holds_bytes.ensures c.step-done.result c.args.out.now c.step-done.new.out c.step-done.new.self c.step-done.ensures.exact)
+    (room-on c.self.inside.state c.args.now c.args.draw (seen c.args.event) (rw (← c.self.view_is) at c.requires.onward) c.laws.ensures c.step-done.result c.args.out.now c.step-done.new.out c.step-done.new.self c.step-done.ensures.exact)
 
 pub returns-clause-client_exchanges : goal.returns-clause-client_exchanges
 returns-clause-client_exchanges g c =
