@@ -29,11 +29,11 @@ use Rattle.coap_model.specs.Verdicts.{Verdict, refused_with, may_ask, verdict_of
 use Rattle.coap_model.specs.State.{State, Step, reserved, has_ids, can_reply, has_exchange_room, has_waiter_room, has_room_to_join, has_room_to_open, known_of, remembers, repeats}
 use Rattle.coap_model.specs.Requests.{lacks_id, refuses, overloads, opens, turns_down, turns_away, hits, joins, on_exchange_needed, on_joinable, on_miss, on_entry, on_key, on_verdict, on_new}
 use Rattle.coap_core.specs.Arrivals.{of_arrival}
-use Rattle.coap_core.specs.Steps.{Does, IsDone, CanAsk, missed_step, needing_step, opening_step, repetition_of, wants_memory}
+use Rattle.coap_core.specs.Steps.{Does, IsDone, CanAsk, IsForwardable, missed_step, needing_step, opening_step, repetition_of, wants_memory}
 use Rattle.coap_core.specs.declared.arrival.Arrival.{Arrival}
 use Rattle.coap_core.specs.declared.request_target.CacheQuery.{CacheQuery}
 use Rattle.coap_core.specs.declared.requests.Miss.{Miss}
-use Rattle.coap_model.proofs.Verdicts.{IsAskable, askable}
+use Rattle.coap_model.proofs.Verdicts.{askable}
 use Rattle.coap_core.proofs.Puts.{taken-takes}
 use Rattle.coap_core.proofs.Records.{held-same}
 
@@ -190,8 +190,10 @@ module _ (w : State) (now : ℕ) (client : Endpoint) (m : Message) where
 
 module _ {a : Arrival} {query : CacheQuery} {miss : Miss} {w : State} (can : CanAsk a query miss w) where
   -- they may be forwarded
-  pub passed : IsAskable w.setting.routes a.message.now query.key
-  passed = askable w.setting.routes a.message.now can.reply.ready.can.routes query.key can.asked.key
+  pub forwardable : IsForwardable a.message.now query.key.target
+  forwardable =
+      let is = askable w.setting.routes a.message.now can.reply.ready.can.routes query.key can.asked.key in
+      record { method = is.method; screened = is.screened; target = is.sound }
 
   -- the form is too long
   pub too-long : form_fits w.setting.limits.datagram query.key.target None a.message.now ≡ false → of_arrival (needing_step w) a query.key ≡ of_arrival (refuses w) a REQUEST_ENTITY_TOO_LARGE

@@ -18,14 +18,8 @@ use Rattle.coap_model.specs.Ticks.{next_due}
 use Rattle.coap_model.proofs.Bounding.{next-bounded}
 use Rattle.coap_model.proofs.Carrying.{keeps_step}
 use Rattle.coap_model.proofs.Frames.{opened-few, admitted-few}
-use Rattle.coap_model.specs.Promised.{Promised}
-use Rattle.coap_model.specs.Shares.{LeavesRoom}
-use Rattle.coap_model.specs.Word.{KeepsItsWord}
-use Rattle.coap_model.proofs.Leaving.{leaves-room}
-use Rattle.coap_model.proofs.Word.{keeps-word}
-use Rattle.coap_model.proofs.Promising.{promises}
 use Rattle.coap_model.proofs.Running.{setting_stays}
-use Rattle.coap_core.specs.Steps.{Does, CanGoOn, KeepsWordOn, LeavesRoomOn, PromisesOn, entry_told}
+use Rattle.coap_core.specs.Steps.{Does, CanGoOn, entry_told}
 
 -- what is remembered came at the last moment, or before
 until : (w : State) (deeds : List Deed) → w.last ≡ last_of deeds → (rs : List Record) → AreUpTo (last_of deeds) rs → AreUpTo w.last rs
@@ -86,7 +80,7 @@ is-short (Ok report) s old new v most short does none = omega (arith, short (gro
 is-short (Err e) s old new v most short does none = omega (arith, ap (λ (d : Datagram). length d.bytes) none)
 
 -- what holds of whatever is carried holds with the entry of a step in front
-holds-on : (P : List Entry → State → Type 0) → ((history : List Entry) (w : State) → Carries history w → P history w) → (w : State) (now draw : ℕ) (event : Event) → w.last ≤ now → IsEvent event → (r : Result Report OutOfMemory) (old new : Datagram) (v : State) → IfOk r (λ report. Does (step_of w now draw (grown_of report.outcome) event) report old new v)
+pub holds-on : (P : List Entry → State → Type 0) → ((history : List Entry) (w : State) → Carries history w → P history w) → (w : State) (now draw : ℕ) (event : Event) → w.last ≤ now → IsEvent event → (r : Result Report OutOfMemory) (old new : Datagram) (v : State) → IfOk r (λ report. Does (step_of w now draw (grown_of report.outcome) event) report old new v)
     → IfOk r (λ report. (history : List Entry) → Carries history w → P (entry_told now draw event report new.bytes ∷ history) v)
 holds-on P holds w now draw event onward fits (Ok report) old new v does = λ history c.
     let s = step_of w now draw (grown_of report.outcome) event in
@@ -95,15 +89,3 @@ holds-on P holds w now draw event onward fits (Ok report) old new v does = λ hi
     let on = keeps_step w history now draw (grown_of report.outcome) event c onward fits in
     subst (λ (e : Entry). P (e ∷ history) v) (sym told) (subst (λ (x : State). P (entry_of now draw event s ∷ history) x) (sym does.2) (holds (entry_of now draw event s ∷ history) s.state on))
 holds-on P holds w now draw event onward fits (Err e) old new v does = tt
-
--- so what a step leaves promises of its entry what was promised of those before
-pub promises-on : (w : State) (now draw : ℕ) (event : Event) → w.last ≤ now → IsEvent event → (r : Result Report OutOfMemory) (old new : Datagram) (v : State) → IfOk r (λ report. Does (step_of w now draw (grown_of report.outcome) event) report old new v) → IfOk r (λ report. PromisesOn w (entry_told now draw event report new.bytes) v)
-promises-on = holds-on Promised promises
-
--- and keeps its word
-pub word-on : (w : State) (now draw : ℕ) (event : Event) → w.last ≤ now → IsEvent event → (r : Result Report OutOfMemory) (old new : Datagram) (v : State) → IfOk r (λ report. Does (step_of w now draw (grown_of report.outcome) event) report old new v) → IfOk r (λ report. KeepsWordOn w (entry_told now draw event report new.bytes) v)
-word-on = holds-on KeepsItsWord keeps-word
-
--- and one client still leaves room for the others
-pub room-on : (w : State) (now draw : ℕ) (event : Event) → w.last ≤ now → IsEvent event → (r : Result Report OutOfMemory) (old new : Datagram) (v : State) → IfOk r (λ report. Does (step_of w now draw (grown_of report.outcome) event) report old new v) → IfOk r (λ report. LeavesRoomOn w (entry_told now draw event report new.bytes) v)
-room-on = holds-on LeavesRoom leaves-room

@@ -1,10 +1,9 @@
 -- What is remembered, as the program asks for it.
-use Rattle.std.proofs.Common.{◌≡◌, ℕ, ◌<◌, ◌≤◌, Bool, true, false, List, length, Option, Some, None, refl, sym, ap, ◌∙◌, arith}
+use Rattle.std.proofs.Common.{◌≡◌, ℕ, ◌<◌, Bool, true, false, List, length, Option, Some, None, refl, sym, ap, ◌∙◌, arith}
 use Rattle.std.specs.Prelude.{◌==◌, ◌&&◌, nat_lt, not, is_some}
 use Rattle.std.proofs.lemmas.Bool.{eqb-true, lt-ltb, ltb-true}
 use Rattle.coap_message.specs.declared.kind.Kind.{Kind}
 use Rattle.coap_message.specs.declared.kind.Kind.TheVariants.{Con, Non, Ack, Rst}
-use Rattle.coap_dedup.specs.Lists.{AreUpTo}
 use Rattle.coap_dedup.specs.Records.{AreRecords, living_at, living_of}
 use Rattle.coap_dedup.proofs.Kept.{client_room-there, room-there}
 use Rattle.coap_message.specs.Datagram.{Datagram, holding}
@@ -12,7 +11,6 @@ use Rattle.coap_message.specs.Message.{Message}
 use Rattle.coap_endpoint.specs.declared.endpoint.Endpoint.{Endpoint}
 use Rattle.coap_model.specs.State.{State, records_of, has_record_room, known_of, remembers}
 use Rattle.coap_model.specs.Requests.{on_new, on_request}
-use Rattle.coap_endpoint.proofs.Lists.{All-weaken}
 use Rattle.coap_core.specs.Steps.{CanGoOn}
 
 -- they are records
@@ -21,13 +19,6 @@ are-records w Con can = can.con_records
 are-records w Non can = can.non_records
 are-records w Ack can = can.non_records
 are-records w Rst can = can.non_records
-
--- none came later than a moment that doesn't go back
-pub are-until : (w : State) (kind : Kind) (now : ℕ) → CanGoOn w → w.last ≤ now → AreUpTo now (records_of kind w).items
-are-until w Con now can onward = All-weaken (λ r. r.at ≤ w.last) (λ r. r.at ≤ now) w.con_records.items (λ r le. omega (arith, le, onward)) can.con_until
-are-until w Non now can onward = All-weaken (λ r. r.at ≤ w.last) (λ r. r.at ≤ now) w.non_records.items (λ r le. omega (arith, le, onward)) can.non_until
-are-until w Ack now can onward = All-weaken (λ r. r.at ≤ w.last) (λ r. r.at ≤ now) w.non_records.items (λ r le. omega (arith, le, onward)) can.non_until
-are-until w Rst now can onward = All-weaken (λ r. r.at ≤ w.last) (λ r. r.at ≤ now) w.non_records.items (λ r le. omega (arith, le, onward)) can.non_until
 
 -- a number that doesn't reach its limit is below it
 below-is : (n limit : ℕ) → ((n == limit) ≡ false → n < limit) → not (n == limit) ≡ nat_lt n limit

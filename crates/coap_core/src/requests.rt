@@ -16,7 +16,7 @@ ghost use Rattle.coap_model.specs.Requests.{lacks_id, refuses, overloads, next_t
 ghost use Rattle.coap_model.specs.State.{can_reply, later, remembers, takes_up};
 ghost use Rattle.coap_core.specs.Arrivals.{of_arrival};
 ghost use Rattle.coap_core.specs.Forms.{seen};
-ghost use Rattle.coap_core.specs.Steps.{Does, IsDone, CanGoOn, CanRemember, CanAsk, CanReplyTo, CanStep, IsAsked, IsMissed, held_for, joinable_step, missed_step, needing_step, opening_step, verdict_seen, wants_memory};
+ghost use Rattle.coap_core.specs.Steps.{Does, IsDone, CanGoOn, CanRemember, CanAsk, CanReplyTo, CanStep, IsAsked, IsForwardable, IsMissed, held_for, joinable_step, missed_step, needing_step, opening_step, verdict_seen, wants_memory};
 ghost use Rattle.coap_core.specs.Storing.{taken_up_bytes};
 ghost use Rattle.coap_core.specs.declared.requests.Verdict.TheVariants as verdicts;
 
@@ -350,9 +350,7 @@ impl<S: Store + Drop> State<S> {
         requires can { CanGoOn self.now }
         requires missed { IsMissed self.now request.now asked.now.key miss }
         requires room { self.now.setting.limits.datagram ≤ out.old.room }
-        requires method { is_method request.now.code ≡ true }
-        requires screened { first_refused Side.Request request.now.options ≡ None }
-        requires target { IsTarget asked.now.key.target }
+        requires forwardable { IsForwardable request.now asked.now.key.target }
         requires fits { form_fits self.now.setting.limits.datagram asked.now.key.target None
             request.now
             ≡ true }
@@ -430,9 +428,7 @@ impl<S: Store + Drop> State<S> {
     ) -> Result<(), Full>
         requires can { CanGoOn self.now }
         requires room { self.now.setting.limits.datagram ≤ out.old.room }
-        requires method { is_method request.now.code ≡ true }
-        requires screened { first_refused Side.Request request.now.options ≡ None }
-        requires target { IsTarget target.now }
+        requires forwardable { IsForwardable request.now target.now }
         requires short { IfSome tag (λ tag. length tag.now ≤ 8) }
         ensures exact { is_ok result
             ≡ form_fits self.now.setting.limits.datagram target.now

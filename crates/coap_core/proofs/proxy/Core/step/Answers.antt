@@ -1,9 +1,19 @@
-use Rattle.std.proofs.Common.{◌≤◌, Bool, true, length, subst, sym, arith}
+use Rattle.std.proofs.Common.{◌≤◌, Bool, true, List, ◌∷◌, IfOk, length, subst, sym, arith}
 use Rattle.coap_model.specs.Setting.{Setting}
 use Rattle.coap_limits.specs.Limits.{AreLimits}
+use Rattle.coap_model.specs.Carries.{Carries}
+use Rattle.coap_model.specs.History.{Entry}
+use Rattle.coap_model.specs.Promised.{Promised}
+use Rattle.coap_model.specs.Shares.{LeavesRoom}
+use Rattle.coap_model.specs.State.{State}
+use Rattle.coap_model.specs.Word.{KeepsItsWord}
+use Rattle.coap_model.proofs.Leaving.{leaves-room}
+use Rattle.coap_model.proofs.Promising.{promises}
+use Rattle.coap_model.proofs.Word.{keeps-word}
 use Rattle.coap_model.specs.Step.{step_of}
 use Rattle.coap_core.specs.Events.{seen}
-use Rattle.coap_core.proofs.Carried.{IsLeft, can_go_on, is-left, is-short, promises-on, room-on, word-on}
+use Rattle.coap_core.specs.Steps.{entry_told}
+use Rattle.coap_core.proofs.Carried.{IsLeft, can_go_on, holds-on, is-left, is-short}
 use Rattle.coap_core.proofs.proxy.Core.step.Given.{Over}
 use Rattle.coap_core.proofs.proxy.Core.step.Goals.{After-step-done}
 use Rattle.coap_core.proofs.proxy.Core.step.Goals as goal
@@ -26,6 +36,16 @@ leaves g c =
     let i = c.self.invariant in
     is-left c.self.inside.state c.args.now c.args.draw (seen c.args.event) i.1.0 i.1.1 i.1.2 c.requires.moment c.requires.draw (rw (← c.self.view_is) at c.requires.onward) c.laws.ensures c.step-done.result c.args.out.now c.step-done.new.out c.step-done.new.self c.step-done.ensures.exact c.step-done.ensures.err
 
+-- so the limits hold after it
+promised : (g : Over) (c : After-step-done g) → Promised (leaves g c).history c.step-done.new.self
+promised g c = let left = leaves g c in c.what_is_carried_is_promised.ensures.promised left.history c.step-done.new.self left.carries
+
+-- what holds of whatever is carried holds with the entry of the step in front
+on : (g : Over) (c : After-step-done g) (P : List Entry → State → Type 0) → ((history : List Entry) (w : State) → Carries history w → P history w)
+    → IfOk c.step-done.result (λ report. (history : List Entry) → Carries history c.self.inside.state → P (entry_told c.args.now c.args.draw (seen c.args.event) report c.step-done.new.out.bytes ∷ history) c.step-done.new.self)
+on g c P holds =
+    holds-on P holds c.self.inside.state c.args.now c.args.draw (seen c.args.event) (rw (← c.self.view_is) at c.requires.onward) c.laws.ensures c.step-done.result c.args.out.now c.step-done.new.out c.step-done.new.self c.step-done.ensures.exact
+
 pub invariant_of-self : goal.invariant_of-self
 invariant_of-self g c =
     let i = c.self.invariant in
@@ -38,19 +58,13 @@ returns-clause-setting g c =
     rw (← c.self.view_is) left.setting
 
 pub returns-clause-exchanges : goal.returns-clause-exchanges
-returns-clause-exchanges g c =
-    let left = leaves g (goal.at.returns-clause-exchanges g c).After-step-done in
-    (c.what_is_carried_is_promised.ensures.promised left.history c.step-done.new.self left.carries).exchanges
+returns-clause-exchanges g c = (promised g (goal.at.returns-clause-exchanges g c).After-step-done).exchanges
 
 pub returns-clause-waiters : goal.returns-clause-waiters
-returns-clause-waiters g c =
-    let left = leaves g (goal.at.returns-clause-waiters g c).After-step-done in
-    (c.what_is_carried_is_promised.ensures.promised left.history c.step-done.new.self left.carries).waiters
+returns-clause-waiters g c = (promised g (goal.at.returns-clause-waiters g c).After-step-done).waiters
 
 pub returns-clause-held : goal.returns-clause-held
-returns-clause-held g c =
-    let left = leaves g (goal.at.returns-clause-held g c).After-step-done in
-    (c.what_is_carried_is_promised.ensures.promised left.history c.step-done.new.self left.carries).bytes
+returns-clause-held g c = (promised g (goal.at.returns-clause-held g c).After-step-done).bytes
 
 pub returns-clause-short : goal.returns-clause-short
 returns-clause-short g c =
@@ -61,59 +75,37 @@ returns-clause-short g c =
     rw left.setting (is-short c.step-done.result (λ grown. step_of w c.args.now c.args.draw grown (seen c.args.event)) c.args.out.now c.step-done.new.out c.step-done.new.self w.setting.limits.datagram short c.step-done.ensures.exact c.step-done.ensures.none)
 
 pub returns-clause-entries : goal.returns-clause-entries
-returns-clause-entries g c =
-    let left = leaves g (goal.at.returns-clause-entries g c).After-step-done in
-    (c.what_is_carried_is_promised.ensures.promised left.history c.step-done.new.self left.carries).entries
+returns-clause-entries g c = (promised g (goal.at.returns-clause-entries g c).After-step-done).entries
 
 pub returns-clause-cached_bytes : goal.returns-clause-cached_bytes
-returns-clause-cached_bytes g c =
-    let left = leaves g (goal.at.returns-clause-cached_bytes g c).After-step-done in
-    (c.what_is_carried_is_promised.ensures.promised left.history c.step-done.new.self left.carries).cached_bytes
+returns-clause-cached_bytes g c = (promised g (goal.at.returns-clause-cached_bytes g c).After-step-done).cached_bytes
 
 pub returns-clause-con_records : goal.returns-clause-con_records
-returns-clause-con_records g c =
-    let left = leaves g (goal.at.returns-clause-con_records g c).After-step-done in
-    (c.what_is_carried_is_promised.ensures.promised left.history c.step-done.new.self left.carries).con_records
+returns-clause-con_records g c = (promised g (goal.at.returns-clause-con_records g c).After-step-done).con_records
 
 pub returns-clause-non_records : goal.returns-clause-non_records
-returns-clause-non_records g c =
-    let left = leaves g (goal.at.returns-clause-non_records g c).After-step-done in
-    (c.what_is_carried_is_promised.ensures.promised left.history c.step-done.new.self left.carries).non_records
+returns-clause-non_records g c = (promised g (goal.at.returns-clause-non_records g c).After-step-done).non_records
 
 pub returns-clause-promised : goal.returns-clause-promised
-returns-clause-promised g c =
-    rw (← c.self.view_is)
-    (promises-on c.self.inside.state c.args.now c.args.draw (seen c.args.event) (rw (← c.self.view_is) at c.requires.onward) c.laws.ensures c.step-done.result c.args.out.now c.step-done.new.out c.step-done.new.self c.step-done.ensures.exact)
+returns-clause-promised g c = rw (← c.self.view_is) (on g (goal.at.returns-clause-promised g c).After-step-done Promised promises)
 
 pub returns-clause-word : goal.returns-clause-word
-returns-clause-word g c =
-    rw (← c.self.view_is)
-    (word-on c.self.inside.state c.args.now c.args.draw (seen c.args.event) (rw (← c.self.view_is) at c.requires.onward) c.laws.ensures c.step-done.result c.args.out.now c.step-done.new.out c.step-done.new.self c.step-done.ensures.exact)
+returns-clause-word g c = rw (← c.self.view_is) (on g (goal.at.returns-clause-word g c).After-step-done KeepsItsWord keeps-word)
 
 pub returns-clause-shares : goal.returns-clause-shares
-returns-clause-shares g c =
-    rw (← c.self.view_is)
-    (room-on c.self.inside.state c.args.now c.args.draw (seen c.args.event) (rw (← c.self.view_is) at c.requires.onward) c.laws.ensures c.step-done.result c.args.out.now c.step-done.new.out c.step-done.new.self c.step-done.ensures.exact)
+returns-clause-shares g c = rw (← c.self.view_is) (on g (goal.at.returns-clause-shares g c).After-step-done LeavesRoom leaves-room)
 
 pub returns-clause-client_exchanges : goal.returns-clause-client_exchanges
-returns-clause-client_exchanges g c =
-    let left = leaves g (goal.at.returns-clause-client_exchanges g c).After-step-done in
-    (c.what_is_carried_is_promised.ensures.promised left.history c.step-done.new.self left.carries).client_exchanges
+returns-clause-client_exchanges g c = (promised g (goal.at.returns-clause-client_exchanges g c).After-step-done).client_exchanges
 
 pub returns-clause-client_waiters : goal.returns-clause-client_waiters
-returns-clause-client_waiters g c =
-    let left = leaves g (goal.at.returns-clause-client_waiters g c).After-step-done in
-    (c.what_is_carried_is_promised.ensures.promised left.history c.step-done.new.self left.carries).client_waiters
+returns-clause-client_waiters g c = (promised g (goal.at.returns-clause-client_waiters g c).After-step-done).client_waiters
 
 pub returns-clause-client_con_records : goal.returns-clause-client_con_records
-returns-clause-client_con_records g c =
-    let left = leaves g (goal.at.returns-clause-client_con_records g c).After-step-done in
-    (c.what_is_carried_is_promised.ensures.promised left.history c.step-done.new.self left.carries).client_con_records
+returns-clause-client_con_records g c = (promised g (goal.at.returns-clause-client_con_records g c).After-step-done).client_con_records
 
 pub returns-clause-client_non_records : goal.returns-clause-client_non_records
-returns-clause-client_non_records g c =
-    let left = leaves g (goal.at.returns-clause-client_non_records g c).After-step-done in
-    (c.what_is_carried_is_promised.ensures.promised left.history c.step-done.new.self left.carries).client_non_records
+returns-clause-client_non_records g c = (promised g (goal.at.returns-clause-client_non_records g c).After-step-done).client_non_records
 
 pub returns-clause-ticks : goal.returns-clause-ticks
 returns-clause-ticks g c = rw (← c.self.view_is) c.step-done.ensures.ticks

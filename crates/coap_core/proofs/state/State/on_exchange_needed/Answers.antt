@@ -1,24 +1,12 @@
 use Rattle.std.proofs.Common.{◌∙◌, sym}
-use Rattle.coap_core.proofs.Asking.{fits-as, opened, passed, remembered-as, too-long, turned-away}
+use Rattle.coap_core.proofs.Asking.{fits-as, forwardable, opened, remembered-as, too-long, turned-away}
 use Rattle.coap_core.proofs.state.State.on_exchange_needed.Goals as goal
 
-pub put_request-requires-clause-method : goal.put_request-requires-clause-method
-put_request-requires-clause-method g c = (passed c.requires.can).method
+pub put_request-requires-clause-forwardable : goal.put_request-requires-clause-forwardable
+put_request-requires-clause-forwardable g c = forwardable c.requires.can
 
-pub put_request-requires-clause-screened : goal.put_request-requires-clause-screened
-put_request-requires-clause-screened g c = (passed c.requires.can).screened
-
-pub put_request-requires-clause-target : goal.put_request-requires-clause-target
-put_request-requires-clause-target g c = (passed c.requires.can).sound
-
-pub put_validating-requires-clause-method : goal.put_validating-requires-clause-method
-put_validating-requires-clause-method g c = (passed c.requires.can).method
-
-pub put_validating-requires-clause-screened : goal.put_validating-requires-clause-screened
-put_validating-requires-clause-screened g c = (passed c.requires.can).screened
-
-pub put_validating-requires-clause-target : goal.put_validating-requires-clause-target
-put_validating-requires-clause-target g c = (passed c.requires.can).sound
+pub put_validating-requires-clause-forwardable : goal.put_validating-requires-clause-forwardable
+put_validating-requires-clause-forwardable g c = forwardable c.requires.can
 
 pub refuse-requires-clause-fits : goal.refuse-requires-clause-fits
 refuse-requires-clause-fits g c = fits-as (too-long c.requires.can (sym c.put_request.ensures.exact ∙ c.if-is_err.ensures.negation)) c.put_request.ensures.kept c.requires.fits
