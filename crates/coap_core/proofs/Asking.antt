@@ -32,7 +32,7 @@ use Rattle.coap_core.specs.Arrivals.{of_arrival}
 use Rattle.coap_core.specs.Steps.{Does, IsDone, CanAsk, IsForwardable, missed_step, needing_step, opening_step, repetition_of, wants_memory}
 use Rattle.coap_core.specs.declared.arrival.Arrival.{Arrival}
 use Rattle.coap_core.specs.declared.request_target.CacheQuery.{CacheQuery}
-use Rattle.coap_core.specs.declared.requests.Miss.{Miss}
+use Rattle.coap_core.specs.declared.requests.Missed.{Missed}
 use Rattle.coap_model.proofs.Verdicts.{askable}
 use Rattle.coap_core.proofs.Puts.{taken-takes}
 use Rattle.coap_core.proofs.Records.{held-same}
@@ -188,7 +188,7 @@ module _ (w : State) (now : ℕ) (client : Endpoint) (m : Message) where
 
 -- ---- requests that aren't answered from the store
 
-module _ {a : Arrival} {query : CacheQuery} {miss : Miss} {w : State} (can : CanAsk a query miss w) where
+module _ {a : Arrival} {query : CacheQuery} {known : Missed} {w : State} (can : CanAsk a query known w) where
   -- they may be forwarded
   pub forwardable : IsForwardable a.message.now query.key.target
   forwardable =

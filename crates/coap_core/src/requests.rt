@@ -7,6 +7,7 @@ ghost use Rattle.coap_option.specs.Selection.{tags_of};
 ghost use Rattle.coap_endpoint.specs.Target.{IsTarget};
 ghost use Rattle.coap_target.specs.declared.error.TargetError.TheVariants as errors;
 ghost use Rattle.coap_target.specs.Request.{request_target};
+ghost use Rattle.coap_exchange.specs.Digests.{digests_of};
 ghost use Rattle.coap_forward.specs.Forms.{form_fits, forwarded};
 ghost use Rattle.coap_forward.specs.Messages.{is_get, is_method};
 ghost use Rattle.coap_model.specs.Verdicts.{verdict_of};
@@ -26,6 +27,7 @@ use crate::known::{put_acceptance, reply_kind};
 use crate::request_target::{CacheQuery, RequestTarget};
 use crate::state::{State, silent};
 use coap_endpoint::{Endpoint, Target};
+use coap_exchange::{Digests, Joining, Opening, digests_of};
 use coap_forward::{
     Form, put_bare, put_forwarded, put_stored, put_with_max_age, token_of, validating_tag,
 };
@@ -53,14 +55,57 @@ pub(crate) enum Miss {
     Stale,
 }
 
+/// What is known of the key of a request that isn't answered from the store.
+#[derive(Clone, Copy)]
+pub(crate) struct Missed {
+    /// What is stored for it.
+    stored: Miss,
+    /// The digests that exchanges are found by.
+    digests: Digests,
+}
+
+impl Missed {
+    /// This is stored for the key, which is hashed here, once for the request.
+    fn of(key: &CacheKey, stored: Miss) -> Missed
+        ensures { result ≡ record { stored = stored; digests = digests_of key.now } }
+    {
+        Missed {
+            stored,
+            digests: digests_of(key),
+        }
+    }
+}
+
 /// What an exchange is opened with, beside its request.
 #[derive(Drop)]
 pub(crate) struct NewExchange {
     key: CacheKey,
+    digests: Digests,
     /// The tags of the responses that the client already holds.
     tags: Pieces,
     /// The stored response that the request asks to validate.
     copy: Option<Stored>,
+}
+
+/// A request that waits for the exchange of this number, whose client holds responses with these
+/// tags.
+fn joining_of(arrival: Arrival<'_, '_>, tags: Pieces, exchange: u64) -> Joining
+    ensures { result
+        ≡ record {
+          client = arrival.entry.from;
+          kind = arrival.entry.message.now.kind;
+          token = arrival.entry.message.now.token;
+          tags = tags;
+          exchange = exchange;
+        } }
+{
+    Joining {
+        client: arrival.from,
+        kind: arrival.message.kind(),
+        token: Token::new(arrival.message.token()),
+        tags,
+        exchange,
+    }
 }
 
 /// Whether the method is GET.
@@ -199,7 +244,8 @@ impl<S: Store + Drop> State<S> {
             result out.old out.new self.old self.new }
     {
         if !is_get(arrival.message.code()) {
-            return self.on_exchange_needed(arrival, asked, Miss::Nothing, out);
+            let missed = Missed::of(&asked.key, Miss::Nothing);
+            return self.on_exchange_needed(arrival, asked, missed, out);
         }
         match self.put_usable(arrival, asked, out) {
             Ok(()) => {
@@ -207,7 +253,7 @@ impl<S: Store + Drop> State<S> {
                 self.store.touch(&asked.key);
                 Ok(report)
             }
-            Err(miss) => self.on_miss(arrival, asked, miss, out),
+            Err(stored) => self.on_miss(arrival, asked, Missed::of(&asked.key, stored), out),
         }
     }
 
@@ -260,10 +306,10 @@ impl<S: Store + Drop> State<S> {
         &mut self,
         arrival: Arrival<'_, '_>,
         asked: &CacheQuery,
-        miss: Miss,
+        missed: Missed,
         out: &mut Datagram,
     ) -> Result<Report, OutOfMemory>
-        requires can { CanAsk arrival asked.now miss self.old }
+        requires can { CanAsk arrival asked.now missed self.old }
         requires room { self.old.setting.limits.datagram ≤ out.old.room }
         requires fits { length (of_arrival (missed_step self.old) arrival asked.now.key).bytes
             ≤ out.old.room }
@@ -272,9 +318,10 @@ impl<S: Store + Drop> State<S> {
             (of_arrival (missed_step self.old) arrival.entry asked.now.key))
             result out.old out.new self.old self.new }
     {
-        match self.under_way.exchanges().joinable(&asked.key) {
+        let exchanges = self.under_way.exchanges();
+        match exchanges.joinable_as(&asked.key, missed.digests) {
             Some(exchange) => self.on_joinable(arrival, exchange, asked, out),
-            None => self.on_exchange_needed(arrival, asked, miss, out),
+            None => self.on_exchange_needed(arrival, asked, missed, out),
         }
     }
 
@@ -309,10 +356,10 @@ impl<S: Store + Drop> State<S> {
         &mut self,
         arrival: Arrival<'_, '_>,
         asked: &CacheQuery,
-        miss: Miss,
+        missed: Missed,
         out: &mut Datagram,
     ) -> Result<Report, OutOfMemory>
-        requires can { CanAsk arrival asked.now miss self.old }
+        requires can { CanAsk arrival asked.now missed self.old }
         requires room { self.old.setting.limits.datagram ≤ out.old.room }
         requires fits { length (of_arrival (needing_step self.old) arrival asked.now.key).bytes
             ≤ out.old.room }
@@ -332,9 +379,16 @@ impl<S: Store + Drop> State<S> {
         if !self.has_room_to_open(arrival.now, arrival.from) {
             return self.overload(arrival, out);
         }
-        let copy = self.put_validating(arrival.message, asked, miss, out)?;
+        let copy = self.put_validating(arrival.message, asked, missed.stored, out)?;
         let (key, tags) = asked.copied()?;
-        self.open(arrival, NewExchange { key, tags, copy }, out)
+        let digests = missed.digests;
+        let exchange = NewExchange {
+            key,
+            digests,
+            tags,
+            copy,
+        };
+        self.open(arrival, exchange, out)
     }
 
     /// Rewrites the forwarded request, which `out` holds, with the tag of what is stored for the
@@ -537,6 +591,7 @@ impl<S: Store + Drop> State<S> {
     ) -> Result<Report, OutOfMemory>
         requires reply { CanReplyTo arrival self.old }
         requires tags { exchange.tags ≡ tags_of arrival.message.now }
+        requires digests { exchange.digests ≡ digests_of exchange.key }
         requires copy { exchange.copy
             ≡ copy_of self.old.setting.limits.datagram exchange.key.target arrival.message.now
             (held_for self.old arrival.message.now exchange.key) }
@@ -554,20 +609,28 @@ impl<S: Store + Drop> State<S> {
             (of_arrival (opening_step self.old) arrival.entry exchange.key))
             result out.old out.new self.old self.new }
     {
-        let NewExchange { key, tags, copy } = exchange;
+        let NewExchange {
+            key,
+            digests,
+            tags,
+            copy,
+        } = exchange;
         let form = Seq::from_slice(self.alloc, out.bytes())?;
-        let to_get = is_get(arrival.message.code());
-        let client = arrival.from;
-        let Ok(number) = self
-            .under_way
-            .open(client, key, to_get, form, copy, arrival.now)
-        else {
+        let opening = Opening {
+            client: arrival.from,
+            key,
+            digests,
+            is_get: is_get(arrival.message.code()),
+            form,
+            copy,
+            now: arrival.now,
+        };
+        let Ok(number) = self.under_way.open(opening) else {
             return Err(OutOfMemory);
         };
-        let (kind, token) = (arrival.message.kind(), Token::new(arrival.message.token()));
         if self
             .under_way
-            .join(arrival.from, kind, token, tags, number)
+            .join(joining_of(arrival, tags, number))
             .is_err()
         {
             self.under_way.withdraw_exchange();
@@ -598,10 +661,9 @@ impl<S: Store + Drop> State<S> {
             (of_arrival (joins self.old) arrival.entry exchange))
             result out.old out.new self.old self.new }
     {
-        let (kind, token) = (arrival.message.kind(), Token::new(arrival.message.token()));
         if self
             .under_way
-            .join(arrival.from, kind, token, tags, exchange)
+            .join(joining_of(arrival, tags, exchange))
             .is_err()
         {
             return Err(OutOfMemory);

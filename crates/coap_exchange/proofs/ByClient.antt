@@ -11,10 +11,9 @@ use Rattle.coap_exchange.specs.declared.exchange.Change.TheVariants as change
 use Rattle.coap_exchange.specs.Clients.{AreOfClients, AreWithin, Clients, count_of, one_of}
 use Rattle.coap_exchange.specs.Exchanges.{changed_by, is_changed_with, tainted_by}
 use Rattle.coap_exchange.specs.Endpoints.{one_if_at}
-use Rattle.coap_exchange.specs.Table.{Numbered, Table, IsTable, admitted_to, all_changed, changed_at, count, item_at, passes, without, withdrawn}
-use Rattle.coap_exchange.proofs.Counts.{one_if, count-all_changed, count-kept, count-push, count-without, count-withdrawn}
+use Rattle.coap_exchange.specs.Table.{Numbered, Table, IsTable, admitted_to, all_changed, changed_at, count, item_at, passes, without}
+use Rattle.coap_exchange.proofs.Counts.{one_if, count-all_changed, count-kept, count-push, count-without}
 use Rattle.coap_exchange.proofs.Orders.{one-same}
-use Rattle.coap_exchange.proofs.Tables.{withdrawn-per_client}
 
 module _ {A : Type 0} (who : A → Endpoint) where
   -- the item is this client's
@@ -42,10 +41,6 @@ module _ {A : Type 0} (who : A → Endpoint) where
   pub of_clients-without : (n : ℕ) (t : Table A) (old new : Clients) → IsTable t → ((e : Endpoint) → count_of new e ≡ count_of old e - one_of (option_map who (item_at n t.items)) e) → AreOfClients whose t.items old → AreOfClients whose (without n t.items) new
   of_clients-without n t old new is less are = λ e. omega (arith, less e, of-found (item_at n t.items) e, are e, count-without (whose e) n 0 t.items is.rising)
 
-  -- the last is withdrawn
-  pub of_clients-withdrawn : (t : Table A) (old new : Clients) → IsTable t → ((e : Endpoint) → count_of new e ≡ count_of old e - one_of (option_map who (item_at t.admitted t.items)) e) → AreOfClients whose t.items old → AreOfClients whose (withdrawn t).items new
-  of_clients-withdrawn t old new is less are = λ e. omega (arith, less e, of-found (item_at t.admitted t.items) e, are e, count-withdrawn (whose e) t is)
-
   -- one is changed, and stays its client's
   pub of_clients-changed : (n : ℕ) (f : A → A) (xs : List (Numbered A)) (counts : Clients) → ((x : A) → who (f x) ≡ who x) → AreOfClients whose xs counts → AreOfClients whose (changed_at n f xs) counts
   of_clients-changed n f xs counts stays are = λ e. are e ∙ sym (count-kept (whose e) n f xs (λ x. ap (λ (c : Endpoint). same_endpoint c e) (stays x)))
@@ -67,10 +62,6 @@ module _ {A : Type 0} (who : A → Endpoint) where
   -- one is closed
   pub within-without : (n : ℕ) (t : Table A) → IsTable t → AreWithin whose t → AreWithin whose (record t { items = without n t.items })
   within-without n t is are = λ e. omega (arith, count-without (whose e) n 0 t.items is.rising, are e)
-
-  -- the last is withdrawn
-  pub within-withdrawn : (t : Table A) → IsTable t → AreWithin whose t → AreWithin whose (withdrawn t)
-  within-withdrawn t is are = λ e. omega (arith, count-withdrawn (whose e) t is, are e, withdrawn-per_client t)
 
   -- one is changed, and stays its client's
   pub within-changed : (n : ℕ) (f : A → A) (t : Table A) → ((x : A) → who (f x) ≡ who x) → AreWithin whose t → AreWithin whose (record t { items = changed_at n f t.items })

@@ -3,7 +3,7 @@ use Rattle.std.proofs.Common.{◌≡◌, ℕ, ◌+◌, ◌≤◌, List, [], ◌�
 use Rattle.std.specs.Prelude.{not, IfSome}
 use Rattle.std.specs.List.{AllByRecursion}
 use Rattle.std.proofs.lemmas.Bool.{eqb-true, eqb-false, eq-eqb, ne_eqb}
-use Rattle.coap_exchange.specs.Table.{Numbered, Table, IsRising, IsTable, item_at, without, withdrawn_at, withdrawn, changed_at, all_changed, count, passes}
+use Rattle.coap_exchange.specs.Table.{Numbered, Table, IsRising, IsTable, item_at, without, changed_at, all_changed, count, passes}
 use Rattle.coap_exchange.proofs.Changes.{changed_at-below}
 use Rattle.coap_exchange.proofs.Tables.{none-below}
 
@@ -98,14 +98,6 @@ module _ {A : Type 0} (test : A → Bool) where
           let turned : eqb n x.0 ≡ false = ne_eqb n x.0 (λ g. eqb-false x.0 n t (sym g)) in
           rw (t, turned) (omega arith)
 
-  -- so is one that is withdrawn
-  pub count-withdrawn : (t : Table A) → IsTable t → count test (withdrawn t).items + one_if (passes test (item_at t.admitted t.items)) ≡ count test t.items
-  count-withdrawn t is = go (item_at t.admitted t.items) refl
-    where
-      go : (o : Option A) → item_at t.admitted t.items ≡ o → count test (withdrawn_at o t).items + one_if (passes test o) ≡ count test t.items
-      go None e = omega arith
-      go (Some x) e = rw e at (count-without t.admitted 0 t.items is.rising)
-
 -- ---- what holds of all
 
 module _ {A : Type 0} (P : A → Type 0) where
@@ -144,10 +136,3 @@ module _ {A : Type 0} (P : A → Type 0) where
       go : (b : Bool) → AllItems (without n xs) → AllItems (cond (not b) (x ∷ without n xs) (without n xs))
       go true rest = rest
       go false rest = (all.0, rest)
-
-  pub all-withdrawn : (t : Table A) → AllItems t.items → AllItems (withdrawn t).items
-  all-withdrawn t all = go (item_at t.admitted t.items)
-    where
-      go : (o : Option A) → AllItems (withdrawn_at o t).items
-      go None = all
-      go (Some x) = all-without t.admitted t.items all

@@ -1,6 +1,5 @@
 -- How many exchanges there are with each endpoint, as they come, change and go.
 use Rattle.std.proofs.Common.{◌≡◌, ℕ, ◌+◌, ◌-◌, ◌<◌, ◌≤◌, ◌&&◌, List, [], ◌∷◌, ◌++◌, length, Bool, true, false, cond, Option, Some, None, refl, sym, ap, ◌∙◌, arith}
-use Rattle.std.specs.Prelude.{IfSome}
 use Rattle.coap_endpoint.specs.declared.endpoint.Endpoint.{Endpoint}
 use Rattle.coap_endpoint.specs.Endpoint.{same_endpoint}
 use Rattle.coap_endpoint.proofs.Equality.{Tells-endpoint}
@@ -9,10 +8,11 @@ use Rattle.coap_exchange.specs.declared.exchange.Exchange.{Exchange}
 use Rattle.coap_exchange.specs.declared.exchange.Change.{Change}
 use Rattle.coap_exchange.specs.declared.exchange.Change.TheVariants as change
 use Rattle.coap_exchange.specs.Exchanges.{changed_by, is_queued, is_sent, is_sent_to, tainted_by, is_changed_with}
-use Rattle.coap_exchange.specs.Table.{Numbered, Table, IsTable, item_at, without, withdrawn, changed_at, all_changed, count, passes}
+use Rattle.coap_exchange.specs.Table.{Numbered, Table, IsTable, item_at, without, all_changed, count, passes}
+use Rattle.coap_exchange.specs.Updates.{updated, Allows}
 use Rattle.coap_exchange.specs.Endpoints.{AreCounted, is_queued_to, is_with, sends, is_one, Endpoints, open_in, open_of, queued_in, sent_in, one_if_at}
 use Rattle.coap_endpoint.specs.declared.target.Target.{Target}
-use Rattle.coap_exchange.proofs.Counts.{one_if, count-push, count-changed_at, count-kept, count-less, count-moved, count-all_changed, count-without, count-withdrawn, count-length}
+use Rattle.coap_exchange.proofs.Counts.{one_if, count-push, count-less, count-all_changed, count-without, count-length}
 use Rattle.coap_exchange.proofs.Orders.{one-only, one-same}
 
 -- a number of one endpoint becomes another
@@ -67,14 +67,6 @@ put-less f old new at w less puts same e = put-at f old new at w less 0 puts (om
 pub put-same : {V : Type 0} (f : Option V → ℕ) (old new : Endpoint → Option V) (at : Endpoint) (w : Option V) → ((q : Endpoint) → new q ≡ cond (is_one at q) w (old q)) → f w ≡ f (old at)
     → (e : Endpoint) → f (new e) ≡ f (old e)
 put-same f old new at w puts same e = put-less f old new at w 0 puts (omega arith) e ∙ no-less (is_one at e) (f (old e))
-
--- the same, of a number alone
-pub set-less : (g h : Endpoint → ℕ) (at : Endpoint) (now less : ℕ) → ((e : Endpoint) → h e ≡ cond (is_one at e) now (g e)) → now ≡ g at - less → (e : Endpoint) → h e ≡ g e - cond (is_one at e) less 0
-set-less g h at now less sets same e = moved-at at e g (h e) now less 0 (sets e) (omega arith) ∙ no-more (is_one at e) (g e - cond (is_one at e) less 0)
-
--- the same where it stays
-pub set-same : (g h : Endpoint → ℕ) (at : Endpoint) (now : ℕ) → ((e : Endpoint) → h e ≡ cond (is_one at e) now (g e)) → now ≡ g at → (e : Endpoint) → h e ≡ g e
-set-same g h at now sets same e = set-less g h at now 0 sets (omega arith) e ∙ no-less (is_one at e) (g e)
 
 -- of what is counted there is something
 pub some-counted : (o : Option EndpointCounts) → 0 < open_of o → o ≡ None → ⊥
@@ -169,24 +161,6 @@ queued-few endpoints xs e are = let few = count-length (is_queued_to e) xs in le
 pub sent-few : (endpoints : Endpoints) (xs : List (Numbered Exchange)) (e : Endpoint) → AreCounted xs endpoints → sent_in endpoints e ≤ length xs
 sent-few endpoints xs e are = let few = count-length (is_sent_to e) xs in let s = are.sent e in omega arith
 
--- one goes
-pub counted-without : (n : ℕ) (t : Table Exchange) (old new : Endpoints) → IsTable t → AreCounted t.items old
-    → ((e : Endpoint) → open_in new e + one_if (passes (is_with e) (item_at n t.items)) ≡ open_in old e) → ((e : Endpoint) → sent_in new e + one_if (passes (is_sent_to e) (item_at n t.items)) ≡ sent_in old e) → ((e : Endpoint) → queued_in new e + one_if (passes (is_queued_to e) (item_at n t.items)) ≡ queued_in old e) → AreCounted (without n t.items) new
-counted-without n t old new is are all sent queued = record {
-  all = λ e. (let counted = count-without (is_with e) n 0 t.items is.rising in let was = are.all e in let now = all e in omega arith);
-  sent = λ e. (let counted = count-without (is_sent_to e) n 0 t.items is.rising in let was = are.sent e in let now = sent e in omega arith);
-  queued = λ e. (let counted = count-without (is_queued_to e) n 0 t.items is.rising in let was = are.queued e in let now = queued e in omega arith);
-}
-
--- the last is withdrawn
-pub counted-withdrawn : (t : Table Exchange) (old new : Endpoints) → IsTable t → AreCounted t.items old
-    → ((e : Endpoint) → open_in new e + one_if (passes (is_with e) (item_at t.admitted t.items)) ≡ open_in old e) → ((e : Endpoint) → sent_in new e + one_if (passes (is_sent_to e) (item_at t.admitted t.items)) ≡ sent_in old e) → ((e : Endpoint) → queued_in new e + one_if (passes (is_queued_to e) (item_at t.admitted t.items)) ≡ queued_in old e) → AreCounted (withdrawn t).items new
-counted-withdrawn t old new is are all sent queued = record {
-  all = λ e. (let counted = count-withdrawn (is_with e) t is in let was = are.all e in let now = all e in omega arith);
-  sent = λ e. (let counted = count-withdrawn (is_sent_to e) t is in let was = are.sent e in let now = sent e in omega arith);
-  queued = λ e. (let counted = count-withdrawn (is_queued_to e) t is in let was = are.queued e in let now = queued e in omega arith);
-}
-
 -- what is closed for an item leaves the counts of the others
 pub left : (x : Exchange) (o : Option Exchange) (old new : Endpoint → ℕ) (test : Endpoint → Exchange → Bool) (one : Endpoint → ℕ) → o ≡ Some x → ((e : Endpoint) → one e ≡ one_if (test e x)) → ((e : Endpoint) → new e ≡ old e - one e) → ((e : Endpoint) → one_if (passes (test e) o) ≤ old e)
     → (e : Endpoint) → new e + one_if (passes (test e) o) ≡ old e
@@ -234,22 +208,11 @@ sent-after ch e x =
     ∙ ap (λ (b : Bool). one_if (b && same_endpoint x.key.target.at e)) (sym (sends-is ch x))
     ∙ ap (λ (b : Bool). one_if (is_sent (changed_by ch x) && b)) (sym (same-with ch e x))
 
--- one changes
-pub counted-changed : (n : ℕ) (ch : Change) (t : Table Exchange) (old new : Endpoints) → IsTable t → AreCounted t.items old
-    → ((e : Endpoint) → open_in new e ≡ open_in old e)
-    → ((e : Endpoint) → sent_in new e + one_if (passes (is_sent_to e) (item_at n t.items)) ≡ sent_in old e + one_if (passes (λ x. is_sent_to e (changed_by ch x)) (item_at n t.items)))
-    → IfSome (item_at n t.items) (λ x. is_queued (changed_by ch x) ≡ false)
-    → ((e : Endpoint) → queued_in new e + one_if (passes (is_queued_to e) (item_at n t.items)) ≡ queued_in old e)
-    → AreCounted (changed_at n (changed_by ch) t.items) new
-counted-changed n ch t old new is are all sent off queued = record {
-  all = λ e. all e ∙ are.all e ∙ sym (count-kept (is_with e) n (changed_by ch) t.items (same-with ch e));
-  sent = λ e. (let counted = count-moved (is_sent_to e) n 0 (changed_by ch) t.items is.rising in let was = are.sent e in let now = sent e in omega arith);
-  queued = λ e. (let counted = count-changed_at (is_queued_to e) n 0 (changed_by ch) t.items is.rising (no-more-queued e (item_at n t.items) off) in let was = are.queued e in let now = queued e in omega arith);
-}
-  where
-    no-more-queued : (e : Endpoint) (o : Option Exchange) → IfSome o (λ x. is_queued (changed_by ch x) ≡ false) → IfSome o (λ x. is_queued_to e (changed_by ch x) ≡ false)
-    no-more-queued e None f = tt
-    no-more-queued e (Some x) f = ap (λ (b : Bool). b && same_endpoint (changed_by ch x).key.target.at e) f
+-- what is updated waits for its turn with no endpoint
+pub off-queue : (change : Option Change) (o : Option Exchange) (e : Endpoint) → Allows (λ c x. is_queued (changed_by c x) ≡ false) change o → passes (is_queued_to e) (updated changed_by change o) ≡ false
+off-queue None o e off = refl
+off-queue (Some c) None e off = refl
+off-queue (Some c) (Some x) e off = ap (λ (b : Bool). b && same_endpoint (changed_by c x).key.target.at e) off
 
 -- a taint leaves the endpoint
 same-taint : (target : Target) (e : Endpoint) (x : Exchange) → is_with e (tainted_by target x) ≡ is_with e x

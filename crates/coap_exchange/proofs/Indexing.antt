@@ -111,9 +111,6 @@ module _ {A : Type 0} (key_of : A → Option ℕ) where
       go None = refl
       go (Some o) = refl
 
-  pub empty-is : (limit : ℕ) → IsIndexOf key_of [] limit (empty_index limit)
-  empty-is limit = record { members = λ o n. refl; length = refl; limit = refl }
-
   -- there is room for what an item comes to be
   pub can-pass : (n limit : ℕ) (xs ys : List (Numbered A)) (index : OrderedIndex) → Moves n xs ys → length ys ≤ limit → IsIndexOf key_of xs limit index → CanRekey index n (key_at key_of (item_at n xs)) (key_at key_of (item_at n ys))
   can-pass n limit xs ys index moves few is = record {
@@ -149,18 +146,6 @@ module _ {A : Type 0} (key_of : A → Option ℕ) where
       go o q false e = is.members o q ∙ ap (λ (p : Option A). is_key o (key_at key_of p)) (sym (moves.others q e))
 
 -- ---- what an index keeps
-
-pub empty-indexed : (limit : ℕ) (index : Index) → index.ids ≡ empty_index limit → index.dones ≡ empty_index limit → index.openings ≡ empty_index limit → index.ends ≡ empty_index limit → index.queues ≡ empty_index limit → index.cache_keys ≡ empty_index limit → index.targets ≡ empty_index limit → AreIndexed [] limit index
-empty-indexed limit index a z b c q d e = record {
-  rising = tt;
-  ids = rw a (empty-is id_of limit);
-  dones = rw z (empty-is got_of limit);
-  openings = rw b (empty-is opening_of limit);
-  ends = rw c (empty-is end_of limit);
-  queues = rw q (empty-is queue_of limit);
-  cache_keys = rw d (empty-is cache_key_of limit);
-  targets = rw e (empty-is target_of limit);
-}
 
 pub all-can-pass : (n limit : ℕ) (xs ys : List (Numbered Exchange)) (index : Index) → Moves n xs ys → length ys ≤ limit → AreIndexed xs limit index → CanRekeyAll index n (keys_at (item_at n xs)) (keys_at (item_at n ys))
 all-can-pass n limit xs ys index moves few is = record {

@@ -17,7 +17,7 @@ use Rattle.coap_exchange.specs.Exchanges.{changed_by, is_changed_with, is_queued
 use Rattle.coap_exchange.specs.Index.{turn_among}
 use Rattle.coap_exchange.specs.Endpoints.{is_queued_to}
 use Rattle.ordered_index.specs.Ordered.{Pair, OrderedIndex, is_in, one_of, AreRising, IsReplaced}
-use Rattle.coap_exchange.specs.Table.{Numbered, Table, IsRising, IsTable, admitted_to, all_changed, changed_at, count, item_at, passes, withdrawn, withdrawn_at, without}
+use Rattle.coap_exchange.specs.Table.{Numbered, Table, IsRising, IsTable, admitted_to, all_changed, changed_at, count, item_at, passes, without}
 use Rattle.coap_exchange.specs.SendQueue.{head_at, head_in, endpoint_in, noted, AreInOrder, AreHeads, IsSendQueue, IsLowestUnder}
 use Rattle.coap_exchange.proofs.Apart.{apart-fewer, rising-apart}
 use Rattle.coap_exchange.proofs.Counts.{count-all_changed}
@@ -58,14 +58,6 @@ moved-kept n xs ys moves here = λ q y f. go q y f (eqb q n) refl
 -- one goes
 pub kept-without : (n : ℕ) (xs : List (Numbered Exchange)) → Moves n xs (without n xs) → AreKept xs (without n xs)
 kept-without n xs moves = moved-kept n xs (without n xs) moves (λ y f. absurd (let gone = without-gone n xs in cc))
-
--- the last is withdrawn
-pub kept-withdrawn : (t : Table Exchange) → Moves t.admitted t.items (withdrawn t).items → AreKept t.items (withdrawn t).items
-kept-withdrawn t moves = go (item_at t.admitted t.items) moves
-  where
-    go : (o : Option Exchange) → Moves t.admitted t.items (withdrawn_at o t).items → AreKept t.items (withdrawn_at o t).items
-    go None m = λ q y f. (y, f, refl)
-    go (Some a) m = kept-without t.admitted t.items m
 
 -- what is made of an item is of one
 made-of : (f : Exchange → Exchange) → ((x : Exchange) → (f x).admitted ≡ x.admitted) → (o : Option Exchange) (y : Exchange) → option_map f o ≡ Some y → (x : Exchange) × (o ≡ Some x) × (x.admitted ≡ y.admitted)
@@ -311,10 +303,6 @@ module _ (n : ℕ) (xs ys : List (Numbered Exchange)) (at : Option Endpoint) (mo
   -- the head that comes doesn't stand in the index, unless it was there
   pub send_queue-free : IfSome (head_in ys at) (λ p. is_in p send_queue.heads.pairs ≡ true → head_in xs at ≡ Some p)
   send_queue-free = replaced-free n xs ys at moves rx ry wx wy send_queue.heads are.heads
-
-  -- the one that was does
-  pub send_queue-there : IfSome (head_in xs at) (λ p. is_in p send_queue.heads.pairs ≡ true)
-  send_queue-there = replaced-there n xs ys at moves rx ry wx wy send_queue.heads are.heads
 
   -- there is room for it
   pub send_queue-room : passes is_queued (item_at n ys) ≡ false → length send_queue.heads.pairs + one_of (head_in ys at) ≤ send_queue.heads.limit + one_of (head_in xs at)

@@ -195,14 +195,6 @@ ready-at : (t : Tables) (a : Option ℕ) (p : Pair) → ready_in t a ≡ Some p 
 ready-at t None p f = absurd cc
 ready-at t (Some e) p f = (e, refl, f)
 
--- what is ready for an exchange is among them
-pub ready-among : (t : Tables) (index : OrderedIndex) → AreReady t index → (at : Option ℕ) → IfSome (ready_in t at) (λ p. is_in p index.pairs ≡ true)
-ready-among t index are at = go (ready_in t at) refl
-  where
-    go : (o : Option Pair) → ready_in t at ≡ o → IfSome o (λ p. is_in p index.pairs ≡ true)
-    go None f = tt
-    go (Some p) f = let (e, a, h) = ready-at t at p f in are.all e p h
-
 -- what is ready for the exchanges other than one stays
 abbrev pub AreElsewhere : Tables → Tables → Option ℕ → Type 0
 AreElsewhere old new at = (e : ℕ) → (at ≡ Some e → ⊥) → ready_at new e ≡ ready_at old e
@@ -432,11 +424,6 @@ got-tainted target x = go (is_changed_with target x)
     go false = refl
 
 -- ---- for whom a waiter waits when it changes
-
--- who is served waits no more
-pub waits-delivered : (at : Option ℕ) (bytes : List ℕ) (id : ℕ) (timer : Timer) (o : Option Waiter) → WaitsAt at (option_map (delivered bytes id timer) o)
-waits-delivered at bytes id timer None = tt
-waits-delivered at bytes id timer (Some w) = tt
 
 -- who is gone neither
 pub waits-gone : (at : Option ℕ) (o : Option Waiter) → o ≡ None → WaitsAt at o

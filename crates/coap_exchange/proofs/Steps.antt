@@ -4,10 +4,11 @@ use Rattle.coap_exchange.specs.declared.waiter_index.WaiterIndex.{WaiterIndex}
 use Rattle.coap_exchange.specs.declared.waiter.Waiter.{Waiter}
 use Rattle.coap_exchange.specs.Answered.{awaited_of}
 use Rattle.coap_exchange.specs.WaiterIndex.{end_of, id_of, waiter_keys_at, AreWaitersIndexed, CanRekeyWaiter, HaveRekeyedWaiter}
-use Rattle.coap_exchange.specs.Table.{Table, IsTable, item_at, admitted_to, without, withdrawn, changed_at}
-use Rattle.coap_exchange.proofs.Changes.{changed_at-is}
-use Rattle.coap_exchange.proofs.Indexing.{Moves, moves-admitted, moves-changed, moves-without, moves-withdrawn, can-pass, has-passed}
-use Rattle.coap_exchange.proofs.Tables.{admitted-is, closed-is, withdrawn-is, withdrawn-limit}
+use Rattle.coap_exchange.specs.Table.{Table, IsTable, item_at, admitted_to}
+use Rattle.coap_exchange.specs.Updates.{updated_at}
+use Rattle.coap_exchange.proofs.Indexing.{Moves, moves-admitted, can-pass, has-passed}
+use Rattle.coap_exchange.proofs.Tables.{admitted-is}
+use Rattle.coap_exchange.proofs.Updating.{moves-updated, updated-is}
 
 -- only the item of one number comes, changes or goes
 pub record IsStep {A : Type 0} (n : ℕ) (old new : Table A) : Type 0 where
@@ -16,22 +17,9 @@ pub record IsStep {A : Type 0} (n : ℕ) (old new : Table A) : Type 0 where
   pub within : length new.items ≤ old.limit
 
 module _ {A : Type 0} (t : Table A) (is : IsTable t) where
-  -- an item changes
-  pub step-changed_at : (n : ℕ) (f : A → A) → IsStep n t (record t { items = changed_at n f t.items })
-  step-changed_at n f = record { moves = moves-changed n f t is; limit = refl; within = (changed_at-is n f t is).within }
-
-  -- an item goes
-  pub step-without : (n : ℕ) → IsStep n t (record t { items = without n t.items })
-  step-without n = record { moves = moves-without n t is; limit = refl; within = (closed-is n t is).within }
-
-  -- the last goes, if it is there
-  pub step-withdrawn : IsStep t.admitted t (withdrawn t)
-  step-withdrawn =
-      record {
-        moves = moves-withdrawn t is;
-        limit = withdrawn-limit t;
-        within = let within = (withdrawn-is t is).within in let limit = withdrawn-limit t in omega arith;
-      }
+  -- an item changes or goes
+  pub step-updated : {C : Type 0} (made : C → A → A) (change : Option C) (n : ℕ) → IsStep n t (record t { items = updated_at made change n t.items })
+  step-updated made change n = record { moves = moves-updated made n t is change; limit = refl; within = (updated-is made n t is change).within }
 
   -- an item comes
   pub step-admitted : (a : A) → length t.items + 1 ≤ t.limit → IsStep (t.admitted + 1) t (admitted_to a t)

@@ -8,9 +8,9 @@ use Rattle.coap_exchange.specs.declared.exchange.Change.{Change}
 use Rattle.coap_exchange.specs.declared.exchange.Change.TheVariants as change
 use Rattle.coap_exchange.specs.declared.exchange.Sending.{Sending}
 use Rattle.coap_exchange.specs.Exchanges.{changed_by, fired_option, is_changed_with, is_queued, is_timely, tainted_by, AreExchanges, CanChange, CanFire, HasEnded, IsFireDue, IsSendingShort}
-use Rattle.coap_exchange.specs.Table.{Numbered, Table, IsTable, item_at, without, withdrawn, changed_at, all_changed, passes}
+use Rattle.coap_exchange.specs.Table.{Numbered, Table, IsTable, item_at, without, changed_at, all_changed, passes}
 use Rattle.coap_exchange.proofs.Schedule.{fired-short, first-short, short-bound}
-use Rattle.coap_exchange.proofs.Counts.{one_if, count-push, count-changed_at, count-all_changed, count-without, count-withdrawn, all-at, all-push, all-changed_at, all-all_changed, all-without, all-withdrawn}
+use Rattle.coap_exchange.proofs.Counts.{one_if, count-push, count-changed_at, count-all_changed, count-without, all-at, all-push, all-changed_at, all-all_changed, all-without}
 
 -- its moment is no greater than moments are
 abbrev IsTimely : Exchange → Type 0
@@ -77,14 +77,6 @@ exchanges-without n xs queued more t same is are fewer =
     let counted = count-without is_queued n 0 xs rising in
     let q = are.queued in
     record { queued = omega arith; timely = all-without IsTimely n xs are.timely; short = all-without HasShort n xs are.short }
-
--- the last is withdrawn
-pub exchanges-withdrawn : (t : Table Exchange) (queued more : ℕ) → IsTable t → AreExchanges t.items queued
-    → more + one_if (passes is_queued (item_at t.admitted t.items)) ≡ queued → AreExchanges (withdrawn t).items more
-exchanges-withdrawn t queued more is are fewer =
-    let counted = count-withdrawn is_queued t is in
-    let q = are.queued in
-    record { queued = omega arith; timely = all-withdrawn IsTimely t are.timely; short = all-withdrawn HasShort t are.short }
 
 -- a queued one is taken in
 pub exchanges-push : (xs : List (Numbered Exchange)) (queued : ℕ) (x : Numbered Exchange) → is_queued x.1 ≡ true → x.1.admitted ≤ 2 ^ 62 → x.1.sending ≡ None → AreExchanges xs queued → AreExchanges (xs ++ x ∷ []) (queued + 1)

@@ -6,16 +6,16 @@ use Rattle.coap_exchange.specs.declared.timer.Timer.{Timer}
 use Rattle.coap_exchange.specs.declared.waiter.Waiter.{Waiter}
 use Rattle.coap_exchange.specs.declared.waiter.WaiterState.{WaiterState}
 use Rattle.coap_exchange.specs.declared.waiter.WaiterState.TheVariants.{Waiting, Delivering}
-use Rattle.coap_exchange.specs.Table.{Numbered, Table, IsTable, item_at, without, withdrawn, changed_at, count, passes}
+use Rattle.coap_exchange.specs.Table.{Numbered, item_at, without, changed_at, count, passes}
 use Rattle.coap_exchange.specs.Tally.{AreTallied}
 use Rattle.coap_exchange.specs.Answered.{awaited_of}
 use Rattle.coap_exchange.specs.Index.{key_at}
 use Rattle.ordered_index.specs.Ordered.{Pair, is_key, many_of}
-use Rattle.std.specs.Option.{option_map}
-use Rattle.coap_exchange.specs.Waiters.{awaited_by, delivered, exchange_of, fired_state, fired_waiter, is_waiting, is_waiting_state, waits_for, waits_in_state, AreShort, CanChange, CanFire, HasEnded, IsDue, IsStateShort}
+use Rattle.coap_exchange.specs.Waiters.{awaited_by, delivered, exchange_of, fired_state, fired_waiter, waits_for, waits_in_state, AreShort, CanChange, CanFire, HasEnded, IsDue, IsStateShort}
 use Rattle.coap_exchange.specs.declared.waiter.WaiterChange.TheVariants.{Fire as fire}
 use Rattle.coap_exchange.proofs.Schedule.{fired-short, first-short, short-bound}
-use Rattle.coap_exchange.proofs.Counts.{one_if, all-at, all-push, all-changed_at, all-without, all-withdrawn, count-push, count-kept, count-without, count-withdrawn, count-changed_at}
+use Rattle.coap_exchange.proofs.Counts.{one_if, all-at, all-push, all-changed_at, all-without}
+use Rattle.coap_exchange.proofs.Indexing.{Moves}
 
 -- equality goes both ways
 turned : (a b : ℕ) → eqb a b ≡ eqb b a
@@ -24,20 +24,6 @@ turned a b = go (eqb a b) refl
     go : (t : Bool) → eqb a b ≡ t → eqb a b ≡ eqb b a
     go true e = e ∙ sym (eq-eqb b a (sym (eqb-true a b e)))
     go false e = e ∙ sym (ne_eqb b a (λ f. eqb-false a b e (sym f)))
-
--- who is sent the response waits no more
-pub delivered-off : (bytes : List ℕ) (id : ℕ) (timer : Timer) (o : Option Waiter) → IfSome o (λ w. is_waiting (delivered bytes id timer w) ≡ false)
-delivered-off bytes id timer None = tt
-delivered-off bytes id timer (Some w) = refl
-
--- a firing leaves who waits
-fired-same : (now : ℕ) (s : WaiterState) → is_waiting_state (fired_state now s) ≡ is_waiting_state s
-fired-same now (Waiting e) = refl
-fired-same now (Delivering bytes id timer) = refl
-
--- a timer makes no one wait
-pub fired-waiting : (now : ℕ) (w : Waiter) → is_waiting (fired_waiter now w) ≡ is_waiting w
-fired-waiting now w = fired-same now w.state
 
 -- a waiter waits for its exchange alone
 pub passes-awaited : (e x : ℕ) (o : Option Waiter) → awaited_by o ≡ Some x → passes (waits_for e) o ≡ eqb x e
@@ -80,52 +66,9 @@ counted-step xs ys old new was is are have counted = λ e.
     let all = counted e in
     omega arith
 
--- one more waits
-pub tallied-push : (xs : List (Numbered Waiter)) (old new : List Pair) (w : Numbered Waiter) → AreTallied xs old → HaveCounted old new None (Some w.1) → AreTallied (xs ++ w ∷ []) new
-tallied-push xs old new w are have = counted-step xs (xs ++ w ∷ []) old new None (Some w.1) are have (λ e. let counted = count-push (waits_for e) xs w in omega arith)
-
--- one is taken out
-pub tallied-without : (n : ℕ) (t : Table Waiter) (old new : List Pair) → IsTable t → AreTallied t.items old → HaveCounted old new (item_at n t.items) None → AreTallied (without n t.items) new
-tallied-without n t old new is are have = counted-step t.items (without n t.items) old new (item_at n t.items) None are have (λ e. let counted = count-without (waits_for e) n 0 t.items is.rising in omega arith)
-
--- the last is withdrawn
-pub tallied-withdrawn : (t : Table Waiter) (old new : List Pair) → IsTable t → AreTallied t.items old → HaveCounted old new (item_at t.admitted t.items) None → AreTallied (withdrawn t).items new
-tallied-withdrawn t old new is are have = counted-step t.items (withdrawn t).items old new (item_at t.admitted t.items) None are have (λ e. let counted = count-withdrawn (waits_for e) t is in omega arith)
-
--- who is served waits no more
-delivered-for : (e : ℕ) (bytes : List ℕ) (id : ℕ) (timer : Timer) (o : Option Waiter) → IfSome o (λ w. waits_for e (delivered bytes id timer w) ≡ false)
-delivered-for e bytes id timer None = tt
-delivered-for e bytes id timer (Some w) = refl
-
--- one is sent the response
-pub tallied-delivered : (n : ℕ) (bytes : List ℕ) (id : ℕ) (timer : Timer) (t : Table Waiter) (old new : List Pair) → IsTable t → AreTallied t.items old → HaveCounted old new (item_at n t.items) (option_map (delivered bytes id timer) (item_at n t.items)) → AreTallied (changed_at n (delivered bytes id timer) t.items) new
-tallied-delivered n bytes id timer t old new is are have = counted-step t.items (changed_at n (delivered bytes id timer) t.items) old new (item_at n t.items) (option_map (delivered bytes id timer) (item_at n t.items)) are have (λ e.
-    let counted = count-changed_at (waits_for e) n 0 (delivered bytes id timer) t.items is.rising (delivered-for e bytes id timer (item_at n t.items)) in
-    let none = ap one_if (off e (item_at n t.items)) in
-    omega arith)
-  where
-    off : (e : ℕ) (o : Option Waiter) → passes (waits_for e) (option_map (delivered bytes id timer) o) ≡ false
-    off e None = refl
-    off e (Some w) = refl
-
--- a firing leaves for what one waits
-fired-for : (e now : ℕ) (w : Waiter) → waits_for e (fired_waiter now w) ≡ waits_for e w
-fired-for e now w = go w.state
-  where
-    go : (s : WaiterState) → waits_in_state e (fired_state now s) ≡ waits_in_state e s
-    go (Waiting n) = refl
-    go (Delivering bytes id timer) = refl
-
--- a timer is due
-pub tallied-fired : (n now : ℕ) (xs : List (Numbered Waiter)) (old new : List Pair) → AreTallied xs old → HaveCounted old new (item_at n xs) (option_map (fired_waiter now) (item_at n xs)) → AreTallied (changed_at n (fired_waiter now) xs) new
-tallied-fired n now xs old new are have = counted-step xs (changed_at n (fired_waiter now) xs) old new (item_at n xs) (option_map (fired_waiter now) (item_at n xs)) are have (λ e.
-    let counted = count-kept (waits_for e) n (fired_waiter now) xs (fired-for e now) in
-    let same = ap one_if (stays e (item_at n xs)) in
-    omega arith)
-  where
-    stays : (e : ℕ) (o : Option Waiter) → passes (waits_for e) (option_map (fired_waiter now) o) ≡ passes (waits_for e) o
-    stays e None = refl
-    stays e (Some w) = fired-for e now w
+-- so it does where one item is another
+pub tallied-moved : (n : ℕ) (xs ys : List (Numbered Waiter)) (old new : List Pair) → Moves n xs ys → AreTallied xs old → HaveCounted old new (item_at n xs) (item_at n ys) → AreTallied ys new
+tallied-moved n xs ys old new moves are have = counted-step xs ys old new (item_at n xs) (item_at n ys) are have (λ e. moves.counts (waits_for e))
 
 -- ---- timeouts are no longer than they come to be
 
@@ -140,10 +83,6 @@ short-push xs w x s are = let short : HasShort w.1 = rw s tt in all-push HasShor
 -- of one less
 pub short-without : (n : ℕ) (xs : List (Numbered Waiter)) → AreShort xs → AreShort (without n xs)
 short-without n xs are = all-without HasShort n xs are
-
--- of one that is withdrawn
-pub short-withdrawn : (t : Table Waiter) → AreShort t.items → AreShort (withdrawn t).items
-short-withdrawn t are = all-withdrawn HasShort t are
 
 -- of one that is served
 pub short-delivered : (n : ℕ) (bytes : List ℕ) (id : ℕ) (timer : Timer) (xs : List (Numbered Waiter)) → timer.timeout ≤ 3000 → AreShort xs → AreShort (changed_at n (delivered bytes id timer) xs)

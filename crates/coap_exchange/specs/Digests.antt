@@ -12,6 +12,7 @@ use Rattle.coap_endpoint.specs.declared.endpoint.Endpoint.{Endpoint}
 use Rattle.coap_endpoint.specs.declared.endpoint.Ip.{Ip}
 use Rattle.coap_endpoint.specs.declared.endpoint.Ip.TheVariants.{V4, V6}
 use Rattle.coap_endpoint.specs.declared.target.Target.{Target}
+use Rattle.coap_exchange.specs.declared.digests.Digests.{Digests}
 
 -- what a hasher makes of what is written into it
 abbrev pub digest_of : HashWrites → ℕ
@@ -24,6 +25,10 @@ digest_of_key key = digest_of ((keys.ghosts).hash_input key)
 -- of a target
 abbrev pub digest_of_target : Target → ℕ
 digest_of_target target = digest_of ((targets.ghosts).hash_input target)
+
+-- of both
+abbrev pub digests_of : CacheKey → Digests
+digests_of key = record { key = digest_of_key key; target = digest_of_target key.target }
 
 -- of an endpoint: an IPv4 address and a port are one number, which is spread by multiplication; of
 -- others a hasher makes one

@@ -1,5 +1,5 @@
 -- The number of exchanges with each endpoint.
-use Rattle.std.specs.Prelude.{◌≡◌, ℕ, ◌&&◌, Bool, true, false, if◌then◌else◌, List, Option, Some, None}
+use Rattle.std.specs.Prelude.{◌≡◌, ℕ, ◌+◌, ◌&&◌, Bool, true, false, if◌then◌else◌, List, Option, Some, None}
 use Rattle.coap_endpoint.specs.declared.endpoint.Endpoint.{Endpoint}
 use Rattle.coap_endpoint.specs.Endpoint.{same_endpoint}
 use Rattle.coap_exchange.specs.declared.exchange.Exchange.{Exchange}
@@ -10,7 +10,7 @@ use Rattle.coap_exchange.specs.Exchanges.{is_queued, is_sent_to}
 use Rattle.coap_exchange.specs.declared.slots.Entry.{Entry}
 use Rattle.coap_exchange.specs.Slots.{found}
 use Rattle.ordered_index.specs.Ordered.{OrderedIndex}
-use Rattle.coap_exchange.specs.Table.{Numbered, Table, count}
+use Rattle.coap_exchange.specs.Table.{Numbered, Table, count, passes}
 
 -- endpoints are equal
 abbrev pub is_one : Endpoint → Endpoint → Bool
@@ -60,6 +60,19 @@ pub record AreCounted (exchanges : List (Numbered Exchange)) (endpoints : Endpoi
   pub all : (e : Endpoint) → open_in endpoints e ≡ count (is_with e) exchanges
   pub sent : (e : Endpoint) → sent_in endpoints e ≡ count (is_sent_to e) exchanges
   pub queued : (e : Endpoint) → queued_in endpoints e ≡ count (is_queued_to e) exchanges
+
+-- what is counted by endpoint follows, where an exchange was one thing, and is another or is gone
+abbrev pub IsRecounted :
+    (Endpoint → Exchange → Bool)
+    → (Endpoint → ℕ)
+    → (Endpoint → ℕ)
+    → Option Exchange
+    → Option Exchange
+    → Type 0
+IsRecounted counts old new was is =
+    (e : Endpoint)
+    → new e + (if passes (counts e) was then 1 else 0)
+    ≡ old e + (if passes (counts e) is then 1 else 0)
 
 -- whether an exchange is in the sent state after a change, given whether it was before
 abbrev pub sends : Change → Bool → Bool

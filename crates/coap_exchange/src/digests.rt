@@ -1,6 +1,6 @@
 //! Digests, by which exchanges are found.
 ghost use Rattle.std.specs.Prelude.{◌≡◌};
-ghost use Rattle.coap_exchange.specs.Digests.{digest_of_endpoint, digest_of_key, digest_of_target};
+ghost use Rattle.coap_exchange.specs.Digests.{digest_of_endpoint, digest_of_target, digests_of};
 
 use coap_endpoint::{Endpoint, Ip, Target};
 use coap_store::CacheKey;
@@ -29,13 +29,26 @@ pub(crate) fn digest_of_endpoint(at: &Endpoint) -> u64
     }
 }
 
-/// The digest of a cache key. Equal cache_keys have equal digests.
-pub(crate) fn digest_of_key(key: &CacheKey) -> u64
-    ensures exact { result ≡ digest_of_key key.now }
+/// The digests of a cache key and of its target. Equal ones have equal digests.
+#[derive(Clone, Copy)]
+pub struct Digests {
+    pub key: u64,
+    pub target: u64,
+}
+
+/// The digests of a cache key and of its target, in one go: what is hashed of a key begins with its
+/// target.
+pub fn digests_of(key: &CacheKey) -> Digests
+    ensures exact { result ≡ digests_of key.now }
 {
     let mut hasher = DefaultHasher::new();
-    key.hash(&mut hasher);
-    hasher.finish()
+    key.target.hash(&mut hasher);
+    let target = hasher.finish();
+    key.options.hash(&mut hasher);
+    Digests {
+        key: hasher.finish(),
+        target,
+    }
 }
 
 /// The digest of a target. Equal targets have equal digests.

@@ -69,7 +69,7 @@ impl EndpointMap {
 
     // Does nothing: it lets a proof conclude that there are no more entries than items that they
     // count.
-    pub(crate) fn holds(&self)
+    pub(crate) fn laws(&self)
         ensures distinct { AreDistinct self.now.items }
         ensures some { AreSome self.now.items }
         ensures sound { IsTable self.now }

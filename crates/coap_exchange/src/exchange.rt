@@ -4,6 +4,7 @@ ghost use Rattle.std.specs.Option.{option_copied};
 ghost use Rattle.coap_exchange.specs.Exchanges.{answer_at, changed_by, fire_of_sending, fired_exchange, is_as, is_acked, is_changed_with, is_joinable, is_queued, is_sent, opened, tainted_by, was_sent_as, CanChange, CanFire};
 ghost use Rattle.coap_exchange.specs.Endpoints.{is_queued_to, sends};
 
+use crate::digests::Digests;
 use crate::endpoints::Stage;
 use crate::timer::{Fire, Timer};
 use coap_endpoint::{Endpoint, Target};
@@ -89,6 +90,66 @@ impl Drop for Exchange {
     }
 }
 
+/// A request that is to be sent, as an exchange is opened with it.
+pub struct Opening {
+    /// The client that sent it.
+    pub client: Endpoint,
+    /// What its response is cached under.
+    pub key: CacheKey,
+    /// The digests of that key.
+    pub digests: Digests,
+    /// Whether the method is GET.
+    pub is_get: bool,
+    /// The encoded request that is forwarded, with Message ID 0.
+    pub form: Seq<u8>,
+    /// The stored response that it asks to validate, if it does (RFC 7252, 5.6.2).
+    pub copy: Option<Stored>,
+    /// When it came, in milliseconds.
+    pub now: u64,
+}
+
+impl Drop for Opening {
+    fn drop(self) {
+        let Opening {
+            client: _,
+            key: _,
+            digests: _,
+            is_get: _,
+            form: _,
+            copy: _,
+            now: _,
+        } = self;
+    }
+}
+
+impl Opening {
+    /// The exchange that it opens, whose request is waiting for its turn.
+    pub(crate) fn opened(self) -> Exchange
+        ensures exact { result ≡ opened self }
+    {
+        let Opening {
+            client,
+            key,
+            digests: _,
+            is_get,
+            form,
+            copy,
+            now,
+        } = self;
+        Exchange {
+            client,
+            key,
+            is_get,
+            form,
+            copy,
+            admitted: now,
+            sending: None,
+            tainted: false,
+            state: ExchangeState::Queued,
+        }
+    }
+}
+
 /// A change to an exchange.
 #[derive(Drop)]
 pub(crate) enum Change {
@@ -116,30 +177,6 @@ impl Change {
 }
 
 impl Exchange {
-    /// A new exchange, whose request is waiting for its turn.
-    pub(crate) fn opened(
-        client: Endpoint,
-        key: CacheKey,
-        is_get: bool,
-        form: Seq<u8>,
-        copy: Option<Stored>,
-        now: u64,
-    ) -> Exchange
-        ensures exact { result ≡ opened client key is_get form copy now }
-    {
-        Exchange {
-            client,
-            key,
-            is_get,
-            form,
-            copy,
-            admitted: now,
-            sending: None,
-            tainted: false,
-            state: ExchangeState::Queued,
-        }
-    }
-
     /// Whether the request is waiting for its turn.
     pub fn is_queued(&self) -> bool
         ensures exact { result ≡ is_queued self.now }

@@ -7,19 +7,21 @@ ghost use Rattle.coap_endpoint.specs.declared.endpoint.Endpoint.{Endpoint};
 ghost use Rattle.coap_exchange.specs.Answered.{IsFirstGot, IsNextGot};
 ghost use Rattle.coap_exchange.specs.declared.table.AdmitError.TheVariants.{ClientFull, Full};
 ghost use Rattle.coap_exchange.specs.Clients.{count_of, AreWithin};
+ghost use Rattle.coap_exchange.specs.Digests.{digests_of};
 ghost use Rattle.coap_exchange.specs.Due.{due_row, first_due};
-ghost use Rattle.coap_exchange.specs.Exchanges.{acked, answer_in, answered, changed_by, due_among, fire_at, fired_exchange, is_acked, is_done, is_joinable, is_opened_by, is_queued, is_sent, is_sent_to, is_timely, opened, sent, tainted_by, was_sent_as, AreTimely, CanChange, IsDue, IsFireDue};
+ghost use Rattle.coap_exchange.specs.Exchanges.{acked, answer_in, answered, changed_by, due_among, fire_at, fired_exchange, is_acked, is_done, is_joinable, is_opened_by, is_queued, is_sent, is_sent_to, opened, sent, tainted_by, was_sent_as, AreTimely, CanChange, CanUpdate, IsDue};
 ghost use Rattle.coap_exchange.specs.Index.{keys_at, turn_among, AreIndexed};
-ghost use Rattle.coap_exchange.specs.Endpoints.{is_queued_to, is_with, one_if_at, open_in, queued_in, sent_in, AreCounted};
+ghost use Rattle.coap_exchange.specs.Endpoints.{is_queued_to, is_with, one_if_at, open_in, queued_in, sent_in, AreCounted, IsRecounted};
 ghost use Rattle.coap_exchange.specs.Table.{empty_table, item_at, admitted_to, without, withdrawn, changed_at, all_changed, count, first_that, passes, IsTable};
 ghost use Rattle.coap_exchange.specs.SendQueue.{IsSendQueue};
+ghost use Rattle.coap_exchange.specs.Updates.{leaver, updated, updated_at, Allows};
 
 use crate::by_client::{count_of, depart, enter};
-use crate::digests::{digest_of_key, digest_of_target};
+use crate::digests::{Digests, digest_of_target, digests_of};
 use crate::due::{later, sooner};
 use crate::endpoint_map::EndpointMap;
 use crate::endpoints::{Stage, close_one, counts_of, lowered, move_one, open_one};
-use crate::exchange::{Change, Exchange, Sending};
+use crate::exchange::{Change, Exchange, Opening, Sending};
 use crate::index::{ExchangeKeys, Index, Sought, first_sought, keys_at, keys_in, keys_of};
 use crate::indexed_exchange::{IndexedExchange, client_of};
 use crate::peer::Peer;
@@ -27,8 +29,8 @@ use crate::send_queue::{SendQueue, head_of, peer_of};
 use crate::table::{AdmitError, Items, Table};
 use crate::timer::Fire;
 use coap_endpoint::{Endpoint, Target};
-use coap_message::{OutOfMemory, Seq};
-use coap_store::{Answer, CacheKey, Stored};
+use coap_message::OutOfMemory;
+use coap_store::{Answer, CacheKey};
 use std::alloc::Global;
 use std::marker::Model;
 
@@ -173,7 +175,7 @@ impl Exchanges {
         ensures exact { IsFirstGot self.now.items result }
         ensures sound { IsTable self.now }
     {
-        let _sound = self.table.is_full();
+        self.table.laws();
         match self.index.dones.first() {
             Some(pair) => Some(pair.0),
             None => None,
@@ -193,13 +195,16 @@ impl Exchanges {
     pub fn joinable(&self, key: &CacheKey) -> Option<u64>
         ensures exact { result ≡ first_that (is_joinable key.now) self.now.items }
     {
+        self.joinable_as(key, digests_of(key))
+    }
+
+    /// That of `joinable`, for a key whose digests are at hand.
+    pub fn joinable_as(&self, key: &CacheKey, digests: Digests) -> Option<u64>
+        requires { digests ≡ digests_of key.now }
+        ensures exact { result ≡ first_that (is_joinable key.now) self.now.items }
+    {
         let sought = Sought::Joinable(key);
-        first_sought(
-            &self.table,
-            &self.index.cache_keys,
-            digest_of_key(key),
-            &sought,
-        )
+        first_sought(&self.table, &self.index.cache_keys, digests.key, &sought)
     }
 
     /// The number of the exchange whose request was sent to the endpoint `at` with Message ID `id`,
@@ -240,34 +245,26 @@ impl Exchanges {
     }
 
     /// Opens an exchange of a client after the others, with its request waiting for its turn, and
-    /// returns its number. `now` is in milliseconds, and at most 2^62.
+    /// returns its number. The request came at most at 2^62 milliseconds.
     ///
     /// # Errors
     /// `Full` if the table has no room for another exchange; otherwise `ClientFull` if it has none
     /// for another of this client; otherwise `OutOfMemory`. The table is unchanged then.
-    pub fn admit(
-        &mut self,
-        client: Endpoint,
-        key: CacheKey,
-        is_get: bool,
-        form: Seq<u8>,
-        copy: Option<Stored>,
-        now: u64,
-    ) -> Result<u64, AdmitError>
+    pub fn admit(&mut self, opening: Opening) -> Result<u64, AdmitError>
         requires numbers { self.old.admitted < 2 ^ 64 - 1 }
-        requires now { now ≤ 2 ^ 62 }
+        requires now { opening.now ≤ 2 ^ 62 }
+        requires digests { opening.digests ≡ digests_of opening.key }
         ensures number { IfOk result (λ number. number ≡ self.old.admitted + 1) }
-        ensures ok { OnOk result
-            (self.new ≡ admitted_to (opened client key is_get form copy now) self.old) }
+        ensures ok { OnOk result (self.new ≡ admitted_to (opened opening) self.old) }
         ensures full { IfErr result (λ error.
             (error ≡ Full) ↔ (length self.old.items ≡ self.old.limit)) }
         ensures client_full { IfErr result (λ error.
             (error ≡ ClientFull)
             ↔ ((length self.old.items < self.old.limit)
-            × (count (is_opened_by client) self.old.items ≡ self.old.per_client))) }
+            × (count (is_opened_by opening.client) self.old.items ≡ self.old.per_client))) }
         ensures room { OnOk result (length self.old.items < self.old.limit) }
         ensures client_room { OnOk result
-            (count (is_opened_by client) self.old.items < self.old.per_client) }
+            (count (is_opened_by opening.client) self.old.items < self.old.per_client) }
         ensures err { OnErr result (self.new ≡ self.old) }
         ensures sound { IsTable self.old }
         ensures within { AreWithin is_opened_by self.old }
@@ -275,16 +272,15 @@ impl Exchanges {
         if self.table.is_full() {
             return Err(AdmitError::Full);
         }
-        let opener = Peer::new(client);
+        let (opener, now, digests) = (Peer::new(opening.client), opening.now, opening.digests);
         if count_of(&self.clients, opener) == self.table.per_client() {
             return Err(AdmitError::ClientFull);
         }
-        let exchange = Exchange::opened(client, key, is_get, form, copy, now);
-        let listed = IndexedExchange::new(exchange, opener);
+        let listed = IndexedExchange::new(opening.opened(), opener, digests);
         let at = listed.peer();
-        self.send_queue.heads.rises();
-        self.endpoints.holds();
-        self.clients.holds();
+        self.send_queue.heads.laws();
+        self.endpoints.laws();
+        self.clients.laws();
         let head = head_of(&self.table, &self.index, &self.endpoints, &Some(at));
         open_one(&mut self.endpoints, at);
         enter(&mut self.clients, opener);
@@ -316,36 +312,17 @@ impl Exchanges {
             → self.new ≡ before }
     {
         let number = self.table.admitted();
-        let found = self.table.get(number);
-        let at = peer_of(found);
-        let head = head_of(&self.table, &self.index, &self.endpoints, &at);
-        let queued = queued_without(self.queued, &self.table, number, found);
-        leave(&mut self.endpoints, &self.table, number, found);
-        depart(&mut self.clients, client_of(found));
-        let was = keys_in(found);
-        self.queued = queued;
-        self.table.withdraw();
-        self.index.rekey(number, was, keys_in(None));
-        let next = head_of(&self.table, &self.index, &self.endpoints, &at);
-        self.send_queue.heads.replace(head, next);
+        if self.get(number).is_some() {
+            self.update(number, None);
+            self.table.give_back();
+        }
     }
 
     /// Removes the exchange numbered `number`, if there is one.
     pub fn close(&mut self, number: u64)
         ensures closed { self.new ≡ record self.old { items = without number self.old.items } }
     {
-        let found = self.table.get(number);
-        let at = peer_of(found);
-        let head = head_of(&self.table, &self.index, &self.endpoints, &at);
-        let queued = queued_without(self.queued, &self.table, number, found);
-        leave(&mut self.endpoints, &self.table, number, found);
-        depart(&mut self.clients, client_of(found));
-        let was = keys_in(found);
-        self.queued = queued;
-        self.table.close(number);
-        self.index.rekey(number, was, keys_in(None));
-        let next = head_of(&self.table, &self.index, &self.endpoints, &at);
-        self.send_queue.heads.replace(head, next);
+        self.update(number, None);
     }
 
     /// Marks the request of the exchange numbered `number`, which was waiting for its turn, as
@@ -357,7 +334,7 @@ impl Exchanges {
         ensures sent { self.new
             ≡ record self.old { items = changed_at number (sent sending) self.old.items } }
     {
-        self.change(number, Change::Send(sending));
+        self.update(number, Some(Change::Send(sending)));
     }
 
     /// Fires the timer of the exchange numbered `number`, whose request was sent, and returns what
@@ -374,7 +351,7 @@ impl Exchanges {
             Some(exchange) => exchange.fire_of(now),
             None => Fire::GiveUp,
         };
-        self.change(number, Change::Fire(now));
+        self.update(number, Some(Change::Fire(now)));
         fire
     }
 
@@ -384,7 +361,7 @@ impl Exchanges {
         ensures acked { self.new
             ≡ record self.old { items = changed_at number acked self.old.items } }
     {
-        self.change(number, Change::Acknowledge);
+        self.update(number, Some(Change::Acknowledge));
     }
 
     /// Records the answer of the exchange numbered `number`: a response, or the proxy's own answer.
@@ -393,7 +370,7 @@ impl Exchanges {
         ensures answered { self.new
             ≡ record self.old { items = changed_at number (answered answer) self.old.items } }
     {
-        self.change(number, Change::Answer(answer));
+        self.update(number, Some(Change::Answer(answer)));
     }
 
     /// Taints the exchanges with this target whose request was sent and whose answer hasn't come,
@@ -405,22 +382,23 @@ impl Exchanges {
         taint_all(&mut self.table, &mut self.index, target);
     }
 
-    fn change(&mut self, number: u64, change: Change)
-        requires timely { is_timely change ≡ true }
-        requires due { IsFireDue change (item_at number self.old.items) }
-        requires queued { IfSome (item_at number self.old.items) (λ x.
-            is_queued (changed_by change x) ≡ false) }
+    /// Changes the exchange numbered `number`, or removes it if there is no change. Nothing happens
+    /// if there is no such exchange. What is counted of it, what it is looked up by, and whose turn
+    /// it is follow.
+    pub(crate) fn update(&mut self, number: u64, change: Option<Change>)
+        requires { CanUpdate change (item_at number self.old.items) }
         ensures { self.new
-            ≡ record self.old { items = changed_at number (changed_by change) self.old.items } }
+            ≡ record self.old { items = updated_at changed_by change number self.old.items } }
     {
         let found = self.table.get(number);
         let at = peer_of(found);
         let head = head_of(&self.table, &self.index, &self.endpoints, &at);
         let queued = queued_without(self.queued, &self.table, number, found);
         recount(&mut self.endpoints, &self.table, number, found, &change);
+        depart(&mut self.clients, leaver_of(found, &change));
         let was = keys_in(found);
         self.queued = queued;
-        let is = self.table.change(number, change);
+        let is = self.table.update(number, change);
         self.index.rekey(number, was, is);
         let next = head_of(&self.table, &self.index, &self.endpoints, &at);
         self.send_queue.heads.replace(head, next);
@@ -428,6 +406,24 @@ impl Exchanges {
 }
 
 impl Table<IndexedExchange> {
+    /// Changes the exchange numbered `number`, or removes it if there is no change, and returns
+    /// what it is looked up by then.
+    fn update(&mut self, number: u64, change: Option<Change>) -> ExchangeKeys
+        requires { Allows CanChange change (item_at number self.old.items) }
+        ensures updated { self.new
+            ≡ record self.old { items = updated_at changed_by change number self.old.items } }
+        ensures keys { result
+            ≡ keys_at (updated changed_by change (item_at number self.old.items)) }
+    {
+        match change {
+            Some(change) => self.change(number, change),
+            None => {
+                self.close(number);
+                keys_in(None)
+            }
+        }
+    }
+
     /// Changes the exchange numbered `number`, if there is one, and returns what it is looked up by
     /// then.
     fn change(&mut self, number: u64, change: Change) -> ExchangeKeys
@@ -483,7 +479,7 @@ fn first_in_order(
     ensures exact { result
         ≡ first_due (turn_among nstart exchanges.now.items) exchanges.now.items }
 {
-    let _sound = exchanges.is_full();
+    exchanges.laws();
     let number = send_queue.first(nstart)?;
     let exchange = exchanges.exchange(number)?;
     Some((exchange.admitted, number))
@@ -502,7 +498,7 @@ fn first_of_all(
     ensures exact { result
         ≡ first_due (turn_among nstart exchanges.now.items) exchanges.now.items }
 {
-    let _sound = exchanges.is_full();
+    exchanges.laws();
     if queued == 0 {
         return None;
     }
@@ -624,73 +620,60 @@ fn queued_without(
         ≡ queued }
     ensures sound { IsTable exchanges.now }
 {
-    let _sound = exchanges.is_full();
+    exchanges.laws();
     match found {
         Some(listed) => lowered(queued, listed.stage().queued),
         None => queued,
     }
 }
 
-/// Stops counting the exchange numbered `number` for its endpoint.
-fn leave(
-    endpoints: &mut EndpointMap,
-    exchanges: &Table<IndexedExchange>,
-    number: u64,
-    found: Option<&IndexedExchange>,
-)
-    requires counted { AreCounted exchanges.now.items endpoints.old }
-    requires found { option_copied found ≡ item_at number exchanges.now.items }
-    ensures limit { endpoints.new.limit ≡ endpoints.old.limit }
-    ensures all { (e : Endpoint)
-        → open_in endpoints.new e
-        + (if passes (is_with e) (item_at number exchanges.now.items) then 1 else 0)
-        ≡ open_in endpoints.old e }
-    ensures sent { (e : Endpoint)
-        → sent_in endpoints.new e
-        + (if passes (is_sent_to e) (item_at number exchanges.now.items) then 1 else 0)
-        ≡ sent_in endpoints.old e }
-    ensures queued { (e : Endpoint)
-        → queued_in endpoints.new e
-        + (if passes (is_queued_to e) (item_at number exchanges.now.items) then 1 else 0)
-        ≡ queued_in endpoints.old e }
-{
-    let _sound = exchanges.is_full();
-    if let Some(listed) = found {
-        close_one(endpoints, listed.peer(), listed.stage());
-    }
-}
-
-/// Counts the exchange numbered `number` for its endpoint in its state after a change, in which it
-/// no longer waits for its turn.
+/// Counts the exchange numbered `number` for its endpoint as it is after a change, in which it no
+/// longer waits for its turn, or no longer counts it if it is removed.
 fn recount(
     endpoints: &mut EndpointMap,
     exchanges: &Table<IndexedExchange>,
     number: u64,
     found: Option<&IndexedExchange>,
-    change: &Change,
+    change: &Option<Change>,
 )
     requires counted { AreCounted exchanges.now.items endpoints.old }
     requires found { option_copied found ≡ item_at number exchanges.now.items }
+    requires queued { Allows (λ c x. is_queued (changed_by c x) ≡ false) change.now
+        (item_at number exchanges.now.items) }
     ensures limit { endpoints.new.limit ≡ endpoints.old.limit }
-    ensures all { (e : Endpoint) → open_in endpoints.new e ≡ open_in endpoints.old e }
-    ensures sent { (e : Endpoint)
-        → sent_in endpoints.new e
-        + (if passes (is_sent_to e) (item_at number exchanges.now.items) then 1 else 0)
-        ≡ sent_in endpoints.old e
-        + (if passes (λ x. is_sent_to e (changed_by change.now x))
-        (item_at number exchanges.now.items) then 1 else 0) }
-    ensures queued { (e : Endpoint)
-        → queued_in endpoints.new e
-        + (if passes (is_queued_to e) (item_at number exchanges.now.items) then 1 else 0)
-        ≡ queued_in endpoints.old e }
+    ensures all { IsRecounted is_with (open_in endpoints.old) (open_in endpoints.new)
+        (item_at number exchanges.now.items)
+        (updated changed_by change.now (item_at number exchanges.now.items)) }
+    ensures sent { IsRecounted is_sent_to (sent_in endpoints.old) (sent_in endpoints.new)
+        (item_at number exchanges.now.items)
+        (updated changed_by change.now (item_at number exchanges.now.items)) }
+    ensures queued { IsRecounted is_queued_to (queued_in endpoints.old) (queued_in endpoints.new)
+        (item_at number exchanges.now.items)
+        (updated changed_by change.now (item_at number exchanges.now.items)) }
 {
-    let (_few, _sound) = (exchanges.len(), exchanges.is_full());
-    if let Some(listed) = found {
-        let was = listed.stage();
-        let is = Stage {
-            sent: change.sends(was.sent),
-            queued: false,
-        };
-        move_one(endpoints, listed.peer(), was, is);
+    exchanges.laws();
+    let Some(listed) = found else {
+        return;
+    };
+    let was = listed.stage();
+    match change {
+        Some(change) => {
+            let is = Stage {
+                sent: change.sends(was.sent),
+                queued: false,
+            };
+            move_one(endpoints, listed.peer(), was, is);
+        }
+        None => close_one(endpoints, listed.peer(), was),
+    }
+}
+
+/// The client that opened an exchange which is removed, if it is and there is one.
+fn leaver_of(found: Option<&IndexedExchange>, change: &Option<Change>) -> Option<Peer>
+    ensures exact { result ≡ leaver (λ x. x.client) change.now (option_copied found.entry) }
+{
+    match change {
+        Some(_) => None,
+        None => client_of(found),
     }
 }

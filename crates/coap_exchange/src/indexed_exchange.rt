@@ -1,11 +1,11 @@
 //! Exchanges with the digests that they are looked up by.
 ghost use Rattle.std.specs.Prelude.{◌≡◌};
 ghost use Rattle.std.specs.Option.{option_copied, option_map};
-ghost use Rattle.coap_exchange.specs.Digests.{digest_of_key, digest_of_target};
+ghost use Rattle.coap_exchange.specs.Digests.{digest_of_key, digest_of_target, digests_of};
 ghost use Rattle.coap_exchange.specs.Exchanges.{changed_by, is_queued, is_sent, tainted_by, CanChange};
 ghost use Rattle.coap_exchange.specs.Table.{item_at, IsTable};
 
-use crate::digests::{digest_of_key, digest_of_target};
+use crate::digests::Digests;
 use crate::endpoints::Stage;
 use crate::exchange::{Change, Exchange};
 use crate::peer::Peer;
@@ -13,21 +13,20 @@ use crate::table::Table;
 use coap_endpoint::Target;
 use std::marker::Model;
 
-/// An exchange, and the digests that it is looked up by, which are computed once, when it is
-/// opened. A contract sees the exchange.
+/// An exchange, and the digests that it is looked up by, which it is opened with. A contract sees
+/// the exchange.
 #[derive(Drop)]
 pub(crate) struct IndexedExchange {
     exchange: Exchange,
     client: Peer,
     peer: Peer,
-    key: u64,
-    target: u64,
+    digests: Digests,
 }
 
 impl Model for IndexedExchange {
     ghost use Rattle.std.specs.Prelude.{◌≡◌};
     ghost use Rattle.coap_exchange.specs.declared.exchange.Exchange.{Exchange};
-    ghost use Rattle.coap_exchange.specs.Digests.{digest_of_key, digest_of_target};
+    ghost use Rattle.coap_exchange.specs.Digests.{digests_of};
 
     ghost Value = { Exchange };
 
@@ -36,25 +35,22 @@ impl Model for IndexedExchange {
     ghost invariant = { λ l.
         (l.client ≡ l.exchange.client)
         × (l.peer ≡ l.exchange.key.target.at)
-        × (l.key ≡ digest_of_key l.exchange.key)
-        × (l.target ≡ digest_of_target l.exchange.key.target) };
+        × (l.digests ≡ digests_of l.exchange.key) };
 }
 
 impl IndexedExchange {
-    /// Computes the digests of a new exchange, which this client opened.
-    pub(crate) fn new(exchange: Exchange, client: Peer) -> IndexedExchange
-        requires { client ≡ exchange.client }
+    /// A new exchange, which this client opened, with the digests of its key.
+    pub(crate) fn new(exchange: Exchange, client: Peer, digests: Digests) -> IndexedExchange
+        requires client { client ≡ exchange.client }
+        requires digests { digests ≡ digests_of exchange.key }
         ensures exact { result ≡ exchange }
     {
         let peer = Peer::new(exchange.key.target.at);
-        let key = digest_of_key(&exchange.key);
-        let target = digest_of_target(&exchange.key.target);
         IndexedExchange {
             exchange,
             client,
             peer,
-            key,
-            target,
+            digests,
         }
     }
 
@@ -91,14 +87,14 @@ impl IndexedExchange {
     pub(crate) fn key(&self) -> u64
         ensures exact { result ≡ digest_of_key self.now.key }
     {
-        self.key
+        self.digests.key
     }
 
     /// The digest of its target.
     pub(crate) fn target(&self) -> u64
         ensures exact { result ≡ digest_of_target self.now.key.target }
     {
-        self.target
+        self.digests.target
     }
 
     /// Applies a change to the exchange.

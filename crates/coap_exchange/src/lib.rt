@@ -5,7 +5,16 @@
 //!
 //! ```rust
 //! let mut exchanges = Exchanges::new(alloc, 256, 16)?;
-//! let number = exchanges.admit(client, key, true, form, None, 0)?;
+//! let opening = Opening {
+//!     client,
+//!     digests: digests_of(&key),
+//!     key,
+//!     is_get: true,
+//!     form,
+//!     copy: None,
+//!     now: 0,
+//! };
+//! let number = exchanges.admit(opening)?;
 //! assert!(rt; exchanges.due(1, 93_000) == Some((0, number))); // it is its turn
 //! let sending = Sending {
 //!     asked: 0,
@@ -42,11 +51,12 @@ mod waiter_index;
 mod waiters;
 
 pub use coap_store::Answer;
-pub use exchange::{Exchange, ExchangeState, Sending};
+pub use digests::{Digests, digests_of};
+pub use exchange::{Exchange, ExchangeState, Opening, Sending};
 pub use exchanges::Exchanges;
 pub use ids::Ids;
 pub use table::AdmitError;
 pub use timer::{Fire, Timer};
 pub use under_way::UnderWay;
-pub use waiter::{Waiter, WaiterState};
+pub use waiter::{Joining, Waiter, WaiterState};
 pub use waiters::Waiters;

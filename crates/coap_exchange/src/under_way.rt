@@ -4,24 +4,25 @@ ghost use Rattle.std.specs.Option.{option_copied};
 ghost use Rattle.coap_exchange.specs.declared.exchange.Exchange.{Exchange};
 ghost use Rattle.coap_exchange.specs.declared.waiter.Waiter.{Waiter};
 ghost use Rattle.coap_exchange.specs.declared.table.AdmitError.TheVariants.{ClientFull, Full};
-ghost use Rattle.coap_exchange.specs.declared.waiter.WaiterState.TheVariants.{Waiting};
+ghost use Rattle.coap_exchange.specs.Digests.{digests_of};
 ghost use Rattle.coap_exchange.specs.Due.{first_due};
-ghost use Rattle.coap_exchange.specs.Exchanges.{acked, answered, fire_at, fired_exchange, is_done, is_opened_by, is_queued, is_sent, opened, sent, tainted_by, IsDue};
+ghost use Rattle.coap_exchange.specs.Exchanges.{acked, answered, changed_by, fire_at, fired_exchange, is_done, is_opened_by, is_queued, is_sent, opened, sent, tainted_by, CanUpdate, IsDue};
 ghost use Rattle.coap_exchange.specs.Ready.{ready_in};
 ghost use Rattle.coap_exchange.specs.Table.{Table, item_at, admitted_to, without, withdrawn, changed_at, all_changed, count, IsTable};
-ghost use Rattle.coap_exchange.specs.Waiters.{delivered, due_after, fired_waiter, is_of, is_waiting};
+ghost use Rattle.coap_exchange.specs.Waiters.{delivered, due_after, fired_waiter, is_of, is_waiting, joined};
 ghost use Rattle.coap_exchange.specs.Waiters as waiters;
+ghost use Rattle.coap_exchange.specs.Updates.{updated_at};
 
 use crate::due::sooner;
-use crate::exchange::{Exchange, Sending};
+use crate::exchange::{Change, Exchange, Opening, Sending};
 use crate::exchanges::Exchanges;
 use crate::table::AdmitError;
 use crate::timer::{Fire, Timer};
-use crate::waiter::Waiter;
+use crate::waiter::{Joining, Waiter, WaiterChange};
 use crate::waiters::{Waiters, due_at};
-use coap_endpoint::{Endpoint, Target};
-use coap_message::{Kind, OutOfMemory, Pieces, Seq, Token};
-use coap_store::{Answer, CacheKey, Stored};
+use coap_endpoint::Target;
+use coap_message::{OutOfMemory, Seq};
+use coap_store::Answer;
 use ordered_index::OrderedIndex;
 use std::alloc::Global;
 use std::marker::Model;
@@ -124,23 +125,15 @@ impl UnderWay {
     ///
     /// # Errors
     /// Those of `Exchanges::admit`. Nothing is changed then.
-    pub fn open(
-        &mut self,
-        client: Endpoint,
-        key: CacheKey,
-        is_get: bool,
-        form: Seq<u8>,
-        copy: Option<Stored>,
-        now: u64,
-    ) -> Result<u64, AdmitError>
+    pub fn open(&mut self, opening: Opening) -> Result<u64, AdmitError>
         requires numbers { self.old.exchanges.admitted < 2 ^ 64 - 1 }
-        requires now { now ≤ 2 ^ 62 }
+        requires now { opening.now ≤ 2 ^ 62 }
+        requires digests { opening.digests ≡ digests_of opening.key }
         ensures number { IfOk result (λ number. number ≡ self.old.exchanges.admitted + 1) }
         ensures ok { OnOk result
             (self.new
             ≡ record self.old {
-              exchanges =
-                  admitted_to (opened client key is_get form copy now) self.old.exchanges;
+              exchanges = admitted_to (opened opening) self.old.exchanges;
             }) }
         ensures full { IfErr result (λ error.
             (error ≡ Full)
@@ -148,12 +141,12 @@ impl UnderWay {
         ensures client_full { IfErr result (λ error.
             (error ≡ ClientFull)
             ↔ ((length self.old.exchanges.items < self.old.exchanges.limit)
-            × (count (is_opened_by client) self.old.exchanges.items
+            × (count (is_opened_by opening.client) self.old.exchanges.items
             ≡ self.old.exchanges.per_client))) }
         ensures err { OnErr result (self.new ≡ self.old) }
         ensures sound { IsTable self.old.exchanges }
     {
-        self.exchanges.admit(client, key, is_get, form, copy, now)
+        self.exchanges.admit(opening)
     }
 
     /// Undoes an `open`: `Exchanges::withdraw`.
@@ -166,7 +159,7 @@ impl UnderWay {
             → self.new ≡ record self.old { exchanges = before } }
     {
         let number = Some(self.exchanges.admitted());
-        self.ready.rises();
+        self.ready.laws();
         let was = ready_in(&self.exchanges, &self.waiters, number);
         self.exchanges.withdraw();
         let is = ready_in(&self.exchanges, &self.waiters, number);
@@ -231,11 +224,7 @@ impl UnderWay {
                   };
             } }
     {
-        self.ready.rises();
-        let was = ready_in(&self.exchanges, &self.waiters, Some(number));
-        self.exchanges.answered(number, answer);
-        let is = ready_in(&self.exchanges, &self.waiters, Some(number));
-        self.ready.replace(was, is);
+        self.update_exchange(number, Some(Change::Answer(answer)));
     }
 
     /// `Exchanges::taint`.
@@ -261,54 +250,33 @@ impl UnderWay {
                   };
             } }
     {
-        self.ready.rises();
-        let was = ready_in(&self.exchanges, &self.waiters, Some(number));
-        self.exchanges.close(number);
-        let is = ready_in(&self.exchanges, &self.waiters, Some(number));
-        self.ready.replace(was, is);
+        self.update_exchange(number, None);
     }
 
     /// Has a client wait for an exchange: `Waiters::admit`.
     ///
     /// # Errors
     /// Those of `Waiters::admit`. Nothing is changed then.
-    pub fn join(
-        &mut self,
-        client: Endpoint,
-        kind: Kind,
-        token: Token,
-        tags: Pieces,
-        exchange: u64,
-    ) -> Result<u64, AdmitError>
+    pub fn join(&mut self, joining: Joining) -> Result<u64, AdmitError>
         requires { self.old.waiters.admitted < 2 ^ 64 - 1 }
         ensures number { IfOk result (λ number. number ≡ self.old.waiters.admitted + 1) }
         ensures ok { OnOk result
             (self.new
-            ≡ record self.old {
-              waiters =
-                  admitted_to
-                  (record {
-                    client = client;
-                    kind = kind;
-                    token = token;
-                    tags = tags;
-                    state = Waiting exchange;
-                  })
-                  self.old.waiters;
-            }) }
+            ≡ record self.old { waiters = admitted_to (joined joining) self.old.waiters }) }
         ensures full { IfErr result (λ error.
             (error ≡ Full) ↔ (length self.old.waiters.items ≡ self.old.waiters.limit)) }
         ensures client_full { IfErr result (λ error.
             (error ≡ ClientFull)
             ↔ ((length self.old.waiters.items < self.old.waiters.limit)
-            × (count (is_of client) self.old.waiters.items ≡ self.old.waiters.per_client))) }
+            × (count (is_of joining.client) self.old.waiters.items ≡ self.old.waiters.per_client))) }
         ensures err { OnErr result (self.new ≡ self.old) }
         ensures sound { IsTable self.old.waiters }
     {
-        self.ready.rises();
-        let was = ready_in(&self.exchanges, &self.waiters, Some(exchange));
-        let number = self.waiters.admit(client, kind, token, tags, exchange)?;
-        let is = ready_in(&self.exchanges, &self.waiters, Some(exchange));
+        let exchange = Some(joining.exchange);
+        self.ready.laws();
+        let was = ready_in(&self.exchanges, &self.waiters, exchange);
+        let number = self.waiters.admit(joining)?;
+        let is = ready_in(&self.exchanges, &self.waiters, exchange);
         self.ready.replace(was, is);
         Ok(number)
     }
@@ -322,7 +290,7 @@ impl UnderWay {
             → self.new ≡ record self.old { waiters = before } }
     {
         let exchange = self.waiters.awaited(self.waiters.admitted());
-        self.ready.rises();
+        self.ready.laws();
         let was = ready_in(&self.exchanges, &self.waiters, exchange);
         self.waiters.withdraw();
         let is = ready_in(&self.exchanges, &self.waiters, exchange);
@@ -337,12 +305,7 @@ impl UnderWay {
                   record self.old.waiters { items = without number self.old.waiters.items };
             } }
     {
-        let exchange = self.waiters.awaited(number);
-        self.ready.rises();
-        let was = ready_in(&self.exchanges, &self.waiters, exchange);
-        self.waiters.close(number);
-        let is = ready_in(&self.exchanges, &self.waiters, exchange);
-        self.ready.replace(was, is);
+        self.update_waiter(number, None);
     }
 
     /// `Waiters::deliver`.
@@ -358,12 +321,7 @@ impl UnderWay {
                   };
             } }
     {
-        let exchange = self.waiters.awaited(number);
-        self.ready.rises();
-        let was = ready_in(&self.exchanges, &self.waiters, exchange);
-        self.waiters.deliver(number, bytes, id, timer);
-        let is = ready_in(&self.exchanges, &self.waiters, exchange);
-        self.ready.replace(was, is);
+        self.update_waiter(number, Some(WaiterChange::Deliver { bytes, id, timer }));
     }
 
     /// `Waiters::fire`.
@@ -379,8 +337,45 @@ impl UnderWay {
                   };
             } }
     {
-        self.waiters.stand();
+        self.waiters.laws();
         self.waiters.fire(number, now)
+    }
+
+    /// `Exchanges::update`. Which client of the exchange is to be served first follows.
+    fn update_exchange(&mut self, number: u64, change: Option<Change>)
+        requires { CanUpdate change (item_at number self.old.exchanges.items) }
+        ensures { self.new
+            ≡ record self.old {
+              exchanges =
+                  record self.old.exchanges {
+                    items = updated_at changed_by change number self.old.exchanges.items;
+                  };
+            } }
+    {
+        self.ready.laws();
+        let was = ready_in(&self.exchanges, &self.waiters, Some(number));
+        self.exchanges.update(number, change);
+        let is = ready_in(&self.exchanges, &self.waiters, Some(number));
+        self.ready.replace(was, is);
+    }
+
+    /// `Waiters::update`. Which client of its exchange is to be served first follows.
+    fn update_waiter(&mut self, number: u64, change: Option<WaiterChange>)
+        requires { waiters.CanUpdate change (item_at number self.old.waiters.items) }
+        ensures { self.new
+            ≡ record self.old {
+              waiters =
+                  record self.old.waiters {
+                    items = updated_at waiters.changed_by change number self.old.waiters.items;
+                  };
+            } }
+    {
+        let exchange = self.waiters.awaited(number);
+        self.ready.laws();
+        let was = ready_in(&self.exchanges, &self.waiters, exchange);
+        self.waiters.update(number, change);
+        let is = ready_in(&self.exchanges, &self.waiters, exchange);
+        self.ready.replace(was, is);
     }
 }
 
@@ -391,7 +386,7 @@ fn ready_in(exchanges: &Exchanges, waiters: &Waiters, number: Option<u64>) -> Op
         ≡ ready_in (record { exchanges = exchanges.now; waiters = waiters.now }) number }
     ensures sound { IsTable waiters.now }
 {
-    waiters.stand();
+    waiters.laws();
     let number = number?;
     let answer = exchanges.answer_of(number)?;
     due_at(answer.got, waiters.first_waiting(number))

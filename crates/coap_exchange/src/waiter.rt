@@ -1,6 +1,6 @@
 //! Waiters: clients that wait for an exchange.
 ghost use Rattle.std.specs.Prelude.{◌≡◌, ◌≤◌, ◌^◌};
-ghost use Rattle.coap_exchange.specs.Waiters.{changed_by, exchange_of, fire_of_state, fired_waiter, is_waiting, was_sent_as, waits_for, CanChange, CanFire};
+ghost use Rattle.coap_exchange.specs.Waiters.{changed_by, exchange_of, fire_of_state, fired_waiter, is_waiting, joined, was_sent_as, waits_for, CanChange, CanFire};
 
 use crate::timer::{Fire, Timer};
 use coap_endpoint::Endpoint;
@@ -52,6 +52,35 @@ impl Drop for Waiter {
             tags: _,
             state: _,
         } = self;
+    }
+}
+
+/// A request that waits for an exchange.
+#[derive(Drop)]
+pub struct Joining {
+    /// The client that sent it.
+    pub client: Endpoint,
+    /// The type of the message that carried it.
+    pub kind: Kind,
+    pub token: Token,
+    /// The ETags of the responses that the client already holds (RFC 7252, 5.10.6.2).
+    pub tags: Pieces,
+    /// The number of the exchange.
+    pub exchange: u64,
+}
+
+impl Joining {
+    /// The waiter that it becomes.
+    pub(crate) fn joined(self) -> Waiter
+        ensures exact { result ≡ joined self }
+    {
+        Waiter {
+            client: self.client,
+            kind: self.kind,
+            token: self.token,
+            tags: self.tags,
+            state: WaiterState::Waiting(self.exchange),
+        }
     }
 }
 

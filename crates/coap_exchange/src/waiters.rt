@@ -5,7 +5,6 @@ ghost use Rattle.std.specs.Map.{set_value};
 ghost use Rattle.std.specs.Option.{option_copied, option_map};
 ghost use Rattle.indexmap.specs.IndexMap.{get};
 ghost use Rattle.coap_exchange.specs.declared.table.AdmitError.TheVariants.{ClientFull, Full};
-ghost use Rattle.coap_exchange.specs.declared.waiter.WaiterState.TheVariants.{Waiting};
 ghost use Rattle.coap_exchange.specs.Answered.{due_at};
 ghost use Rattle.coap_endpoint.specs.declared.endpoint.Endpoint.{Endpoint};
 ghost use Rattle.coap_exchange.specs.Clients.{count_of, AreWithin};
@@ -13,7 +12,8 @@ ghost use Rattle.coap_exchange.specs.Due.{due_row, first_due};
 ghost use Rattle.coap_exchange.specs.Endpoints.{one_if_at};
 ghost use Rattle.coap_exchange.specs.WaiterIndex.{answered_of, end_of, waiter_keys_at};
 ghost use Rattle.coap_exchange.specs.Table.{empty_table, item_at, admitted_to, without, withdrawn, changed_at, count, first_that, passes, IsTable};
-ghost use Rattle.coap_exchange.specs.Waiters.{awaited_by, changed_by, delivered, due_after, fire_at, fired_waiter, is_of, is_waiting, waits_for, was_sent_as, CanChange, IsDue};
+ghost use Rattle.coap_exchange.specs.Waiters.{awaited_by, changed_by, delivered, due_after, fire_at, fired_waiter, is_of, is_waiting, joined, waits_for, was_sent_as, CanChange, CanUpdate, IsDue};
+ghost use Rattle.coap_exchange.specs.Updates.{leaver, updated, updated_at, Allows};
 
 use crate::by_client::{count_of, depart, enter};
 use crate::due::{due_under, sooner};
@@ -22,10 +22,10 @@ use crate::exchanges::Exchanges;
 use crate::peer::Peer;
 use crate::table::{AdmitError, Items, Table};
 use crate::timer::{Fire, Timer};
-use crate::waiter::{Waiter, WaiterChange, WaiterState};
+use crate::waiter::{Joining, Waiter, WaiterChange};
 use crate::waiter_index::{WaiterIndex, WaiterKeys, waiter_keys_in, waiter_keys_of};
 use coap_endpoint::Endpoint;
-use coap_message::{Kind, OutOfMemory, Pieces, Seq, Token};
+use coap_message::{OutOfMemory, Seq};
 use std::alloc::Global;
 use std::marker::Model;
 
@@ -179,7 +179,7 @@ impl Waiters {
     }
 
     // Does nothing: it lets a proof conclude that waiters are in order of number.
-    pub(crate) fn stand(&self)
+    pub(crate) fn laws(&self)
         ensures { IsTable self.now }
     {
         let _ = &self.table;
@@ -206,7 +206,7 @@ impl Waiters {
         ensures exact { result ≡ first_due end_of self.now.items }
         ensures sound { IsTable self.now }
     {
-        let _sound = self.table.is_full();
+        self.table.laws();
         self.index.ends.first()
     }
 
@@ -247,42 +247,24 @@ impl Waiters {
         }
     }
 
-    /// Adds a waiter after the others, which waits for the exchange of this number, and returns the
-    /// waiter's number.
+    /// Adds a waiter after the others, which waits for an exchange, and returns its number.
     ///
     /// # Errors
     /// `Full` if the table has no room for another waiter; otherwise `ClientFull` if it has none
     /// for another of this client; otherwise `OutOfMemory`. The table is unchanged then.
-    pub fn admit(
-        &mut self,
-        client: Endpoint,
-        kind: Kind,
-        token: Token,
-        tags: Pieces,
-        exchange: u64,
-    ) -> Result<u64, AdmitError>
+    pub fn admit(&mut self, joining: Joining) -> Result<u64, AdmitError>
         requires { self.old.admitted < 2 ^ 64 - 1 }
         ensures number { IfOk result (λ number. number ≡ self.old.admitted + 1) }
-        ensures ok { OnOk result
-            (self.new
-            ≡ admitted_to
-            (record {
-              client = client;
-              kind = kind;
-              token = token;
-              tags = tags;
-              state = Waiting exchange;
-            })
-            self.old) }
+        ensures ok { OnOk result (self.new ≡ admitted_to (joined joining) self.old) }
         ensures full { IfErr result (λ error.
             (error ≡ Full) ↔ (length self.old.items ≡ self.old.limit)) }
         ensures client_full { IfErr result (λ error.
             (error ≡ ClientFull)
             ↔ ((length self.old.items < self.old.limit)
-            × (count (is_of client) self.old.items ≡ self.old.per_client))) }
+            × (count (is_of joining.client) self.old.items ≡ self.old.per_client))) }
         ensures room { OnOk result (length self.old.items < self.old.limit) }
         ensures client_room { OnOk result
-            (count (is_of client) self.old.items < self.old.per_client) }
+            (count (is_of joining.client) self.old.items < self.old.per_client) }
         ensures err { OnErr result (self.new ≡ self.old) }
         ensures sound { IsTable self.old }
         ensures within { AreWithin is_of self.old }
@@ -290,19 +272,13 @@ impl Waiters {
         if self.table.is_full() {
             return Err(AdmitError::Full);
         }
-        let peer = Peer::new(client);
+        let peer = Peer::new(joining.client);
         if count_of(&self.clients, peer) == self.table.per_client() {
             return Err(AdmitError::ClientFull);
         }
-        self.clients.holds();
+        self.clients.laws();
         enter(&mut self.clients, peer);
-        let waiter = Waiter {
-            client,
-            kind,
-            token,
-            tags,
-            state: WaiterState::Waiting(exchange),
-        };
+        let waiter = joining.joined();
         let (was, is) = (waiter_keys_in(None), waiter_keys_of(&waiter));
         match self.table.admit(waiter) {
             Ok(number) => {
@@ -327,26 +303,17 @@ impl Waiters {
             → self.new ≡ before }
     {
         let number = self.table.admitted();
-        let found = self.table.get(number);
-        let waiting = waiting_without(self.waiting, &self.table, number, found);
-        depart(&mut self.clients, client_of(found));
-        let was = waiter_keys_in(found);
-        self.waiting = waiting;
-        self.table.withdraw();
-        self.index.rekey(number, was, waiter_keys_in(None));
+        if self.get(number).is_some() {
+            self.update(number, None);
+            self.table.give_back();
+        }
     }
 
     /// Removes the waiter numbered `number`, if there is one.
     pub fn close(&mut self, number: u64)
         ensures closed { self.new ≡ record self.old { items = without number self.old.items } }
     {
-        let found = self.table.get(number);
-        let waiting = waiting_without(self.waiting, &self.table, number, found);
-        depart(&mut self.clients, client_of(found));
-        let was = waiter_keys_in(found);
-        self.waiting = waiting;
-        self.table.close(number);
-        self.index.rekey(number, was, waiter_keys_in(None));
+        self.update(number, None);
     }
 
     /// Marks the waiter numbered `number`, which was waiting for an exchange, as being sent its
@@ -361,13 +328,7 @@ impl Waiters {
                   changed_at number (delivered bytes id timer) self.old.items;
             } }
     {
-        let found = self.table.get(number);
-        let waiting = waiting_without(self.waiting, &self.table, number, found);
-        let was = waiter_keys_in(found);
-        self.waiting = waiting;
-        let change = WaiterChange::Deliver { bytes, id, timer };
-        let is = self.table.change(number, change, self.alloc);
-        self.index.rekey(number, was, is);
+        self.update(number, Some(WaiterChange::Deliver { bytes, id, timer }));
     }
 
     /// Fires the timer of the waiter numbered `number`, which was sent its response, and returns
@@ -380,21 +341,50 @@ impl Waiters {
         ensures fired { self.new
             ≡ record self.old { items = changed_at number (fired_waiter now) self.old.items } }
     {
-        let found = self.table.get(number);
-        let fire = match found {
+        let fire = match self.get(number) {
             Some(waiter) => waiter.fire_of(now),
             None => Fire::GiveUp,
         };
-        let was = waiter_keys_in(found);
-        let is = self
-            .table
-            .change(number, WaiterChange::Fire(now), self.alloc);
-        self.index.rekey(number, was, is);
+        self.update(number, Some(WaiterChange::Fire(now)));
         fire
+    }
+
+    /// Changes the waiter numbered `number`, or removes it if there is no change. Nothing happens
+    /// if there is no such waiter. What is counted of it and what it is looked up by follow.
+    pub(crate) fn update(&mut self, number: u64, change: Option<WaiterChange>)
+        requires { CanUpdate change (item_at number self.old.items) }
+        ensures { self.new
+            ≡ record self.old { items = updated_at changed_by change number self.old.items } }
+    {
+        let found = self.table.get(number);
+        let waiting = waiting_without(self.waiting, &self.table, number, found);
+        depart(&mut self.clients, leaver_of(found, &change));
+        let was = waiter_keys_in(found);
+        self.waiting = waiting;
+        let is = self.table.update(number, change, self.alloc);
+        self.index.rekey(number, was, is);
     }
 }
 
 impl Table<Waiter> {
+    /// Changes the waiter numbered `number`, or removes it if there is no change, and returns what
+    /// it is looked up by then.
+    fn update(&mut self, number: u64, change: Option<WaiterChange>, alloc: Global) -> WaiterKeys
+        requires { Allows CanChange change (item_at number self.old.items) }
+        ensures updated { self.new
+            ≡ record self.old { items = updated_at changed_by change number self.old.items } }
+        ensures keys { result
+            ≡ waiter_keys_at (updated changed_by change (item_at number self.old.items)) }
+    {
+        match change {
+            Some(change) => self.change(number, change, alloc),
+            None => {
+                self.close(number);
+                waiter_keys_in(None)
+            }
+        }
+    }
+
     /// Changes the waiter numbered `number`, if there is one, and returns what it is looked up by
     /// then.
     fn change(&mut self, number: u64, change: WaiterChange, alloc: Global) -> WaiterKeys
@@ -474,20 +464,20 @@ fn waiting_without(
         ≡ waiting }
     ensures sound { IsTable waiters.now }
 {
-    let _sound = waiters.is_full();
+    waiters.laws();
     match found {
         Some(waiter) if waiter.is_waiting() => waiting - 1,
         _ => waiting,
     }
 }
 
-/// The client of a waiter, if there is one.
-fn client_of(found: Option<&Waiter>) -> Option<Peer>
-    ensures exact { result ≡ option_map (λ w. w.client) (option_copied found.entry) }
+/// The client of a waiter that is removed, if it is and there is one.
+fn leaver_of(found: Option<&Waiter>, change: &Option<WaiterChange>) -> Option<Peer>
+    ensures exact { result ≡ leaver (λ w. w.client) change.now (option_copied found.entry) }
 {
-    match found {
-        Some(waiter) => Some(Peer::new(waiter.client)),
-        None => None,
+    match (found, change) {
+        (Some(waiter), None) => Some(Peer::new(waiter.client)),
+        (None, _) | (_, Some(_)) => None,
     }
 }
 

@@ -2,7 +2,7 @@
 use crate::fixtures;
 use crate::fixtures::{CLIENT, ORIGIN};
 use coap_dedup::{EXCHANGE_LIFETIME, Records, Seen};
-use coap_exchange::{Exchanges, Sending, Timer};
+use coap_exchange::{Exchanges, Opening, Sending, Timer, digests_of};
 use coap_forward::{Form, SentRequest, answer_of, put_forwarded, token_of};
 use coap_message::{Code, Datagram, MessageRef, Seq};
 use coap_option::screen_request_ref;
@@ -41,7 +41,16 @@ fn coap_exchange(rt: HostRuntime) -> Result<(), Fail> {
     let key = fixtures::key(alloc)?;
     let form = Seq::from_slice(alloc, b"\x48\x01\0\0\0\0\0\0\0\0\0\x01\xB4temp")?;
     let mut exchanges = Exchanges::new(alloc, 256, 16)?;
-    let number = exchanges.admit(client, key, true, form, None, 0)?;
+    let opening = Opening {
+        client,
+        digests: digests_of(&key),
+        key,
+        is_get: true,
+        form,
+        copy: None,
+        now: 0,
+    };
+    let number = exchanges.admit(opening)?;
     assert!(rt; exchanges.due(1, 93_000) == Some((0, number))); // it is its turn
     let sending = Sending {
         asked: 0,

@@ -5,7 +5,7 @@ ghost use Rattle.coap_dedup.specs.Lists.{AreUpTo};
 use coap_cache::CacheKey;
 use coap_dedup::laws::records_stay_so;
 use coap_dedup::{NON_LIFETIME, Records, Refused, Seen};
-use coap_exchange::{AdmitError, Exchanges, Waiters};
+use coap_exchange::{AdmitError, Exchanges, Joining, Opening, Waiters, digests_of};
 use coap_message::{Kind, OptionList, OutOfMemory, Pieces, Seq, Token};
 use coap_target::{Endpoint, Ip, Target};
 use std::alloc::Global;
@@ -46,7 +46,16 @@ fn open(
 ) -> Result<(), OutOfMemory> {
     assert!(rt; exchanges.admitted() < u64::MAX);
     let key = key(alloc)?;
-    let admitted = exchanges.admit(client(port), key, true, Seq::new(alloc), None, 0);
+    let opening = Opening {
+        client: client(port),
+        digests: digests_of(&key),
+        key,
+        is_get: true,
+        form: Seq::new(alloc),
+        copy: None,
+        now: 0,
+    };
+    let admitted = exchanges.admit(opening);
     assert_eq!(rt; admitted, expected);
     Ok(())
 }
@@ -84,13 +93,14 @@ fn wait(
     expected: Result<u64, AdmitError>,
 ) {
     assert!(rt; waiters.admitted() < u64::MAX);
-    let admitted = waiters.admit(
-        client(port),
-        Kind::Non,
-        Token::empty(),
-        Pieces::new(alloc),
-        1,
-    );
+    let joining = Joining {
+        client: client(port),
+        kind: Kind::Non,
+        token: Token::empty(),
+        tags: Pieces::new(alloc),
+        exchange: 1,
+    };
+    let admitted = waiters.admit(joining);
     assert_eq!(rt; admitted, expected);
 }
 

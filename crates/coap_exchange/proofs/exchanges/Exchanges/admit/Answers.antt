@@ -32,13 +32,13 @@ enter-requires-clause-few c =
 pub open_one-requires-clause-room : goal.open_one-requires-clause-room
 open_one-requires-clause-room c =
     let room = room-there c.self.inside.table c.is_full.ensures.sound (sym c.is_full.ensures.exact ∙ c.if-is_full.false) in
-    let few = few-entries (λ (x : Exchange). x.key.target.at) c.self.inside.endpoints c.self.inside.table.items c.holds.ensures.sound c.holds.ensures.distinct c.holds.ensures.some c.self.invariant.1.all in
+    let few = few-entries (λ (x : Exchange). x.key.target.at) c.self.inside.endpoints c.self.inside.table.items c.laws-2.ensures.sound c.laws-2.ensures.distinct c.laws-2.ensures.some c.self.invariant.1.all in
     omega (arith, room, few, c.self.invariant.6.for_endpoints)
 
 pub enter-requires-clause-room : goal.enter-requires-clause-room
 enter-requires-clause-room c =
     let room = room-there c.self.inside.table c.is_full.ensures.sound (sym c.is_full.ensures.exact ∙ c.if-is_full.false) in
-    let few = few-entries (λ (x : Exchange). x.client) c.self.inside.clients c.self.inside.table.items c.holds-2.ensures.sound c.holds-2.ensures.distinct c.holds-2.ensures.some c.self.invariant.4 in
+    let few = few-entries (λ (x : Exchange). x.client) c.self.inside.clients c.self.inside.table.items c.laws-3.ensures.sound c.laws-3.ensures.distinct c.laws-3.ensures.some c.self.invariant.4 in
     omega (arith, room, few, c.self.invariant.6.for_clients)
 
 pub overflow_add-self : goal.overflow_add-self
@@ -57,29 +57,29 @@ pub head_of-next-requires-clause-indexed : goal.head_of-next-requires-clause-ind
 head_of-next-requires-clause-indexed c =
     let is = c.is_full.ensures.sound in
     let t = c.self.inside.table in
-    let x : Exchange = opened c.args.client c.args.key c.args.is_get c.args.form c.args.copy c.args.now in
+    let x : Exchange = opened c.args.opening in
     let room = room-there t is (sym c.is_full.ensures.exact ∙ c.if-is_full.false) in
-    let passed = rw (c.keys_in-was.ensures.exact, c.keys_of-is.ensures.exact, c.new-listed.ensures.exact, c.opened-exchange.ensures.exact, c.in-Ok.ensures.number) at c.rekey.ensures.exact in
-    rw (c.in-Ok.ensures.ok, c.new-listed.ensures.exact, c.opened-exchange.ensures.exact) (have-passed-as (t.admitted + 1) t.limit t.items (admitted_to x t).items c.self.inside.index (moves-admitted t x is) c.self.invariant.2 _ _ (item_at-fresh t is) (item_at-last t.admitted (t.admitted + 1) t.items x (omega arith) is.below) c.rekey.new.self passed (admitted-is t x is room).rising)
+    let passed = rw (c.keys_in-was.ensures.exact, c.keys_of-is.ensures.exact, c.new-listed.ensures.exact, c.opened.ensures.exact, c.in-Ok.ensures.number) at c.rekey.ensures.exact in
+    rw (c.in-Ok.ensures.ok, c.new-listed.ensures.exact, c.opened.ensures.exact) (have-passed-as (t.admitted + 1) t.limit t.items (admitted_to x t).items c.self.inside.index (moves-admitted t x is) c.self.invariant.2 _ _ (item_at-fresh t is) (item_at-last t.admitted (t.admitted + 1) t.items x (omega arith) is.below) c.rekey.new.self passed (admitted-is t x is room).rising)
 
 pub head_of-next-requires-clause-counted : goal.head_of-next-requires-clause-counted
 head_of-next-requires-clause-counted c =
     let t = c.self.inside.table in
-    rw (c.in-Ok.ensures.ok, c.new-listed.ensures.exact, c.opened-exchange.ensures.exact) (counted-push t.items c.self.inside.endpoints c.open_one.new.endpoints _ _ refl refl c.self.invariant.1 (rw (c.peer-at.ensures.exact, c.new-listed.ensures.exact, c.opened-exchange.ensures.exact) at c.open_one.ensures.all) c.open_one.ensures.sent (rw (c.peer-at.ensures.exact, c.new-listed.ensures.exact, c.opened-exchange.ensures.exact) at c.open_one.ensures.queued))
+    rw (c.in-Ok.ensures.ok, c.new-listed.ensures.exact, c.opened.ensures.exact) (counted-push t.items c.self.inside.endpoints c.open_one.new.endpoints _ _ refl refl c.self.invariant.1 (rw (c.peer-at.ensures.exact, c.new-listed.ensures.exact, c.opened.ensures.exact) at c.open_one.ensures.all) c.open_one.ensures.sent (rw (c.peer-at.ensures.exact, c.new-listed.ensures.exact, c.opened.ensures.exact) at c.open_one.ensures.queued))
 
 pub replace-requires-clause-free : goal.replace-requires-clause-free
 replace-requires-clause-free c =
     let is = c.is_full.ensures.sound in
     let t = c.self.inside.table in
     let room = room-there t is (sym c.is_full.ensures.exact ∙ c.if-is_full.false) in
-    rw (c.head_of-head.ensures.exact, c.head_of-next.ensures.exact, c.peer-at.ensures.exact, c.in-Ok.ensures.ok, c.new-listed.ensures.exact, c.opened-exchange.ensures.exact)
-    (admitted-free t _ is room c.self.inside.send_queue c.self.invariant.3 (heads-room t c.self.inside.send_queue is room c.self.invariant.3 c.rises.ensures c.self.invariant.6.for_heads))
+    rw (c.head_of-head.ensures.exact, c.head_of-next.ensures.exact, c.peer-at.ensures.exact, c.in-Ok.ensures.ok, c.new-listed.ensures.exact, c.opened.ensures.exact)
+    (admitted-free t _ is room c.self.inside.send_queue c.self.invariant.3 (heads-room t c.self.inside.send_queue is room c.self.invariant.3 c.laws.ensures c.self.invariant.6.for_heads))
 
 pub replace-requires-clause-room : goal.replace-requires-clause-room
 replace-requires-clause-room c =
     let t = c.self.inside.table in
     let room = room-there t c.is_full.ensures.sound (sym c.is_full.ensures.exact ∙ c.if-is_full.false) in
-    let lt = heads-room t c.self.inside.send_queue c.is_full.ensures.sound room c.self.invariant.3 c.rises.ensures c.self.invariant.6.for_heads in
+    let lt = heads-room t c.self.inside.send_queue c.is_full.ensures.sound room c.self.invariant.3 c.laws.ensures c.self.invariant.6.for_heads in
     let one = one-most c.head_of-next.result in
     omega arith
 
@@ -87,18 +87,18 @@ pub invariant_of-self : goal.invariant_of-self
 invariant_of-self c =
     let is = c.is_full.ensures.sound in
     let t = c.self.inside.table in
-    let x : Exchange = opened c.args.client c.args.key c.args.is_get c.args.form c.args.copy c.args.now in
+    let x : Exchange = opened c.args.opening in
     let room = room-there t is (sym c.is_full.ensures.exact ∙ c.if-is_full.false) in
     let counted = rw c.new-opener.ensures.exact at c.count_of.ensures.exact in
-    let own_room : count (is_opened_by c.args.client) t.items < t.per_client = omega (arith, counted, c.per_client.ensures.exact, c.if-count_of-per_client.false, c.self.invariant.4 c.args.client, c.self.invariant.5 c.args.client) in
-    let passed = rw (c.keys_in-was.ensures.exact, c.keys_of-is.ensures.exact, c.new-listed.ensures.exact, c.opened-exchange.ensures.exact, c.in-Ok.ensures.number) at c.rekey.ensures.exact in
-    let len = rw (c.head_of-head.ensures.exact, c.head_of-next.ensures.exact, c.peer-at.ensures.exact, c.in-Ok.ensures.ok, c.new-listed.ensures.exact, c.opened-exchange.ensures.exact) at c.replace.ensures.length in
-    let replaced = rw (c.head_of-head.ensures.exact, c.head_of-next.ensures.exact, c.peer-at.ensures.exact, c.in-Ok.ensures.ok, c.new-listed.ensures.exact, c.opened-exchange.ensures.exact) at c.replace.ensures.replaced in
-    rw (c.in-Ok.ensures.ok, c.new-listed.ensures.exact, c.opened-exchange.ensures.exact, c.note.ensures.exact) (
+    let own_room : count (is_opened_by c.args.opening.client) t.items < t.per_client = omega (arith, counted, c.per_client.ensures.exact, c.if-count_of-per_client.false, c.self.invariant.4 c.args.opening.client, c.self.invariant.5 c.args.opening.client) in
+    let passed = rw (c.keys_in-was.ensures.exact, c.keys_of-is.ensures.exact, c.new-listed.ensures.exact, c.opened.ensures.exact, c.in-Ok.ensures.number) at c.rekey.ensures.exact in
+    let len = rw (c.head_of-head.ensures.exact, c.head_of-next.ensures.exact, c.peer-at.ensures.exact, c.in-Ok.ensures.ok, c.new-listed.ensures.exact, c.opened.ensures.exact) at c.replace.ensures.length in
+    let replaced = rw (c.head_of-head.ensures.exact, c.head_of-next.ensures.exact, c.peer-at.ensures.exact, c.in-Ok.ensures.ok, c.new-listed.ensures.exact, c.opened.ensures.exact) at c.replace.ensures.replaced in
+    rw (c.in-Ok.ensures.ok, c.new-listed.ensures.exact, c.opened.ensures.exact, c.note.ensures.exact) (
       exchanges-push t.items c.self.inside.queued _ refl c.requires.now refl c.self.invariant.0,
-      counted-push t.items c.self.inside.endpoints c.open_one.new.endpoints _ _ refl refl c.self.invariant.1 (rw (c.peer-at.ensures.exact, c.new-listed.ensures.exact, c.opened-exchange.ensures.exact) at c.open_one.ensures.all) c.open_one.ensures.sent (rw (c.peer-at.ensures.exact, c.new-listed.ensures.exact, c.opened-exchange.ensures.exact) at c.open_one.ensures.queued),
+      counted-push t.items c.self.inside.endpoints c.open_one.new.endpoints _ _ refl refl c.self.invariant.1 (rw (c.peer-at.ensures.exact, c.new-listed.ensures.exact, c.opened.ensures.exact) at c.open_one.ensures.all) c.open_one.ensures.sent (rw (c.peer-at.ensures.exact, c.new-listed.ensures.exact, c.opened.ensures.exact) at c.open_one.ensures.queued),
       have-passed-as (t.admitted + 1) t.limit t.items (admitted_to x t).items c.self.inside.index (moves-admitted t x is) c.self.invariant.2 _ _ (item_at-fresh t is) (item_at-last t.admitted (t.admitted + 1) t.items x (omega arith) is.below) c.rekey.new.self passed (admitted-is t x is room).rising,
-      send_queue-more t _ is room c.self.inside.send_queue c.self.invariant.3 (heads-room t c.self.inside.send_queue is room c.self.invariant.3 c.rises.ensures c.self.invariant.6.for_heads) c.replace.new.self c.replace.ensures.limit len replaced,
+      send_queue-more t _ is room c.self.inside.send_queue c.self.invariant.3 (heads-room t c.self.inside.send_queue is room c.self.invariant.3 c.laws.ensures c.self.invariant.6.for_heads) c.replace.new.self c.replace.ensures.limit len replaced,
       of_clients-push (λ (x : Exchange). x.client) t.items c.self.inside.clients c.enter.new.clients (t.admitted + 1) x (rw c.new-opener.ensures.exact at c.enter.ensures.exact) c.self.invariant.4,
       within-push (λ (x : Exchange). x.client) t x own_room c.self.invariant.5,
       record { for_heads = c.replace.ensures.limit ∙ c.self.invariant.6.for_heads; for_endpoints = c.open_one.ensures.limit ∙ c.self.invariant.6.for_endpoints; for_clients = c.enter.ensures.limit ∙ c.self.invariant.6.for_clients },

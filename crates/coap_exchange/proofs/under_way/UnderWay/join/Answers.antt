@@ -1,8 +1,8 @@
 use Rattle.std.proofs.Common.{◌+◌, refl, ap, Some}
 use Rattle.coap_exchange.specs.declared.waiter.Waiter.{Waiter}
-use Rattle.coap_exchange.specs.declared.waiter.WaiterState.TheVariants.{Waiting}
 use Rattle.coap_exchange.specs.Ready.{Tables}
 use Rattle.coap_exchange.specs.Table.{Table}
+use Rattle.coap_exchange.specs.Waiters.{joined}
 use Rattle.coap_exchange.proofs.Indexing.{none-above, push-at, push-others}
 use Rattle.coap_exchange.proofs.Readying.{waiter-elsewhere, waits-gone, ready-free, ready-moved, ready-room}
 use Rattle.coap_exchange.proofs.under_way.UnderWay.join.Goals as goal
@@ -11,26 +11,26 @@ pub replace-requires-clause-free : goal.replace-requires-clause-free
 replace-requires-clause-free c =
     let old : Tables = record { exchanges = c.self.inside.exchanges; waiters = c.self.inside.waiters } in
     let new : Tables = record { exchanges = c.self.inside.exchanges; waiters = c.admit.new.self } in
-    let come : Waiter = record { client = c.args.client; kind = c.args.kind; token = c.args.token; tags = c.args.tags; state = Waiting c.args.exchange } in
+    let come : Waiter = joined c.args.joining in
     let is = c.in_ok-number.ensures.ok in
-    let stays = waiter-elsewhere (c.self.inside.waiters.admitted + 1) old c.admit.new.self (Some c.args.exchange) c.ready_in-was.ensures.sound c.ready_in-is.ensures.sound (λ q e. rw is (push-others (c.self.inside.waiters.admitted + 1) q c.self.inside.waiters.items come e)) (waits-gone (Some c.args.exchange) _ (none-above c.self.inside.waiters.admitted c.self.inside.waiters.items c.ready_in-was.ensures.sound.below)) (rw (is, push-at (c.self.inside.waiters.admitted + 1) c.self.inside.waiters.items come (none-above c.self.inside.waiters.admitted c.self.inside.waiters.items c.ready_in-was.ensures.sound.below)) refl) in
-    rw (c.ready_in-was.ensures.exact, c.ready_in-is.ensures.exact) (ready-free old new c.ready_in-was.ensures.sound c.ready_in-is.ensures.sound (Some c.args.exchange) stays c.self.inside.ready c.self.invariant)
+    let stays = waiter-elsewhere (c.self.inside.waiters.admitted + 1) old c.admit.new.self (Some c.args.joining.exchange) c.ready_in-was.ensures.sound c.ready_in-is.ensures.sound (λ q e. rw is (push-others (c.self.inside.waiters.admitted + 1) q c.self.inside.waiters.items come e)) (waits-gone (Some c.args.joining.exchange) _ (none-above c.self.inside.waiters.admitted c.self.inside.waiters.items c.ready_in-was.ensures.sound.below)) (rw (is, push-at (c.self.inside.waiters.admitted + 1) c.self.inside.waiters.items come (none-above c.self.inside.waiters.admitted c.self.inside.waiters.items c.ready_in-was.ensures.sound.below)) refl) in
+    rw (c.ready_in-was.ensures.exact, c.ready_in-is.ensures.exact) (ready-free old new c.ready_in-was.ensures.sound c.ready_in-is.ensures.sound (Some c.args.joining.exchange) stays c.self.inside.ready c.self.invariant)
 
 pub replace-requires-clause-room : goal.replace-requires-clause-room
 replace-requires-clause-room c =
     let old : Tables = record { exchanges = c.self.inside.exchanges; waiters = c.self.inside.waiters } in
     let new : Tables = record { exchanges = c.self.inside.exchanges; waiters = c.admit.new.self } in
-    let come : Waiter = record { client = c.args.client; kind = c.args.kind; token = c.args.token; tags = c.args.tags; state = Waiting c.args.exchange } in
+    let come : Waiter = joined c.args.joining in
     let is = c.in_ok-number.ensures.ok in
-    let stays = waiter-elsewhere (c.self.inside.waiters.admitted + 1) old c.admit.new.self (Some c.args.exchange) c.ready_in-was.ensures.sound c.ready_in-is.ensures.sound (λ q e. rw is (push-others (c.self.inside.waiters.admitted + 1) q c.self.inside.waiters.items come e)) (waits-gone (Some c.args.exchange) _ (none-above c.self.inside.waiters.admitted c.self.inside.waiters.items c.ready_in-was.ensures.sound.below)) (rw (is, push-at (c.self.inside.waiters.admitted + 1) c.self.inside.waiters.items come (none-above c.self.inside.waiters.admitted c.self.inside.waiters.items c.ready_in-was.ensures.sound.below)) refl) in
-    rw (c.ready_in-was.ensures.exact, c.ready_in-is.ensures.exact) (ready-room old new c.ready_in-was.ensures.sound c.ready_in-is.ensures.sound (Some c.args.exchange) stays c.self.inside.ready c.self.invariant c.rises.ensures (ap (λ (t : Table Waiter). t.limit) is))
+    let stays = waiter-elsewhere (c.self.inside.waiters.admitted + 1) old c.admit.new.self (Some c.args.joining.exchange) c.ready_in-was.ensures.sound c.ready_in-is.ensures.sound (λ q e. rw is (push-others (c.self.inside.waiters.admitted + 1) q c.self.inside.waiters.items come e)) (waits-gone (Some c.args.joining.exchange) _ (none-above c.self.inside.waiters.admitted c.self.inside.waiters.items c.ready_in-was.ensures.sound.below)) (rw (is, push-at (c.self.inside.waiters.admitted + 1) c.self.inside.waiters.items come (none-above c.self.inside.waiters.admitted c.self.inside.waiters.items c.ready_in-was.ensures.sound.below)) refl) in
+    rw (c.ready_in-was.ensures.exact, c.ready_in-is.ensures.exact) (ready-room old new c.ready_in-was.ensures.sound c.ready_in-is.ensures.sound (Some c.args.joining.exchange) stays c.self.inside.ready c.self.invariant c.laws.ensures (ap (λ (t : Table Waiter). t.limit) is))
 
 pub invariant_of-self-2 : goal.invariant_of-self-2
 invariant_of-self-2 c =
     let old : Tables = record { exchanges = c.self.inside.exchanges; waiters = c.self.inside.waiters } in
     let new : Tables = record { exchanges = c.self.inside.exchanges; waiters = c.admit.new.self } in
-    let come : Waiter = record { client = c.args.client; kind = c.args.kind; token = c.args.token; tags = c.args.tags; state = Waiting c.args.exchange } in
+    let come : Waiter = joined c.args.joining in
     let is = c.in_ok-number.ensures.ok in
-    let stays = waiter-elsewhere (c.self.inside.waiters.admitted + 1) old c.admit.new.self (Some c.args.exchange) c.ready_in-was.ensures.sound c.ready_in-is.ensures.sound (λ q e. rw is (push-others (c.self.inside.waiters.admitted + 1) q c.self.inside.waiters.items come e)) (waits-gone (Some c.args.exchange) _ (none-above c.self.inside.waiters.admitted c.self.inside.waiters.items c.ready_in-was.ensures.sound.below)) (rw (is, push-at (c.self.inside.waiters.admitted + 1) c.self.inside.waiters.items come (none-above c.self.inside.waiters.admitted c.self.inside.waiters.items c.ready_in-was.ensures.sound.below)) refl) in
+    let stays = waiter-elsewhere (c.self.inside.waiters.admitted + 1) old c.admit.new.self (Some c.args.joining.exchange) c.ready_in-was.ensures.sound c.ready_in-is.ensures.sound (λ q e. rw is (push-others (c.self.inside.waiters.admitted + 1) q c.self.inside.waiters.items come e)) (waits-gone (Some c.args.joining.exchange) _ (none-above c.self.inside.waiters.admitted c.self.inside.waiters.items c.ready_in-was.ensures.sound.below)) (rw (is, push-at (c.self.inside.waiters.admitted + 1) c.self.inside.waiters.items come (none-above c.self.inside.waiters.admitted c.self.inside.waiters.items c.ready_in-was.ensures.sound.below)) refl) in
     let replaced = rw (c.ready_in-was.ensures.exact, c.ready_in-is.ensures.exact) at c.replace.ensures.replaced in
-    ready-moved old new c.ready_in-was.ensures.sound c.ready_in-is.ensures.sound (Some c.args.exchange) stays c.self.inside.ready c.self.invariant c.replace.new.self replaced c.replace.ensures.limit (ap (λ (t : Table Waiter). t.limit) is)
+    ready-moved old new c.ready_in-was.ensures.sound c.ready_in-is.ensures.sound (Some c.args.joining.exchange) stays c.self.inside.ready c.self.invariant c.replace.new.self replaced c.replace.ensures.limit (ap (λ (t : Table Waiter). t.limit) is)

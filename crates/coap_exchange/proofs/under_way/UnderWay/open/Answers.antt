@@ -16,7 +16,7 @@ invariant_of-self c = go c.admit.result c.admit.ensures.ok c.admit.ensures.err
     old = record { exchanges = c.self.inside.exchanges; waiters = c.self.inside.waiters }
 
     come : Exchange
-    come = opened c.args.client c.args.key c.args.is_get c.args.form c.args.copy c.args.now
+    come = opened c.args.opening
 
     stays : (ys : Table Exchange) → ys ≡ admitted_to come c.self.inside.exchanges → AreReady (record old { exchanges = ys }) c.self.inside.ready
     stays ys is = ready-same old (record old { exchanges = ys }) c.self.inside.ready (λ e. ap (λ (at : Option ℕ). ready_of at (first_that (waits_for e) c.self.inside.waiters.items)) (rw is (got-push c.self.inside.exchanges come e c.admit.ensures.sound refl))) refl c.self.invariant

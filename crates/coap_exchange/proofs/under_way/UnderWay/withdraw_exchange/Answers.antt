@@ -16,7 +16,7 @@ replace-requires-clause-room c =
     let old : Tables = record { exchanges = c.self.inside.exchanges; waiters = c.self.inside.waiters } in
     let new : Tables = record { exchanges = c.withdraw.new.self; waiters = c.self.inside.waiters } in
     let stays = exchange-elsewhere c.self.inside.exchanges.admitted old c.withdraw.new.self (λ q e. rw c.withdraw.ensures.exact (withdrawn-others c.self.inside.exchanges q e)) in
-    rw (c.ready_in-was.ensures.exact, c.ready_in-is.ensures.exact, c.admitted.ensures.exact) (ready-room old new c.ready_in-was.ensures.sound c.ready_in-is.ensures.sound (Some (c.self.inside.exchanges.admitted)) stays c.self.inside.ready c.self.invariant c.rises.ensures refl)
+    rw (c.ready_in-was.ensures.exact, c.ready_in-is.ensures.exact, c.admitted.ensures.exact) (ready-room old new c.ready_in-was.ensures.sound c.ready_in-is.ensures.sound (Some (c.self.inside.exchanges.admitted)) stays c.self.inside.ready c.self.invariant c.laws.ensures refl)
 
 pub invariant_of-self : goal.invariant_of-self
 invariant_of-self c =

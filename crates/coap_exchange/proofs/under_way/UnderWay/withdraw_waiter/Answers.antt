@@ -18,7 +18,7 @@ replace-requires-clause-room c =
     let old : Tables = record { exchanges = c.self.inside.exchanges; waiters = c.self.inside.waiters } in
     let new : Tables = record { exchanges = c.self.inside.exchanges; waiters = c.withdraw.new.self } in
     let stays = waiter-elsewhere c.self.inside.waiters.admitted old c.withdraw.new.self c.awaited-exchange.result c.ready_in-was.ensures.sound c.ready_in-is.ensures.sound (λ q e. rw c.withdraw.ensures.exact (withdrawn-others c.self.inside.waiters q e)) (rw (c.awaited-exchange.ensures.exact, c.admitted.ensures.exact) (waits-its (item_at c.self.inside.waiters.admitted c.self.inside.waiters.items))) (rw c.withdraw.ensures.exact (waits-gone c.awaited-exchange.result _ (withdrawn-gone c.self.inside.waiters))) in
-    rw (c.ready_in-was.ensures.exact, c.ready_in-is.ensures.exact) (ready-room old new c.ready_in-was.ensures.sound c.ready_in-is.ensures.sound c.awaited-exchange.result stays c.self.inside.ready c.self.invariant c.rises.ensures (rw c.withdraw.ensures.exact (withdrawn-limit c.self.inside.waiters)))
+    rw (c.ready_in-was.ensures.exact, c.ready_in-is.ensures.exact) (ready-room old new c.ready_in-was.ensures.sound c.ready_in-is.ensures.sound c.awaited-exchange.result stays c.self.inside.ready c.self.invariant c.laws.ensures (rw c.withdraw.ensures.exact (withdrawn-limit c.self.inside.waiters)))
 
 pub invariant_of-self : goal.invariant_of-self
 invariant_of-self c =

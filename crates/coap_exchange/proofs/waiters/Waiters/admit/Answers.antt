@@ -1,20 +1,20 @@
 use Rattle.std.proofs.Common.{◌∙◌, ◌+◌, ◌<◌, arith, refl, sym}
 use Rattle.coap_exchange.specs.declared.waiter.Waiter.{Waiter}
-use Rattle.coap_exchange.specs.declared.waiter.WaiterState.TheVariants.{Waiting}
 use Rattle.coap_exchange.specs.Table.{admitted_to, count}
-use Rattle.coap_exchange.specs.Waiters.{is_of, is_waiting}
+use Rattle.coap_exchange.specs.Waiters.{is_of, is_waiting, joined}
 use Rattle.coap_exchange.proofs.ByClient.{of_clients-push, within-push}
 use Rattle.coap_exchange.proofs.Counts.{count-length, count-push}
 use Rattle.coap_exchange.proofs.Fewer.{few-entries}
 use Rattle.coap_exchange.proofs.Steps.{step-admitted, keys-can-pass, keys-passed}
 use Rattle.coap_exchange.proofs.Tables.{admitted-is, item_at-fresh, item_at-last, room-there}
-use Rattle.coap_exchange.proofs.Waiting.{short-push, tallied-push}
+use Rattle.coap_exchange.proofs.Indexing.{moves-admitted}
+use Rattle.coap_exchange.proofs.Waiting.{short-push, tallied-moved}
 use Rattle.coap_exchange.proofs.waiters.Waiters.admit.Goals as goal
 
 pub enter-requires-clause-room : goal.enter-requires-clause-room
 enter-requires-clause-room c =
     let room = room-there c.self.inside.table c.is_full.ensures.sound (sym c.is_full.ensures.exact ∙ c.if-is_full.false) in
-    let few = few-entries (λ (w : Waiter). w.client) c.self.inside.clients c.self.inside.table.items c.holds.ensures.sound c.holds.ensures.distinct c.holds.ensures.some c.self.invariant.3 in
+    let few = few-entries (λ (w : Waiter). w.client) c.self.inside.clients c.self.inside.table.items c.laws.ensures.sound c.laws.ensures.distinct c.laws.ensures.some c.self.invariant.3 in
     omega (arith, room, few, c.self.invariant.5)
 
 pub enter-requires-clause-few : goal.enter-requires-clause-few
@@ -27,27 +27,27 @@ overflow_add-self c = omega (arith, count-length is_waiting c.self.inside.table.
 
 pub rekey-requires : goal.rekey-requires
 rekey-requires c =
-    let w : Waiter = record { client = c.args.client; kind = c.args.kind; token = c.args.token; tags = c.args.tags; state = Waiting c.args.exchange } in
+    let w : Waiter = joined c.args.joining in
     let t = c.self.inside.table in
     let is = c.is_full.ensures.sound in
     let room = room-there t is (sym c.is_full.ensures.exact ∙ c.if-is_full.false) in
-    rw (c.waiter_keys_in-was.ensures.exact, c.waiter_keys_of-is.ensures.exact, c.in-Ok.ensures.number)
+    rw (c.waiter_keys_in-was.ensures.exact, c.waiter_keys_of-is.ensures.exact, c.joined-waiter.ensures.exact, c.in-Ok.ensures.number)
     (keys-can-pass (t.admitted + 1) t (admitted_to w t) (step-admitted t is w (omega (arith, room))) c.self.inside.index c.self.invariant.1 _ _ (item_at-fresh t is) (item_at-last t.admitted (t.admitted + 1) t.items w (omega arith) is.below))
 
 pub invariant_of-self : goal.invariant_of-self
 invariant_of-self c =
-    let w : Waiter = record { client = c.args.client; kind = c.args.kind; token = c.args.token; tags = c.args.tags; state = Waiting c.args.exchange } in
+    let w : Waiter = joined c.args.joining in
     let t = c.self.inside.table in
     let is = c.is_full.ensures.sound in
     let room = room-there t is (sym c.is_full.ensures.exact ∙ c.if-is_full.false) in
     let counted = rw c.new-peer.ensures.exact at c.count_of.ensures.exact in
-    let own_room : count (is_of c.args.client) t.items < t.per_client = omega (arith, counted, c.per_client.ensures.exact, c.if-count_of-per_client.false, c.self.invariant.3 c.args.client, c.self.invariant.4 c.args.client) in
-    let passed = rw (c.waiter_keys_in-was.ensures.exact, c.waiter_keys_of-is.ensures.exact, c.in-Ok.ensures.number) at c.rekey.ensures.exact in
-    rw c.in-Ok.ensures.ok (
+    let own_room : count (is_of c.args.joining.client) t.items < t.per_client = omega (arith, counted, c.per_client.ensures.exact, c.if-count_of-per_client.false, c.self.invariant.3 c.args.joining.client, c.self.invariant.4 c.args.joining.client) in
+    let passed = rw (c.waiter_keys_in-was.ensures.exact, c.waiter_keys_of-is.ensures.exact, c.joined-waiter.ensures.exact, c.in-Ok.ensures.number) at c.rekey.ensures.exact in
+    rw (c.in-Ok.ensures.ok, c.joined-waiter.ensures.exact) (
       record {
         waiting = rw count-push (omega (arith, c.self.invariant.0.waiting));
-        tallied = tallied-push t.items c.self.inside.index.awaited.pairs c.rekey.new.self.awaited.pairs _ c.self.invariant.0.tallied passed.counts;
-        short = short-push t.items _ c.args.exchange refl c.self.invariant.0.short;
+        tallied = tallied-moved (t.admitted + 1) t.items (admitted_to w t).items c.self.inside.index.awaited.pairs c.rekey.new.self.awaited.pairs (moves-admitted t w is) c.self.invariant.0.tallied (rw (item_at-fresh t is, item_at-last t.admitted (t.admitted + 1) t.items w (omega arith) is.below) passed.counts);
+        short = short-push t.items _ c.args.joining.exchange refl c.self.invariant.0.short;
       },
       keys-passed (t.admitted + 1) t (admitted_to w t) (step-admitted t is w (omega (arith, room))) c.self.inside.index c.self.invariant.1 _ _ (item_at-fresh t is) (item_at-last t.admitted (t.admitted + 1) t.items w (omega arith) is.below) c.rekey.new.self passed,
       admitted-is t _ is room,
