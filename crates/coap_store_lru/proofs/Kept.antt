@@ -5,17 +5,15 @@ use Rattle.std.specs.Option.{option_map, option_map_or}
 use Rattle.std.proofs.lemmas.List.Sums.{sum_by-cons}
 use Rattle.coap_endpoint.specs.declared.target.Target.{Target}
 use Rattle.coap_store.specs.declared.key.CacheKey.{CacheKey}
-use Rattle.coap_store.specs.declared.stored.Stored.{Stored}
-use Rattle.coap_store.specs.Sizes.{size_of}
 use Rattle.coap_store.specs.Entries.{Entry, entry_key, entry_size, has_usable, marked, stored_for}
 use Rattle.coap_store.specs.Freshness.{is_usable}
 use Rattle.coap_store_lru.specs.Indexing.{AreThoseOf, is_held}
 use Rattle.coap_store.specs.Keys.{same_key}
 use Rattle.coap_store.specs.Lists.{are_distinct, has_other_key, of_key, others, total, used}
-use Rattle.coap_store.proofs.Distinct.{distinct-filter, distinct-front, distinct-map, of_key-key}
+use Rattle.coap_store.proofs.Distinct.{distinct-filter, distinct-front, distinct-map}
 use Rattle.coap_store.proofs.Held.{IsStore-used, front-length, map-total, marked-key, marked-size}
 use Rattle.coap_store.specs.Alike.{same_key-only}
-use Rattle.coap_store_lru.proofs.Recency.{found-held, held-front, held-others, held-used, none_held, total-others}
+use Rattle.coap_store_lru.proofs.Recency.{found-held, held-front, held-others, held-used, total-others}
 
 module _ (entries : List Entry) (bytes : ℕ) (indexed : CacheKey → Bool) (are : AreThoseOf entries bytes indexed) where
   -- without the entry with a key

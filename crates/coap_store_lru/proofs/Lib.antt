@@ -4,3 +4,4 @@ pub mod Evictions
 pub mod Marks
 pub mod Groups
 pub mod Kept
+pub mod Pushing

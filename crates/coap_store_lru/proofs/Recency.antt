@@ -1,21 +1,18 @@
 -- Entries as an LRU map has them: it compares keys the other way round, and removes the first entry
 -- that it finds.
-use Rattle.std.proofs.Common.{◌≡◌, ◌+◌, ◌-◌, ◌≤◌, is_some, length, take, slice_get, ◌&&◌, ◌||◌, Bool, true, false, cond, not, List, [], ◌∷◌, Option, Some, None, refl, sym, ap, subst, ◌∙◌, arith}
+use Rattle.std.proofs.Common.{◌≡◌, ◌+◌, slice_get, ◌&&◌, ◌||◌, Bool, true, false, cond, not, List, [], ◌∷◌, Option, Some, None, refl, sym, ap, subst, ◌∙◌, arith}
 use Rattle.std.specs.List.{list_all}
 use Rattle.std.specs.Map.{lookup, lookup_entry, remove_entry}
 use Rattle.std.specs.Option.{option_map, option_map_or}
 use Rattle.std.proofs.lemmas.Bool.{and_parts}
 use Rattle.std.proofs.lemmas.List.Sums.{sum_by-cons}
-use Rattle.std.proofs.lemmas.List.{take_all}
-use Rattle.std.proofs.lemmas.Option.{slice_get_past}
-use Rattle.lru.specs.LruCache.{LruCache, displaced, promoted, put_entries}
+use Rattle.lru.specs.LruCache.{promoted}
 use Rattle.coap_store.specs.contracts.key.CacheKeyPartialEq.TheImpl as keys
 use Rattle.coap_store.specs.declared.key.CacheKey.{CacheKey}
 use Rattle.coap_store.specs.declared.stored.Stored.{Stored}
 use Rattle.coap_store.specs.Entries.{Entry, entry_key, entry_size, stored_for}
 use Rattle.coap_store_lru.specs.Indexing.{is_held}
 use Rattle.coap_store.specs.Keys.{same_key}
-use Rattle.coap_store.specs.Sizes.{size_of}
 use Rattle.coap_store.specs.Lists.{has_other_key, of_key, others, used, are_distinct, total}
 use Rattle.coap_store_lru.proofs.Alike.{key_eq}
 use Rattle.coap_store.proofs.Distinct.{of_key-key}
@@ -187,57 +184,3 @@ module _ (k : CacheKey) (es : List Entry) where
       go : (o : Option Entry) → option_map (λ (x : Entry). x.1) o ≡ Some s → (x : Entry) × (o ≡ Some x) × (x.1 ≡ s)
       go None e = absurd cc
       go (Some x) e = (x, refl, cc)
-
--- a put is refused only if its key is new
-pub refused-new : (k : CacheKey) (es : List Entry) → (is_some (lookup (keys.ghosts.eq k) es) ≡ true → ⊥) → of_key entry_key k es ≡ None
-refused-new k es new = none_stored k es (go (stored_for k es) refl)
-  where
-    go : (o : Option Stored) → stored_for k es ≡ o → stored_for k es ≡ None
-    go None e = e
-    go (Some s) e = absurd (new (ap is_some (peeked k es ∙ e)))
-
--- an entry of a key
-abbrev paired : CacheKey → Stored → Entry
-paired k s = (k, s)
-
-module _ (c : LruCache CacheKey Stored) (k : CacheKey) (v : Stored) where
-  -- a put that replaces an entry
-  pub put-replaced : are_distinct entry_key c.entries ≡ true → is_some (stored_for k c.entries) ≡ true → put_entries keys.ghosts.eq c k v ≡ (k, v) ∷ others entry_key k c.entries
-  put-replaced distinct some = rw (popped k c.entries, removed k c.entries distinct) (go (of_key entry_key k c.entries) refl some)
-    where
-      go : (o : Option Entry) → of_key entry_key k c.entries ≡ o → is_some (option_map (λ (x : Entry). x.1) o) ≡ true
-          → option_map_or (λ (e : Entry). (e.0, v) ∷ others entry_key k c.entries) o ((k, v) ∷ take (c.cap - 1) c.entries) ≡ (k, v) ∷ others entry_key k c.entries
-      go None e some = absurd cc
-      go (Some x) e some = ap (λ j. (j, v) ∷ others entry_key k c.entries) (of_key-key entry_key k c.entries x e)
-
-  -- a put with a new key
-  pub put-added : stored_for k c.entries ≡ None → length c.entries ≤ c.cap - 1 → put_entries keys.ghosts.eq c k v ≡ (k, v) ∷ c.entries
-  put-added none few = rw (popped k c.entries, none_stored k c.entries none, take_all (c.cap - 1) c.entries few) refl
-
-  -- what a put returns is what was stored for its key
-  displaced-is : length c.entries ≤ c.cap - 1 → displaced keys.ghosts.eq c k v ≡ option_map (paired k) (stored_for k c.entries)
-  displaced-is few = rw (peeked k c.entries, slice_get_past c.entries (c.cap - 1) few) (go (stored_for k c.entries))
-    where
-      go : (o : Option Stored) → option_map_or (λ (s : Stored). Some (paired k s)) o None ≡ option_map (paired k) o
-      go None = refl
-      go (Some s) = refl
-
-  -- where it returns nothing, the key is new
-  pub displaced-none : length c.entries ≤ c.cap - 1 → None ≡ displaced keys.ghosts.eq c k v → stored_for k c.entries ≡ None
-  displaced-none few none = go (stored_for k c.entries) (none ∙ displaced-is few)
-    where
-      go : (o : Option Stored) → None ≡ option_map (paired k) o → o ≡ None
-      go None e = refl
-      go (Some s) e = absurd cc
-
-  -- else the entry with the key counted for as much as what it returns
-  pub displaced-some : (of : CacheKey) (former : Stored) → length c.entries ≤ c.cap - 1 → Some (of, former) ≡ displaced keys.ghosts.eq c k v → (x : Entry) × (of_key entry_key k c.entries ≡ Some x) × (entry_size x ≡ size_of of former) × (is_some (stored_for k c.entries) ≡ true)
-  displaced-some of former few some = go (stored_for k c.entries) refl (some ∙ displaced-is few)
-    where
-      go : (o : Option Stored) → stored_for k c.entries ≡ o → Some (of, former) ≡ option_map (paired k) o → (x : Entry) × (of_key entry_key k c.entries ≡ Some x) × (entry_size x ≡ size_of of former) × (is_some (stored_for k c.entries) ≡ true)
-      go None e is = absurd cc
-      go (Some s) e is =
-          let found = some_stored k c.entries s e in
-          let same : paired k s ≡ paired of former = cc in
-          let key = of_key-key entry_key k c.entries found.0 found.1 in
-          (found.0, found.1, ap (λ (j : CacheKey). size_of j found.0.1) key ∙ ap (size_of k) found.2 ∙ ap (λ (x : Entry). size_of x.0 x.1) same, ap is_some e)
