@@ -11,8 +11,9 @@ ghost use Rattle.coap_core.specs.Steps.{Does, CanGoOn, IsSentAt, resets};
 use crate::arrival::Arrival;
 use crate::state::{State, silent};
 use coap_endpoint::Endpoint;
+use coap_exchange::{ExchangeNumber, WaiterNumber};
 use coap_forward::bad_gateway;
-use coap_message::{Datagram, Kind, MessageRef};
+use coap_message::{Datagram, Kind, MessageRef, Moment};
 use coap_model::{Outcome, Report, Storing};
 use coap_store::Store;
 
@@ -33,7 +34,12 @@ impl<S: Store + Drop> State<S> {
 
     /// Acknowledges or resets the request of the exchange numbered `number`. If that was
     /// acknowledged or answered before, the message isn't for a request.
-    fn on_sent(&mut self, arrival: Arrival<'_, '_>, number: u64, out: &mut Datagram) -> Report
+    fn on_sent(
+        &mut self,
+        arrival: Arrival<'_, '_>,
+        number: ExchangeNumber,
+        out: &mut Datagram,
+    ) -> Report
         requires can { CanGoOn self.old }
         requires bare { is_bare arrival.message.now ≡ true }
         requires there { is_some (item_at number self.old.exchanges) ≡ true }
@@ -56,7 +62,7 @@ impl<S: Store + Drop> State<S> {
 
     /// Marks the request of the exchange numbered `number` as acknowledged: its answer is to come
     /// as a separate response.
-    fn acknowledge(&mut self, now: u64, number: u64, out: &mut Datagram) -> Report
+    fn acknowledge(&mut self, now: Moment, number: ExchangeNumber, out: &mut Datagram) -> Report
         requires can { CanGoOn self.old }
         requires sent { IsSentAt number self.old.exchanges }
         ensures { Does (acknowledges self.old now number) result out.old out.new self.new }
@@ -69,7 +75,7 @@ impl<S: Store + Drop> State<S> {
 
     /// Answers the exchange numbered `number`, whose request was rejected, with the proxy's own
     /// answer (RFC 7252, 4.2 and 5.9.3.3). Doesn't allocate.
-    fn reset(&mut self, now: u64, number: u64, out: &mut Datagram) -> Report
+    fn reset(&mut self, now: Moment, number: ExchangeNumber, out: &mut Datagram) -> Report
         requires can { CanGoOn self.old }
         requires sent { IsSentAt number self.old.exchanges }
         ensures { Does (resets self.old now number) result out.old out.new self.new }
@@ -98,7 +104,7 @@ impl<S: Store + Drop> State<S> {
     }
 
     /// Removes the client numbered `number`, which has acknowledged its answer, or rejected it.
-    fn close_client(&mut self, now: u64, number: u64, out: &mut Datagram) -> Report
+    fn close_client(&mut self, now: Moment, number: WaiterNumber, out: &mut Datagram) -> Report
         requires { CanGoOn self.old }
         ensures { Does (closes self.old now number) result out.old out.new self.new }
     {

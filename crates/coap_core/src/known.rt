@@ -16,7 +16,7 @@ use crate::state::{State, silent};
 use coap_dedup::{Records, Seen};
 use coap_endpoint::Endpoint;
 use coap_forward::put_bare;
-use coap_message::{Code, Datagram, Head, Kind, MessageRef, OutOfMemory, Seq, Token};
+use coap_message::{Code, Datagram, Head, Kind, MessageRef, Moment, OutOfMemory, Seq, Token};
 use coap_model::{Outcome, Report};
 use coap_store::Store;
 
@@ -78,7 +78,7 @@ impl<S: Store + Drop> State<S> {
     }
 
     /// Whether there is room to remember one more message of this type from this endpoint.
-    pub(crate) fn has_record_room(&self, now: u64, source: Endpoint, kind: Kind) -> bool
+    pub(crate) fn has_record_room(&self, now: Moment, source: Endpoint, kind: Kind) -> bool
         requires { CanGoOn self.now }
         ensures { result ≡ has_record_room self.now now source kind }
     {
@@ -116,7 +116,7 @@ impl<S: Store + Drop> State<S> {
     }
 
     /// Drops a message that there is no room to remember, without a reply.
-    pub(crate) fn drop_message(&mut self, now: u64, out: &mut Datagram) -> Report
+    pub(crate) fn drop_message(&mut self, now: Moment, out: &mut Datagram) -> Report
         requires { CanGoOn self.old }
         ensures { Does (drops self.old now) result out.old out.new self.new }
     {
@@ -127,7 +127,7 @@ impl<S: Store + Drop> State<S> {
 
     /// Whether a reply can be sent at once to a request of this type. An acknowledgement needs no
     /// new id.
-    pub(crate) fn can_reply(&self, now: u64, kind: Kind) -> bool
+    pub(crate) fn can_reply(&self, now: Moment, kind: Kind) -> bool
         requires ready { CanStep now self.now }
         ensures { result ≡ can_reply self.now now kind }
     {

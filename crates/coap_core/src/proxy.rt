@@ -22,7 +22,7 @@ use crate::state::State;
 use crate::ticks::moment_of;
 use crate::timing::Timing;
 use coap_endpoint::Endpoint;
-use coap_message::{Datagram, OutOfMemory};
+use coap_message::{Datagram, Moment, OutOfMemory};
 use coap_model::{ClientCounts, Counts, DueItem, Limits, Report, laws};
 use coap_store::Store;
 use coap_target::Routes;
@@ -112,7 +112,7 @@ impl<S: Store + Drop> Core<S> {
     /// that ran out of memory can be retried: what was due is still due.
     pub fn step(
         &mut self,
-        now: u64,
+        now: Moment,
         draw: u16,
         event: Event<'_>,
         out: &mut Datagram,
@@ -206,7 +206,7 @@ impl<S: Store + Drop> Core<S> {
     }
 
     /// When the next item is due, in milliseconds, if any is. It is at most 2^62 + 600,000.
-    pub fn next_due(&self) -> Option<u64>
+    pub fn next_due(&self) -> Option<Moment>
         ensures exact { result ≡ next_due self.now }
         ensures bounded { IfSome result (λ at. at ≤ 2 ^ 62 + 600000) }
     {
@@ -214,7 +214,7 @@ impl<S: Store + Drop> Core<S> {
     }
 
     /// The moment of the last step, in milliseconds, or 0 before the first.
-    pub fn last(&self) -> u64
+    pub fn last(&self) -> Moment
         ensures exact { result ≡ self.now.last }
     {
         self.state.last

@@ -27,7 +27,7 @@ use crate::known::{put_acceptance, reply_kind};
 use crate::request_target::{CacheQuery, RequestTarget};
 use crate::state::{State, silent};
 use coap_endpoint::{Endpoint, Target};
-use coap_exchange::{Digests, Joining, Opening, digests_of};
+use coap_exchange::{Digests, ExchangeNumber, Joining, Opening, digests_of};
 use coap_forward::{
     Form, put_bare, put_forwarded, put_stored, put_with_max_age, token_of, validating_tag,
 };
@@ -89,7 +89,7 @@ pub(crate) struct NewExchange {
 
 /// A request that waits for the exchange of this number, whose client holds responses with these
 /// tags.
-fn joining_of(arrival: Arrival<'_, '_>, tags: Pieces, exchange: u64) -> Joining
+fn joining_of(arrival: Arrival<'_, '_>, tags: Pieces, exchange: ExchangeNumber) -> Joining
     ensures { result
         ≡ record {
           client = arrival.entry.from;
@@ -329,7 +329,7 @@ impl<S: Store + Drop> State<S> {
     fn on_joinable(
         &mut self,
         arrival: Arrival<'_, '_>,
-        exchange: u64,
+        exchange: ExchangeNumber,
         asked: &CacheQuery,
         out: &mut Datagram,
     ) -> Result<Report, OutOfMemory>
@@ -648,7 +648,7 @@ impl<S: Store + Drop> State<S> {
     fn join(
         &mut self,
         arrival: Arrival<'_, '_>,
-        exchange: u64,
+        exchange: ExchangeNumber,
         tags: Pieces,
         out: &mut Datagram,
     ) -> Result<Report, OutOfMemory>

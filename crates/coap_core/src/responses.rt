@@ -18,11 +18,11 @@ use crate::copies::copy_of_message;
 use crate::known::put_acceptance;
 use crate::state::State;
 use coap_endpoint::{Endpoint, Target};
-use coap_exchange::{Answer, Exchange, Sending};
+use coap_exchange::{Answer, Exchange, ExchangeNumber, Sending};
 use coap_forward::{SentRequest, answer_of, created_by, is_change, is_storable, number_of};
-use coap_message::{Datagram, Kind, MessageRef, OutOfMemory};
+use coap_message::{Datagram, Kind, MessageRef, Moment, OutOfMemory};
 use coap_model::{Outcome, Report, Storing};
-use coap_store::{CacheKey, Put, Store, Stored};
+use coap_store::{CacheKey, EventNumber, Put, Store, Stored};
 use std::alloc::Global;
 
 /// Whether its request was sent, and has no answer yet.
@@ -65,7 +65,7 @@ fn awaits(exchange: &Exchange, source: Endpoint, response: &MessageRef<'_>) -> b
 }
 
 /// The number of the event in which the request of an exchange was sent.
-fn asked_of(sending: &Option<Sending>) -> u64
+fn asked_of(sending: &Option<Sending>) -> EventNumber
     ensures { result ≡ asked_of sending.now }
 {
     match sending {
@@ -206,7 +206,7 @@ impl<S: Store + Drop> State<S> {
 
     /// The number of the exchange that awaits this response from this endpoint: it is matched by
     /// endpoint and token, and in an acknowledgement also by Message ID.
-    fn awaiting(&self, source: Endpoint, response: &MessageRef<'_>) -> Option<u64>
+    fn awaiting(&self, source: Endpoint, response: &MessageRef<'_>) -> Option<ExchangeNumber>
         requires { CanGoOn self.now }
         ensures exact { result ≡ option_map (λ x. x.0) (awaiting self.now source response.now) }
         ensures open { IfSome result (λ number. IsOpenAt number self.now.exchanges) }
@@ -225,7 +225,7 @@ impl<S: Store + Drop> State<S> {
     fn answer(
         &mut self,
         arrival: Arrival<'_, '_>,
-        number: u64,
+        number: ExchangeNumber,
         out: &mut Datagram,
     ) -> Result<Report, OutOfMemory>
         requires can { CanGoOn self.old }
@@ -292,7 +292,7 @@ impl<S: Store + Drop> State<S> {
     /// The answer that a response makes for an exchange.
     fn answer_made(
         &self,
-        now: u64,
+        now: Moment,
         exchange: &Exchange,
         response: &MessageRef<'_>,
     ) -> Result<Answer, OutOfMemory>
@@ -310,7 +310,7 @@ impl<S: Store + Drop> State<S> {
     /// The entry to be stored for the answer of an exchange, if it may be stored.
     fn entry_made(
         &self,
-        now: u64,
+        now: Moment,
         exchange: &Exchange,
         answer: &Answer,
     ) -> Result<Option<(CacheKey, Stored)>, OutOfMemory>

@@ -12,7 +12,7 @@ use crate::setting::Setting;
 use coap_dedup::{EXCHANGE_LIFETIME, NON_LIFETIME, Records};
 use coap_endpoint::Endpoint;
 use coap_exchange::{Exchanges, Ids, UnderWay, Waiters};
-use coap_message::OutOfMemory;
+use coap_message::{Moment, OutOfMemory};
 use coap_model::{ClientCounts, Counts, Limits, Outcome, Report};
 use coap_store::Store;
 use coap_target::Routes;
@@ -32,7 +32,7 @@ pub(crate) struct State<S: Store> {
     pub(crate) con_records: Records,
     pub(crate) non_records: Records,
     pub(crate) ids: Ids,
-    pub(crate) last: u64,
+    pub(crate) last: Moment,
     pub(crate) events: u64,
 }
 
@@ -131,7 +131,7 @@ impl<S: Store + Drop> State<S> {
     }
 
     /// Advances the clock by one event.
-    pub(crate) fn advance(&mut self, now: u64)
+    pub(crate) fn advance(&mut self, now: Moment)
         requires { self.old.events < 2 ^ 63 }
         ensures { self.new ≡ later self.old now }
     {
@@ -147,7 +147,7 @@ impl<S: Store + Drop> State<S> {
     }
 
     /// Gives the next Message ID (RFC 7252, 4.4).
-    pub(crate) fn take_id(&mut self, now: u64) -> u16
+    pub(crate) fn take_id(&mut self, now: Moment) -> u16
         requires { 0 < left_of now self.old.ids }
         ensures id { result ≡ next_id self.old }
         ensures given { self.new ≡ record self.old { ids = called now self.old.ids } }
@@ -168,7 +168,7 @@ impl<S: Store + Drop> State<S> {
     }
 
     /// Whether `count` Message IDs are free at this moment.
-    pub(crate) fn has_ids(&self, count: u64, now: u64) -> bool
+    pub(crate) fn has_ids(&self, count: u64, now: Moment) -> bool
         requires ready { CanStep now self.now }
         requires few { count < 3 }
         ensures { result ≡ has_ids count self.now now }
@@ -195,7 +195,7 @@ impl<S: Store + Drop> State<S> {
     }
 
     /// Whether this client may wait for an exchange that is in progress.
-    pub(crate) fn has_room_to_join(&self, now: u64, client: Endpoint) -> bool
+    pub(crate) fn has_room_to_join(&self, now: Moment, client: Endpoint) -> bool
         requires ready { CanStep now self.now }
         ensures { result ≡ has_room_to_join self.now now client }
     {
@@ -203,7 +203,7 @@ impl<S: Store + Drop> State<S> {
     }
 
     /// Whether there is room for an exchange and this client, which opens it.
-    pub(crate) fn has_room_to_open(&self, now: u64, client: Endpoint) -> bool
+    pub(crate) fn has_room_to_open(&self, now: Moment, client: Endpoint) -> bool
         requires ready { CanStep now self.now }
         ensures { result ≡ has_room_to_open self.now now client }
     {

@@ -17,7 +17,7 @@ use crate::state::{State, silent};
 use crate::timing::Timing;
 use coap_endpoint::Endpoint;
 use coap_forward::put_bare;
-use coap_message::{Code, Datagram, Head, Kind, MessageRef, OutOfMemory, Token, head_of};
+use coap_message::{Code, Datagram, Head, Kind, MessageRef, Moment, OutOfMemory, Token, head_of};
 use coap_model::{DueItem, Outcome, Report};
 use coap_store::Store;
 
@@ -63,7 +63,7 @@ impl<S: Store + Drop> State<S> {
 
     fn on_datagram(
         &mut self,
-        now: u64,
+        now: Moment,
         source: Endpoint,
         bytes: &[u8],
         out: &mut Datagram,
@@ -142,7 +142,13 @@ impl<S: Store + Drop> State<S> {
 
     /// Rejects a Confirmable message that can't be processed, and ignores any other: `head` is its
     /// start.
-    fn unprocessed(&mut self, now: u64, source: Endpoint, head: Head, out: &mut Datagram) -> Report
+    fn unprocessed(
+        &mut self,
+        now: Moment,
+        source: Endpoint,
+        head: Head,
+        out: &mut Datagram,
+    ) -> Report
         requires can { CanGoOn self.old }
         requires fits { length (unprocessed self.old now source head.kind head.id).bytes
             ≤ out.old.room }
@@ -158,7 +164,7 @@ impl<S: Store + Drop> State<S> {
     /// Rejects a message that can't be processed with a Reset, which has its id (RFC 7252, 4.2).
     pub(crate) fn reject(
         &mut self,
-        now: u64,
+        now: Moment,
         source: Endpoint,
         id: u16,
         out: &mut Datagram,
@@ -181,7 +187,7 @@ impl<S: Store + Drop> State<S> {
     }
 
     /// Ignores a message.
-    pub(crate) fn ignore(&mut self, now: u64, out: &mut Datagram) -> Report
+    pub(crate) fn ignore(&mut self, now: Moment, out: &mut Datagram) -> Report
         requires { CanGoOn self.old }
         ensures { Does (ignores self.old now) result out.old out.new self.new }
     {

@@ -14,14 +14,17 @@ use crate::laws;
 use crate::state::{State, silent};
 use crate::timing::Timing;
 use coap_endpoint::Endpoint;
-use coap_exchange::{Exchange, ExchangeState, Fire, Sending, Timer, Waiter, WaiterState};
+use coap_exchange::{
+    Exchange, ExchangeNumber, ExchangeState, Fire, Sending, Timer, Waiter, WaiterNumber,
+    WaiterState,
+};
 use coap_forward::{gateway_timeout, put_shown};
-use coap_message::{Datagram, Kind, OutOfMemory, Seq};
+use coap_message::{Datagram, Kind, Moment, OutOfMemory, Seq};
 use coap_model::{DueItem, Outcome, Report};
 use coap_store::{Reply, Store};
 
 /// The moment from which on this is due, if it is something.
-pub(crate) fn moment_of(due: Option<DueItem>) -> Option<u64>
+pub(crate) fn moment_of(due: Option<DueItem>) -> Option<Moment>
     ensures { result ≡ option_map moment_of due }
 {
     match due? {
@@ -43,7 +46,7 @@ pub(crate) struct Due {
 pub(crate) struct Delivery {
     client: Due,
     kind: Kind,
-    exchange: u64,
+    exchange: ExchangeNumber,
 }
 
 impl<S: Store + Drop> State<S> {
@@ -100,7 +103,7 @@ impl<S: Store + Drop> State<S> {
     }
 
     /// Nothing is due.
-    fn idle(&mut self, now: u64, out: &mut Datagram) -> Report
+    fn idle(&mut self, now: Moment, out: &mut Datagram) -> Report
         requires { CanGoOn self.old }
         ensures { Does (idles self.old now) result out.old out.new self.new }
     {
@@ -113,7 +116,7 @@ impl<S: Store + Drop> State<S> {
 
     /// Handles the exchange numbered `number`, which is due: it times out at its deadline, and
     /// before that its request is sent, or sent again.
-    fn on_exchange(&mut self, timing: Timing, number: u64, out: &mut Datagram) -> Report
+    fn on_exchange(&mut self, timing: Timing, number: ExchangeNumber, out: &mut Datagram) -> Report
         requires ready { CanStep timing.now self.old }
         requires draw { timing.draw ≤ 1000 }
         requires due { IsFound (IsExchangeDue self.old timing.now) number self.old.exchanges }
@@ -136,7 +139,7 @@ impl<S: Store + Drop> State<S> {
     }
 
     /// Whether the deadline of an exchange has come.
-    fn is_late(&self, now: u64, exchange: &Exchange) -> bool
+    fn is_late(&self, now: Moment, exchange: &Exchange) -> bool
         ensures { result
             ≡ nat_le (deadline self.now.setting.limits.exchange_ms exchange.now) now }
     {
@@ -167,7 +170,7 @@ impl<S: Store + Drop> State<S> {
 
     /// Handles the end of the current timeout of an exchange: its request is retransmitted, with
     /// the same bytes, or abandoned (RFC 7252, 4.2).
-    fn on_request_timeout(&mut self, now: u64, due: Due, out: &mut Datagram) -> Report
+    fn on_request_timeout(&mut self, now: Moment, due: Due, out: &mut Datagram) -> Report
         requires ready { CanStep now self.old }
         requires ended { IsFound (λ x. IsDue now x × (due.to ≡ x.key.target.at)) due.number
             self.old.exchanges }
@@ -188,7 +191,7 @@ impl<S: Store + Drop> State<S> {
     }
 
     /// Writes the request of the exchange numbered `number`.
-    fn put_form(&self, number: u64, out: &mut Datagram)
+    fn put_form(&self, number: ExchangeNumber, out: &mut Datagram)
         requires there { is_some (item_at number self.now.exchanges) ≡ true }
         requires fits { length (form_at number self.now.exchanges) ≤ out.old.room }
         ensures { out.new ≡ holding out.old (form_at number self.now.exchanges) }
@@ -202,7 +205,7 @@ impl<S: Store + Drop> State<S> {
 
     /// Answers the exchange numbered `number` with the proxy's own answer, because none came in
     /// time (RFC 7252, 5.7.1).
-    fn give_up(&mut self, now: u64, number: u64, out: &mut Datagram) -> Report
+    fn give_up(&mut self, now: Moment, number: ExchangeNumber, out: &mut Datagram) -> Report
         requires events { self.old.events < 2 ^ 63 }
         requires open { IfSome (item_at number self.old.exchanges) (λ x. is_done x ≡ false) }
         ensures { Does (gives_up self.old now number) result out.old out.new self.new }
@@ -221,7 +224,7 @@ impl<S: Store + Drop> State<S> {
     fn on_waiter(
         &mut self,
         timing: Timing,
-        number: u64,
+        number: WaiterNumber,
         out: &mut Datagram,
     ) -> Result<Report, OutOfMemory>
         requires ready { CanStep timing.now self.old }
@@ -258,7 +261,13 @@ impl<S: Store + Drop> State<S> {
 
     /// Writes what a client is sent for the answer of this exchange, with the next Message ID, in a
     /// message of the type of its request.
-    fn put_delivery(&self, now: u64, waiter: &Waiter, exchange: u64, out: &mut Datagram)
+    fn put_delivery(
+        &self,
+        now: Moment,
+        waiter: &Waiter,
+        exchange: ExchangeNumber,
+        out: &mut Datagram,
+    )
         requires answered { HasAnswer exchange self.now.exchanges }
         requires fits { length (given_at self.now now waiter.now exchange) ≤ out.old.room }
         ensures put { out.new ≡ holding out.old (given_at self.now now waiter.now exchange) }
@@ -338,7 +347,7 @@ impl<S: Store + Drop> State<S> {
     }
 
     /// Closes an exchange if no client waits for it any more.
-    fn close_if_unused(&mut self, exchange: u64)
+    fn close_if_unused(&mut self, exchange: ExchangeNumber)
         ensures { self.new
             ≡ record self.old {
               exchanges = without_idle exchange self.old.waiters self.old.exchanges;
@@ -351,7 +360,7 @@ impl<S: Store + Drop> State<S> {
 
     /// Handles the end of the current timeout of a client that was sent its answer: the answer is
     /// retransmitted, with the same bytes, or abandoned (RFC 7252, 4.2).
-    fn on_delivery_timeout(&mut self, now: u64, due: Due, out: &mut Datagram) -> Report
+    fn on_delivery_timeout(&mut self, now: Moment, due: Due, out: &mut Datagram) -> Report
         requires ready { CanStep now self.old }
         requires ended { IsFound (λ v. waiters.IsDue now v × (due.to ≡ v.client)) due.number
             self.old.waiters }
@@ -372,7 +381,7 @@ impl<S: Store + Drop> State<S> {
     }
 
     /// Writes the answer that the client numbered `number` was sent.
-    fn put_answer(&self, number: u64, out: &mut Datagram)
+    fn put_answer(&self, number: WaiterNumber, out: &mut Datagram)
         requires told { IsFound (λ v. is_waiting v ≡ false) number self.now.waiters }
         requires fits { length (answer_at number self.now.waiters) ≤ out.old.room }
         ensures { out.new ≡ holding out.old (answer_at number self.now.waiters) }
@@ -388,7 +397,7 @@ impl<S: Store + Drop> State<S> {
     }
 
     /// Removes the client numbered `number`, which didn't acknowledge its answer in time.
-    fn abandon(&mut self, now: u64, number: u64, out: &mut Datagram) -> Report
+    fn abandon(&mut self, now: Moment, number: WaiterNumber, out: &mut Datagram) -> Report
         requires { self.old.events < 2 ^ 63 }
         ensures { Does (abandons self.old now number) result out.old out.new self.new }
     {

@@ -1,10 +1,12 @@
 //! When a step is taken, and what is drawn for it.
 
+use coap_message::Moment;
+
 /// The moment of a step, and its draw.
 #[derive(Clone, Copy)]
 pub(crate) struct Timing {
     /// The moment, in milliseconds.
-    pub(crate) now: u64,
+    pub(crate) now: Moment,
     /// A random number of milliseconds, added to the first timeout of what is sent.
     pub(crate) draw: u16,
 }

@@ -6,7 +6,7 @@ ghost use Rattle.coap_dedup.specs.Lists.{is_living};
 
 use crate::key::Key;
 use coap_endpoint::Endpoint;
-use coap_message::Seq;
+use coap_message::{Moment, Seq};
 
 /// A message that was seen, and what was sent immediately in reply to it.
 pub struct Record {
@@ -15,7 +15,7 @@ pub struct Record {
     /// Its Message ID.
     pub id: u16,
     /// The time at which it arrived, in milliseconds.
-    pub at: u64,
+    pub at: Moment,
     /// The datagram that was sent in reply, if one was.
     pub reply: Option<Seq<u8>>,
 }
@@ -33,7 +33,7 @@ impl Drop for Record {
 
 impl Record {
     /// A record, whose reply is shrunk to fit.
-    pub(crate) fn new(from: Endpoint, id: u16, at: u64, reply: Option<Seq<u8>>) -> Record
+    pub(crate) fn new(from: Endpoint, id: u16, at: Moment, reply: Option<Seq<u8>>) -> Record
         ensures { result ≡ record { from = from; id = id; at = at; reply = reply } }
     {
         let reply = match reply {
@@ -72,7 +72,7 @@ impl Record {
     }
 
     /// Whether less than `lifetime` milliseconds have passed since the message arrived.
-    pub(crate) fn is_living(&self, lifetime: u64, now: u64) -> bool
+    pub(crate) fn is_living(&self, lifetime: u64, now: Moment) -> bool
         ensures { result ≡ is_living lifetime now self.now }
     {
         match self.at.checked_add(lifetime) {

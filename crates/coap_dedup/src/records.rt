@@ -18,7 +18,7 @@ use crate::seen::Seen;
 use crate::sources::Share;
 use circular_buffer::HeapCircularBuffer;
 use coap_endpoint::Endpoint;
-use coap_message::{OutOfMemory, Seq};
+use coap_message::{Moment, OutOfMemory, Seq};
 use std::alloc::Global;
 use std::marker::Model;
 
@@ -115,7 +115,7 @@ impl Records {
 
     /// Whether a message from this endpoint with this Message ID was seen before, and what was sent
     /// in reply (RFC 7252, 4.5). Doesn't allocate.
-    pub fn seen(&self, from: Endpoint, id: u16, now: u64) -> Seen<'_>
+    pub fn seen(&self, from: Endpoint, id: u16, now: Moment) -> Seen<'_>
         ensures exact { told result
             ≡ option_map (λ r. r.reply) (record_of from id (living_at now self.now)) }
         ensures sound { AreRecords self.now }
@@ -127,21 +127,21 @@ impl Records {
     }
 
     /// The number of live records. Doesn't allocate.
-    pub fn living(&self, now: u64) -> usize
+    pub fn living(&self, now: Moment) -> usize
         ensures exact { result ≡ length (living_at now self.now) }
     {
         self.ring.len() - count_dead(&self.ring, self.lifetime, now)
     }
 
     /// Whether the number of live records has reached the limit. Doesn't allocate.
-    pub fn is_full(&self, now: u64) -> bool
+    pub fn is_full(&self, now: Moment) -> bool
         ensures exact { result ≡ (length (living_at now self.now) == self.now.limit) }
     {
         self.ring.len() == self.ring.capacity() && !is_first_dead(&self.ring, self.lifetime, now)
     }
 
     /// The number of live records of messages from this endpoint. Doesn't allocate.
-    pub fn living_of(&self, from: Endpoint, now: u64) -> usize
+    pub fn living_of(&self, from: Endpoint, now: Moment) -> usize
         ensures exact { result ≡ living_of from now self.now }
     {
         let _laws = self.ring.len();
@@ -155,7 +155,7 @@ impl Records {
 
     /// Whether the number of live records of messages from this endpoint has reached the limit for
     /// one endpoint. Doesn't allocate.
-    pub fn is_client_full(&self, from: Endpoint, now: u64) -> bool
+    pub fn is_client_full(&self, from: Endpoint, now: Moment) -> bool
         ensures exact { result ≡ (living_of from now self.now == self.now.per_client) }
     {
         if self.ring.len() < self.per_client {
@@ -182,7 +182,7 @@ impl Records {
         &mut self,
         from: Endpoint,
         id: u16,
-        now: u64,
+        now: Moment,
         reply: Option<Seq<u8>>,
     ) -> Result<(), Refused>
         requires new { record_of from id (living_at now self.old) ≡ None }
@@ -228,7 +228,7 @@ impl Records {
 }
 
 /// The number of expired records, which are the first ones.
-fn count_dead(ring: &HeapCircularBuffer<Record>, lifetime: u64, now: u64) -> usize
+fn count_dead(ring: &HeapCircularBuffer<Record>, lifetime: u64, now: Moment) -> usize
     requires { AreInOrder ring.now.items }
     ensures { result + length (living lifetime now ring.now.items) ≡ length ring.now.items }
 {
@@ -246,7 +246,7 @@ fn count_dead(ring: &HeapCircularBuffer<Record>, lifetime: u64, now: u64) -> usi
 }
 
 /// Whether the record at a position is live.
-fn lives_at(ring: &HeapCircularBuffer<Record>, place: usize, lifetime: u64, now: u64) -> bool
+fn lives_at(ring: &HeapCircularBuffer<Record>, place: usize, lifetime: u64, now: Moment) -> bool
     ensures { result
         ≡ option_map_or (is_living lifetime now) (slice_get ring.now.items place) false }
 {
@@ -262,7 +262,7 @@ fn lives_numbered(
     number: u64,
     first: u64,
     lifetime: u64,
-    now: u64,
+    now: Moment,
 ) -> bool
     requires { first < 2 ^ 64 }
     ensures { result
@@ -280,7 +280,7 @@ fn count_dead_of(
     numbers: &Numbers,
     share: Share,
     lifetime: u64,
-    now: u64,
+    now: Moment,
 ) -> usize
     requires few { length ring.now.items < 2 ^ 63 }
     requires in_order { AreInOrder ring.now.items }
@@ -304,7 +304,7 @@ fn count_dead_of(
 }
 
 /// Whether the first record has expired.
-fn is_first_dead(ring: &HeapCircularBuffer<Record>, lifetime: u64, now: u64) -> bool
+fn is_first_dead(ring: &HeapCircularBuffer<Record>, lifetime: u64, now: Moment) -> bool
     ensures { result
         ≡ option_map_or (λ r. not (is_living lifetime now r)) (slice_get ring.now.items 0) false }
 {
@@ -319,7 +319,7 @@ fn release_dead(
     ring: &mut HeapCircularBuffer<Record>,
     numbers: &mut Numbers,
     lifetime: u64,
-    now: u64,
+    now: Moment,
 )
     requires in_order { AreInOrder ring.old.items }
     requires apart { AreApart ring.old.items }

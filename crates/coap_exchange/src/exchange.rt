@@ -8,14 +8,17 @@ use crate::digests::Digests;
 use crate::endpoints::Stage;
 use crate::timer::{Fire, Timer};
 use coap_endpoint::{Endpoint, Target};
-use coap_message::{EXCHANGE_LIFETIME, Seq, set_id};
-use coap_store::{Answer, CacheKey, Stored};
+use coap_message::{EXCHANGE_LIFETIME, Moment, Seq, set_id};
+use coap_store::{Answer, CacheKey, EventNumber, Stored};
+
+/// The number of an exchange. They count up from 1.
+pub type ExchangeNumber = u64;
 
 /// How a request was sent.
 #[derive(Clone, Copy)]
 pub struct Sending {
     /// The number of the event in which the request was first sent.
-    pub asked: u64,
+    pub asked: EventNumber,
     /// The Message ID of the request.
     pub id: u16,
     pub timer: Timer,
@@ -23,7 +26,7 @@ pub struct Sending {
 
 impl Sending {
     /// Whether it has this id, and started less than 247,000 milliseconds before `now`.
-    pub fn is_as(&self, id: u16, now: u64) -> bool
+    pub fn is_as(&self, id: u16, now: Moment) -> bool
         ensures exact { result ≡ is_as id now self.now }
     {
         self.id == id && now.saturating_sub(self.timer.started) < EXCHANGE_LIFETIME
@@ -66,7 +69,7 @@ pub struct Exchange {
     /// The stored response that the request asks to validate, if it does (RFC 7252, 5.6.2).
     pub copy: Option<Stored>,
     /// When the exchange was opened, in milliseconds.
-    pub admitted: u64,
+    pub admitted: Moment,
     /// How the request was sent, once it has been.
     pub sending: Option<Sending>,
     /// Whether its target has changed since the request was sent (RFC 7252, 5.9.1).
@@ -105,7 +108,7 @@ pub struct Opening {
     /// The stored response that it asks to validate, if it does (RFC 7252, 5.6.2).
     pub copy: Option<Stored>,
     /// When it came, in milliseconds.
-    pub now: u64,
+    pub now: Moment,
 }
 
 impl Drop for Opening {
@@ -156,7 +159,7 @@ pub(crate) enum Change {
     /// Its request is sent.
     Send(Sending),
     /// Its timer is due at this moment, in milliseconds.
-    Fire(u64),
+    Fire(Moment),
     /// Its request is acknowledged.
     Acknowledge,
     /// Its answer has come.
@@ -245,7 +248,7 @@ impl Exchange {
 
     /// Whether its request was sent to the endpoint `at` with Message ID `id`, less than 247,000
     /// milliseconds before `now` (RFC 7252, 4.4).
-    pub fn was_sent_as(&self, at: Endpoint, id: u16, now: u64) -> bool
+    pub fn was_sent_as(&self, at: Endpoint, id: u16, now: Moment) -> bool
         ensures exact { result ≡ was_sent_as at id now self.now }
     {
         match &self.sending {
@@ -263,7 +266,7 @@ impl Exchange {
     }
 
     /// What its timer calls for, now that it is due.
-    pub(crate) fn fire_of(&self, now: u64) -> Fire
+    pub(crate) fn fire_of(&self, now: Moment) -> Fire
         ensures exact { result ≡ fire_of_sending now self.now.sending }
     {
         match &self.sending {
@@ -289,7 +292,7 @@ impl Exchange {
         }
     }
 
-    fn fire(&mut self, now: u64)
+    fn fire(&mut self, now: Moment)
         requires now { now ≤ 2 ^ 62 }
         requires timer { CanFire now self.old.sending }
         ensures exact { self.new ≡ fired_exchange now self.old }

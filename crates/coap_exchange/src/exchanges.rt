@@ -21,7 +21,7 @@ use crate::digests::{Digests, digest_of_target, digests_of};
 use crate::due::{later, sooner};
 use crate::endpoint_map::EndpointMap;
 use crate::endpoints::{Stage, close_one, counts_of, lowered, move_one, open_one};
-use crate::exchange::{Change, Exchange, Opening, Sending};
+use crate::exchange::{Change, Exchange, ExchangeNumber, Opening, Sending};
 use crate::index::{ExchangeKeys, Index, Sought, first_sought, keys_at, keys_in, keys_of};
 use crate::indexed_exchange::{IndexedExchange, client_of};
 use crate::peer::Peer;
@@ -29,7 +29,7 @@ use crate::send_queue::{SendQueue, head_of, peer_of};
 use crate::table::{AdmitError, Items, Table};
 use crate::timer::Fire;
 use coap_endpoint::{Endpoint, Target};
-use coap_message::OutOfMemory;
+use coap_message::{Moment, OutOfMemory};
 use coap_store::{Answer, CacheKey};
 use std::alloc::Global;
 use std::marker::Model;
@@ -153,7 +153,7 @@ impl Exchanges {
     }
 
     /// The exchange numbered `number`, if it is in the table.
-    pub fn get(&self, number: u64) -> Option<&Exchange>
+    pub fn get(&self, number: ExchangeNumber) -> Option<&Exchange>
         ensures exact { option_copied result ≡ item_at number self.now.items }
         ensures sound { IsTable self.now }
     {
@@ -161,7 +161,7 @@ impl Exchanges {
     }
 
     /// The answer of the exchange numbered `number`, if it has come.
-    pub fn answer_of(&self, number: u64) -> Option<&Answer>
+    pub fn answer_of(&self, number: ExchangeNumber) -> Option<&Answer>
         ensures exact { option_copied result ≡ answer_in number self.now.items }
     {
         match self.get(number) {
@@ -171,7 +171,7 @@ impl Exchanges {
     }
 
     /// When the earliest of the answers came, in milliseconds.
-    pub(crate) fn first_got(&self) -> Option<u64>
+    pub(crate) fn first_got(&self) -> Option<Moment>
         ensures exact { IsFirstGot self.now.items result }
         ensures sound { IsTable self.now }
     {
@@ -183,7 +183,7 @@ impl Exchanges {
     }
 
     /// The least number greater than `after` of an exchange whose answer came at this moment.
-    pub(crate) fn next_got(&self, moment: u64, after: u64) -> Option<u64>
+    pub(crate) fn next_got(&self, moment: Moment, after: ExchangeNumber) -> Option<ExchangeNumber>
         ensures exact { IsNextGot moment after self.now.items result }
     {
         self.index.dones.next_of(moment, after)
@@ -192,14 +192,14 @@ impl Exchanges {
     /// The number of the exchange whose answer a GET with this key may share: a GET with an equal
     /// key, whose target hasn't changed since it was sent, and whose answer hasn't come. If there
     /// are several, the first.
-    pub fn joinable(&self, key: &CacheKey) -> Option<u64>
+    pub fn joinable(&self, key: &CacheKey) -> Option<ExchangeNumber>
         ensures exact { result ≡ first_that (is_joinable key.now) self.now.items }
     {
         self.joinable_as(key, digests_of(key))
     }
 
     /// That of `joinable`, for a key whose digests are at hand.
-    pub fn joinable_as(&self, key: &CacheKey, digests: Digests) -> Option<u64>
+    pub fn joinable_as(&self, key: &CacheKey, digests: Digests) -> Option<ExchangeNumber>
         requires { digests ≡ digests_of key.now }
         ensures exact { result ≡ first_that (is_joinable key.now) self.now.items }
     {
@@ -210,7 +210,7 @@ impl Exchanges {
     /// The number of the exchange whose request was sent to the endpoint `at` with Message ID `id`,
     /// less than 247,000 milliseconds before `now` (RFC 7252, 4.4). If there are several, the
     /// first.
-    pub fn sent_as(&self, at: Endpoint, id: u16, now: u64) -> Option<u64>
+    pub fn sent_as(&self, at: Endpoint, id: u16, now: Moment) -> Option<ExchangeNumber>
         ensures exact { result ≡ first_that (was_sent_as at id now) self.now.items }
     {
         let sought = Sought::SentAs(at, id, now);
@@ -227,7 +227,7 @@ impl Exchanges {
     ///
     /// The deadline is `exchange_ms` milliseconds after the admission, where `exchange_ms` is at
     /// most 600,000.
-    pub fn due(&self, nstart: usize, exchange_ms: u64) -> Option<(u64, u64)>
+    pub fn due(&self, nstart: usize, exchange_ms: u64) -> Option<(Moment, ExchangeNumber)>
         requires { exchange_ms ≤ 600000 }
         ensures exact { result
             ≡ first_due (due_among nstart exchange_ms self.now.items) self.now.items }
@@ -250,7 +250,7 @@ impl Exchanges {
     /// # Errors
     /// `Full` if the table has no room for another exchange; otherwise `ClientFull` if it has none
     /// for another of this client; otherwise `OutOfMemory`. The table is unchanged then.
-    pub fn admit(&mut self, opening: Opening) -> Result<u64, AdmitError>
+    pub fn admit(&mut self, opening: Opening) -> Result<ExchangeNumber, AdmitError>
         requires numbers { self.old.admitted < 2 ^ 64 - 1 }
         requires now { opening.now ≤ 2 ^ 62 }
         requires digests { opening.digests ≡ digests_of opening.key }
@@ -319,7 +319,7 @@ impl Exchanges {
     }
 
     /// Removes the exchange numbered `number`, if there is one.
-    pub fn close(&mut self, number: u64)
+    pub fn close(&mut self, number: ExchangeNumber)
         ensures closed { self.new ≡ record self.old { items = without number self.old.items } }
     {
         self.update(number, None);
@@ -328,7 +328,7 @@ impl Exchanges {
     /// Marks the request of the exchange numbered `number`, which was waiting for its turn, as
     /// sent, and writes the Message ID of the sending into its encoded form. The timer's timeout is
     /// at most 3,000 milliseconds, like that of a new timer.
-    pub fn send(&mut self, number: u64, sending: Sending)
+    pub fn send(&mut self, number: ExchangeNumber, sending: Sending)
         requires queued { IfSome (item_at number self.old.items) (λ x. is_queued x ≡ true) }
         requires short { sending.timer.timeout ≤ 3000 }
         ensures sent { self.new
@@ -340,7 +340,7 @@ impl Exchanges {
     /// Fires the timer of the exchange numbered `number`, whose request was sent, and returns what
     /// is to be done. If the request is to be sent again, the timer counts that. `now` is in
     /// milliseconds, and at most 2^62.
-    pub fn fire(&mut self, number: u64, now: u64) -> Fire
+    pub fn fire(&mut self, number: ExchangeNumber, now: Moment) -> Fire
         requires due { IfSome (item_at number self.old.items) (IsDue now) }
         requires now { now ≤ 2 ^ 62 }
         ensures exact { result ≡ fire_at now (item_at number self.old.items) }
@@ -356,7 +356,7 @@ impl Exchanges {
     }
 
     /// Marks the request of the exchange numbered `number`, which was sent, as acknowledged.
-    pub fn acked(&mut self, number: u64)
+    pub fn acked(&mut self, number: ExchangeNumber)
         requires sent { IfSome (item_at number self.old.items) (λ x. is_sent x ≡ true) }
         ensures acked { self.new
             ≡ record self.old { items = changed_at number acked self.old.items } }
@@ -365,7 +365,7 @@ impl Exchanges {
     }
 
     /// Records the answer of the exchange numbered `number`: a response, or the proxy's own answer.
-    pub fn answered(&mut self, number: u64, answer: Answer)
+    pub fn answered(&mut self, number: ExchangeNumber, answer: Answer)
         requires open { IfSome (item_at number self.old.items) (λ x. is_done x ≡ false) }
         ensures answered { self.new
             ≡ record self.old { items = changed_at number (answered answer) self.old.items } }
@@ -385,7 +385,7 @@ impl Exchanges {
     /// Changes the exchange numbered `number`, or removes it if there is no change. Nothing happens
     /// if there is no such exchange. What is counted of it, what it is looked up by, and whose turn
     /// it is follow.
-    pub(crate) fn update(&mut self, number: u64, change: Option<Change>)
+    pub(crate) fn update(&mut self, number: ExchangeNumber, change: Option<Change>)
         requires { CanUpdate change (item_at number self.old.items) }
         ensures { self.new
             ≡ record self.old { items = updated_at changed_by change number self.old.items } }
@@ -408,7 +408,7 @@ impl Exchanges {
 impl Table<IndexedExchange> {
     /// Changes the exchange numbered `number`, or removes it if there is no change, and returns
     /// what it is looked up by then.
-    fn update(&mut self, number: u64, change: Option<Change>) -> ExchangeKeys
+    fn update(&mut self, number: ExchangeNumber, change: Option<Change>) -> ExchangeKeys
         requires { Allows CanChange change (item_at number self.old.items) }
         ensures updated { self.new
             ≡ record self.old { items = updated_at changed_by change number self.old.items } }
@@ -426,7 +426,7 @@ impl Table<IndexedExchange> {
 
     /// Changes the exchange numbered `number`, if there is one, and returns what it is looked up by
     /// then.
-    fn change(&mut self, number: u64, change: Change) -> ExchangeKeys
+    fn change(&mut self, number: ExchangeNumber, change: Change) -> ExchangeKeys
         requires { IfSome (item_at number self.old.items) (CanChange change) }
         ensures changed { self.new
             ≡ record self.old { items = changed_at number (changed_by change) self.old.items } }
@@ -436,7 +436,7 @@ impl Table<IndexedExchange> {
         change_under(&mut self.items, number, change)
     }
 
-    fn taint(&mut self, number: u64, target: &Target)
+    fn taint(&mut self, number: ExchangeNumber, target: &Target)
         ensures { self.new
             ≡ record self.old {
               items = changed_at number (tainted_by target.now) self.old.items;
@@ -454,7 +454,7 @@ fn first_turn(
     queued: usize,
     send_queue: &SendQueue,
     nstart: usize,
-) -> Option<(u64, u64)>
+) -> Option<(Moment, ExchangeNumber)>
     requires queued { queued ≡ count is_queued exchanges.now.items }
     requires counted { AreCounted exchanges.now.items endpoints.now }
     requires send_queue { IsSendQueue exchanges.now.items send_queue.now }
@@ -473,7 +473,7 @@ fn first_in_order(
     exchanges: &Table<IndexedExchange>,
     send_queue: &SendQueue,
     nstart: usize,
-) -> Option<(u64, u64)>
+) -> Option<(Moment, ExchangeNumber)>
     requires send_queue { IsSendQueue exchanges.now.items send_queue.now }
     requires order { send_queue.now.in_order ≡ true }
     ensures exact { result
@@ -492,7 +492,7 @@ fn first_of_all(
     endpoints: &EndpointMap,
     queued: usize,
     nstart: usize,
-) -> Option<(u64, u64)>
+) -> Option<(Moment, ExchangeNumber)>
     requires queued { queued ≡ count is_queued exchanges.now.items }
     requires counted { AreCounted exchanges.now.items endpoints.now }
     ensures exact { result
@@ -506,7 +506,7 @@ fn first_of_all(
 }
 
 impl Table<IndexedExchange> {
-    fn first_turn(&self, endpoints: &EndpointMap, nstart: usize) -> Option<(u64, u64)>
+    fn first_turn(&self, endpoints: &EndpointMap, nstart: usize) -> Option<(Moment, ExchangeNumber)>
         requires counted { AreCounted self.now.items endpoints.now }
         ensures exact { result ≡ first_due (turn_among nstart self.now.items) self.now.items }
     {
@@ -522,10 +522,10 @@ impl Table<IndexedExchange> {
     fn turn_at(
         &self,
         endpoints: &EndpointMap,
-        number: u64,
+        number: ExchangeNumber,
         listed: &IndexedExchange,
         nstart: usize,
-    ) -> Option<(u64, u64)>
+    ) -> Option<(Moment, ExchangeNumber)>
         requires counted { AreCounted self.now.items endpoints.now }
         ensures exact { result
             ≡ due_row (turn_among nstart self.now.items) (number, listed.now) }
@@ -539,7 +539,11 @@ impl Table<IndexedExchange> {
     }
 }
 
-fn change_under(exchanges: &mut Items<IndexedExchange>, number: u64, change: Change) -> ExchangeKeys
+fn change_under(
+    exchanges: &mut Items<IndexedExchange>,
+    number: ExchangeNumber,
+    change: Change,
+) -> ExchangeKeys
     requires { IfSome (get nat_eq exchanges.old number) (CanChange change) }
     ensures found { IfSome (get nat_eq exchanges.old number) (λ x.
         exchanges.new.entries
@@ -558,7 +562,7 @@ fn change_under(exchanges: &mut Items<IndexedExchange>, number: u64, change: Cha
     }
 }
 
-fn taint_under(exchanges: &mut Items<IndexedExchange>, number: u64, target: &Target)
+fn taint_under(exchanges: &mut Items<IndexedExchange>, number: ExchangeNumber, target: &Target)
     ensures found { IfSome (get nat_eq exchanges.old number) (λ x.
         exchanges.new.entries
         ≡ set_value (nat_eq number) exchanges.old.entries (tainted_by target.now x)) }
@@ -591,7 +595,7 @@ fn taint_all(exchanges: &mut Table<IndexedExchange>, index: &mut Index, target: 
 fn taint_one(
     exchanges: &mut Table<IndexedExchange>,
     index: &mut Index,
-    number: u64,
+    number: ExchangeNumber,
     target: &Target,
 )
     requires { AreIndexed exchanges.old.items exchanges.old.limit index.old }
@@ -610,7 +614,7 @@ fn taint_one(
 fn queued_without(
     queued: usize,
     exchanges: &Table<IndexedExchange>,
-    number: u64,
+    number: ExchangeNumber,
     found: Option<&IndexedExchange>,
 ) -> usize
     requires queued { queued ≡ count is_queued exchanges.now.items }
@@ -632,7 +636,7 @@ fn queued_without(
 fn recount(
     endpoints: &mut EndpointMap,
     exchanges: &Table<IndexedExchange>,
-    number: u64,
+    number: ExchangeNumber,
     found: Option<&IndexedExchange>,
     change: &Option<Change>,
 )

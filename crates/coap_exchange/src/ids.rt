@@ -2,7 +2,7 @@
 ghost use Rattle.std.specs.Prelude.{◌≡◌};
 ghost use Rattle.coap_exchange.specs.Ids.{called, left_of, new_ids, next_of};
 
-use coap_message::EXCHANGE_LIFETIME;
+use coap_message::{EXCHANGE_LIFETIME, Moment};
 
 /// The Message IDs that a proxy gives out: they count up from the first, and wrap from 65,535 to 0.
 ///
@@ -35,7 +35,7 @@ impl Ids {
     }
 
     /// The number of ids that can still be given in the window of `now`.
-    pub fn left(&self, now: u64) -> u32
+    pub fn left(&self, now: Moment) -> u32
         ensures exact { result ≡ left_of now self.now }
     {
         if self.window == now / EXCHANGE_LIFETIME {
@@ -46,7 +46,7 @@ impl Ids {
     }
 
     /// Gives the next id, unless none is left in the window of `now`.
-    pub fn next(&mut self, now: u64) -> Option<u16>
+    pub fn next(&mut self, now: Moment) -> Option<u16>
         ensures id { result ≡ next_of now self.old }
         ensures given { self.new ≡ called now self.old }
     {

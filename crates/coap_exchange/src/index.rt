@@ -5,11 +5,11 @@ ghost use Rattle.coap_exchange.specs.Index.{queue_of, end_of, got_of, id_of, cac
 ghost use Rattle.ordered_index.specs.Ordered.{empty_index};
 ghost use Rattle.coap_exchange.specs.Table.{first_that, item_at, passes, IsRising, IsTable};
 
-use crate::exchange::Exchange;
+use crate::exchange::{Exchange, ExchangeNumber};
 use crate::indexed_exchange::IndexedExchange;
 use crate::table::Table;
 use coap_endpoint::Endpoint;
-use coap_message::OutOfMemory;
+use coap_message::{Moment, OutOfMemory};
 use coap_store::CacheKey;
 use ordered_index::{HashedIndex, OrderedIndex};
 use std::alloc::Global;
@@ -38,9 +38,9 @@ pub(crate) struct Index {
 #[derive(Clone, Copy)]
 pub(crate) struct ExchangeKeys {
     pub(crate) id: Option<u64>,
-    pub(crate) got: Option<u64>,
-    pub(crate) opening: Option<u64>,
-    pub(crate) end: Option<u64>,
+    pub(crate) got: Option<Moment>,
+    pub(crate) opening: Option<Moment>,
+    pub(crate) end: Option<Moment>,
     pub(crate) queue: Option<u64>,
     pub(crate) cache_key: Option<u64>,
     pub(crate) target: Option<u64>,
@@ -51,7 +51,7 @@ pub(crate) struct ExchangeKeys {
 pub(crate) enum Sought<'a> {
     /// One whose request was sent to this endpoint with this Message ID, less than 247,000
     /// milliseconds before this moment.
-    SentAs(Endpoint, u16, u64),
+    SentAs(Endpoint, u16, Moment),
     /// One whose answer a GET with this key may share.
     Joinable(&'a CacheKey),
     /// One that is waiting for its turn with this endpoint.
@@ -96,7 +96,7 @@ impl Index {
     }
 
     /// Updates what the exchange numbered `number` is looked up by, from `was` to `is`.
-    pub(crate) fn rekey(&mut self, number: u64, was: ExchangeKeys, is: ExchangeKeys)
+    pub(crate) fn rekey(&mut self, number: ExchangeNumber, was: ExchangeKeys, is: ExchangeKeys)
         requires { CanRekeyAll self.old number was is }
         ensures exact { HaveRekeyed self.old self.new number was is }
     {
@@ -111,7 +111,7 @@ impl Index {
 }
 
 /// What the exchange numbered `number` is looked up by, if there is one.
-pub(crate) fn keys_at(exchanges: &Table<IndexedExchange>, number: u64) -> ExchangeKeys
+pub(crate) fn keys_at(exchanges: &Table<IndexedExchange>, number: ExchangeNumber) -> ExchangeKeys
     ensures exact { result ≡ keys_at (item_at number exchanges.now.items) }
     ensures sound { IsTable exchanges.now }
 {
@@ -161,7 +161,7 @@ fn id_of(exchange: &Exchange) -> Option<u64>
     }
 }
 
-fn got_of(exchange: &Exchange) -> Option<u64>
+fn got_of(exchange: &Exchange) -> Option<Moment>
     ensures exact { result ≡ got_of exchange.now }
 {
     match exchange.answer() {
@@ -170,7 +170,7 @@ fn got_of(exchange: &Exchange) -> Option<u64>
     }
 }
 
-fn opening_of(exchange: &Exchange) -> Option<u64>
+fn opening_of(exchange: &Exchange) -> Option<Moment>
     ensures exact { result ≡ opening_of exchange.now }
 {
     if exchange.answer().is_some() {
@@ -180,7 +180,7 @@ fn opening_of(exchange: &Exchange) -> Option<u64>
     }
 }
 
-fn end_of(exchange: &Exchange) -> Option<u64>
+fn end_of(exchange: &Exchange) -> Option<Moment>
     ensures exact { result ≡ end_of exchange.now }
 {
     match &exchange.sending {
@@ -196,7 +196,7 @@ pub(crate) fn first_sought(
     index: &HashedIndex,
     key: u64,
     sought: &Sought,
-) -> Option<u64>
+) -> Option<ExchangeNumber>
     requires rising { IsRising 0 exchanges.now.items }
     requires listed { AreListed (is_met sought.now) key exchanges.now.items index.now.pairs }
     ensures exact { result ≡ first_that (is_met sought.now) exchanges.now.items }
@@ -212,7 +212,7 @@ pub(crate) fn first_sought(
 }
 
 /// Whether the exchange numbered `number` is one that is looked for.
-fn is_sought_at(exchanges: &Table<IndexedExchange>, number: u64, sought: &Sought) -> bool
+fn is_sought_at(exchanges: &Table<IndexedExchange>, number: ExchangeNumber, sought: &Sought) -> bool
     ensures exact { result
         ≡ passes (is_met sought.now) (item_at number exchanges.now.items) }
 {

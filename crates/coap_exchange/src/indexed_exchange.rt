@@ -7,7 +7,7 @@ ghost use Rattle.coap_exchange.specs.Table.{item_at, IsTable};
 
 use crate::digests::Digests;
 use crate::endpoints::Stage;
-use crate::exchange::{Change, Exchange};
+use crate::exchange::{Change, Exchange, ExchangeNumber};
 use crate::peer::Peer;
 use crate::table::Table;
 use coap_endpoint::Target;
@@ -125,7 +125,7 @@ pub(crate) fn client_of(found: Option<&IndexedExchange>) -> Option<Peer>
 
 impl Table<IndexedExchange> {
     /// The exchange numbered `number`.
-    pub(crate) fn exchange(&self, number: u64) -> Option<&Exchange>
+    pub(crate) fn exchange(&self, number: ExchangeNumber) -> Option<&Exchange>
         ensures exact { option_copied result ≡ item_at number self.now.items }
         ensures sound { IsTable self.now }
     {

@@ -52,11 +52,11 @@ mod waiters;
 
 pub use coap_store::Answer;
 pub use digests::{Digests, digests_of};
-pub use exchange::{Exchange, ExchangeState, Opening, Sending};
+pub use exchange::{Exchange, ExchangeNumber, ExchangeState, Opening, Sending};
 pub use exchanges::Exchanges;
 pub use ids::Ids;
 pub use table::AdmitError;
 pub use timer::{Fire, Timer};
 pub use under_way::UnderWay;
-pub use waiter::{Joining, Waiter, WaiterState};
+pub use waiter::{Joining, Waiter, WaiterNumber, WaiterState};
 pub use waiters::Waiters;

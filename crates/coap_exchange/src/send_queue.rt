@@ -7,11 +7,12 @@ ghost use Rattle.coap_exchange.specs.SendQueue.{endpoint_in, head_in, lower, not
 
 use crate::endpoint_map::EndpointMap;
 use crate::endpoints::counts_of;
+use crate::exchange::ExchangeNumber;
 use crate::index::{Index, Sought, first_sought};
 use crate::indexed_exchange::IndexedExchange;
 use crate::peer::Peer;
 use crate::table::Table;
-use coap_message::OutOfMemory;
+use coap_message::{Moment, OutOfMemory};
 use ordered_index::OrderedIndex;
 use std::alloc::Global;
 
@@ -22,7 +23,7 @@ pub(crate) struct SendQueue {
     /// endpoint.
     pub(crate) heads: OrderedIndex,
     /// The latest moment of an admission, in milliseconds.
-    pub(crate) latest: u64,
+    pub(crate) latest: Moment,
     /// Whether exchanges were admitted in order of time, so that the lower of two numbers comes
     /// first.
     pub(crate) in_order: bool,
@@ -42,7 +43,7 @@ impl SendQueue {
     }
 
     /// Notes that an exchange is admitted now, after all others.
-    pub(crate) fn note(&mut self, now: u64)
+    pub(crate) fn note(&mut self, now: Moment)
         ensures exact { self.new ≡ noted now self.old }
     {
         self.in_order = self.in_order && self.latest <= now;
@@ -51,7 +52,7 @@ impl SendQueue {
 
     /// The least number of the exchanges that can be sent, if they were admitted in order: those
     /// with fewer than `nstart` exchanges sent to their endpoint.
-    pub(crate) fn first(&self, nstart: usize) -> Option<u64>
+    pub(crate) fn first(&self, nstart: usize) -> Option<ExchangeNumber>
         ensures exact { IsLowestUnder nstart self.now.heads.pairs result }
     {
         let mut first = None;
@@ -68,7 +69,7 @@ impl SendQueue {
 }
 
 /// The lower of two numbers, or the second if there is no first.
-fn lower(first: Option<u64>, number: u64) -> Option<u64>
+fn lower(first: Option<ExchangeNumber>, number: ExchangeNumber) -> Option<ExchangeNumber>
     ensures { result ≡ lower first number }
 {
     match first {

@@ -2,7 +2,7 @@
 ghost use Rattle.std.specs.Prelude.{◌≡◌, ◌<◌, ◌≤◌, ◌^◌, true};
 ghost use Rattle.coap_exchange.specs.Timers.{fire_of, fired, goes_on, started};
 
-use coap_message::{ACK_TIMEOUT, MAX_RETRANSMIT, MAX_TRANSMIT_WAIT};
+use coap_message::{ACK_TIMEOUT, MAX_RETRANSMIT, MAX_TRANSMIT_WAIT, Moment};
 
 /// What is to be done when a timer is due.
 #[derive(Clone, Copy)]
@@ -19,11 +19,11 @@ pub enum Fire {
 #[derive(Clone, Copy)]
 pub struct Timer {
     /// The moment of the first sending.
-    pub started: u64,
+    pub started: Moment,
     /// The length of the current timeout.
     pub timeout: u64,
     /// When the current timeout ends.
-    pub due: u64,
+    pub due: Moment,
     /// How many times the message was sent.
     pub sends: u8,
 }
@@ -31,7 +31,7 @@ pub struct Timer {
 impl Timer {
     /// The timer of a message that is first sent now. The first timeout is 2,000 milliseconds
     /// (ACK_TIMEOUT; RFC 7252, 4.8) plus `draw`, which is at most 1,000. `now` is at most 2^62.
-    pub fn start(now: u64, draw: u16) -> Timer
+    pub fn start(now: Moment, draw: u16) -> Timer
         requires now { now ≤ 2 ^ 62 }
         requires draw { draw ≤ 1000 }
         ensures exact { result ≡ started now draw }
@@ -47,7 +47,7 @@ impl Timer {
 
     /// Whether the message is to be sent again now: it was sent fewer than five times, and first
     /// less than 93,000 milliseconds ago.
-    fn goes_on(&self, now: u64) -> bool
+    fn goes_on(&self, now: Moment) -> bool
         ensures exact { result ≡ goes_on now self.now }
         ensures few { result ≡ true → self.now.sends < 5 }
     {
@@ -55,7 +55,7 @@ impl Timer {
     }
 
     /// What is to be done if it is due now.
-    pub(crate) fn fire_of(&self, now: u64) -> Fire
+    pub(crate) fn fire_of(&self, now: Moment) -> Fire
         ensures exact { result ≡ fire_of now self.now }
     {
         if self.goes_on(now) {
@@ -68,7 +68,7 @@ impl Timer {
     /// Fires the timer, which is due: `now` isn't before the end of the current timeout. Returns
     /// what is to be done. If the message is to be sent again, that is counted, and the next
     /// timeout starts, which is twice as long. `now` is at most 2^62, and the timeout at most 2^32.
-    pub fn fire(&mut self, now: u64) -> Fire
+    pub fn fire(&mut self, now: Moment) -> Fire
         requires due { self.old.due ≤ now }
         requires now { now ≤ 2 ^ 62 }
         requires short { self.old.timeout ≤ 2 ^ 32 }

@@ -14,14 +14,14 @@ ghost use Rattle.coap_exchange.specs.Waiters as waiters;
 ghost use Rattle.coap_exchange.specs.Updates.{updated_at};
 
 use crate::due::sooner;
-use crate::exchange::{Change, Exchange, Opening, Sending};
+use crate::exchange::{Change, Exchange, ExchangeNumber, Opening, Sending};
 use crate::exchanges::Exchanges;
 use crate::table::AdmitError;
 use crate::timer::{Fire, Timer};
-use crate::waiter::{Joining, Waiter, WaiterChange};
+use crate::waiter::{Joining, Waiter, WaiterChange, WaiterNumber};
 use crate::waiters::{Waiters, due_at};
 use coap_endpoint::Target;
-use coap_message::{OutOfMemory, Seq};
+use coap_message::{Moment, OutOfMemory, Seq};
 use coap_store::Answer;
 use ordered_index::OrderedIndex;
 use std::alloc::Global;
@@ -97,7 +97,7 @@ impl UnderWay {
     }
 
     /// The exchange numbered `number`: `Exchanges::get`.
-    pub fn exchange(&self, number: u64) -> Option<&Exchange>
+    pub fn exchange(&self, number: ExchangeNumber) -> Option<&Exchange>
         ensures exact { option_copied result ≡ item_at number self.now.exchanges.items }
         ensures sound { IsTable self.now.exchanges }
     {
@@ -105,7 +105,7 @@ impl UnderWay {
     }
 
     /// The waiter numbered `number`: `Waiters::get`.
-    pub fn waiter(&self, number: u64) -> Option<&Waiter>
+    pub fn waiter(&self, number: WaiterNumber) -> Option<&Waiter>
         ensures exact { option_copied result ≡ item_at number self.now.waiters.items }
         ensures sound { IsTable self.now.waiters }
     {
@@ -114,7 +114,7 @@ impl UnderWay {
 
     /// The moment when the first waiter is due, in milliseconds, and its number: that of
     /// `Waiters::due`.
-    pub fn waiter_due(&self) -> Option<(u64, u64)>
+    pub fn waiter_due(&self) -> Option<(Moment, WaiterNumber)>
         ensures exact { result
             ≡ first_due (due_after self.now.exchanges.items) self.now.waiters.items }
     {
@@ -125,7 +125,7 @@ impl UnderWay {
     ///
     /// # Errors
     /// Those of `Exchanges::admit`. Nothing is changed then.
-    pub fn open(&mut self, opening: Opening) -> Result<u64, AdmitError>
+    pub fn open(&mut self, opening: Opening) -> Result<ExchangeNumber, AdmitError>
         requires numbers { self.old.exchanges.admitted < 2 ^ 64 - 1 }
         requires now { opening.now ≤ 2 ^ 62 }
         requires digests { opening.digests ≡ digests_of opening.key }
@@ -167,7 +167,7 @@ impl UnderWay {
     }
 
     /// `Exchanges::send`.
-    pub fn send(&mut self, number: u64, sending: Sending)
+    pub fn send(&mut self, number: ExchangeNumber, sending: Sending)
         requires queued { IfSome (item_at number self.old.exchanges.items)
             (λ x. is_queued x ≡ true) }
         requires short { sending.timer.timeout ≤ 3000 }
@@ -183,7 +183,7 @@ impl UnderWay {
     }
 
     /// `Exchanges::fire`.
-    pub fn fire(&mut self, number: u64, now: u64) -> Fire
+    pub fn fire(&mut self, number: ExchangeNumber, now: Moment) -> Fire
         requires due { IfSome (item_at number self.old.exchanges.items) (IsDue now) }
         requires now { now ≤ 2 ^ 62 }
         ensures exact { result ≡ fire_at now (item_at number self.old.exchanges.items) }
@@ -199,7 +199,7 @@ impl UnderWay {
     }
 
     /// `Exchanges::acked`.
-    pub fn acked(&mut self, number: u64)
+    pub fn acked(&mut self, number: ExchangeNumber)
         requires sent { IfSome (item_at number self.old.exchanges.items) (λ x. is_sent x ≡ true) }
         ensures acked { self.new
             ≡ record self.old {
@@ -213,7 +213,7 @@ impl UnderWay {
     }
 
     /// `Exchanges::answered`. The first client that waits for it is then to be served.
-    pub fn answered(&mut self, number: u64, answer: Answer)
+    pub fn answered(&mut self, number: ExchangeNumber, answer: Answer)
         requires open { IfSome (item_at number self.old.exchanges.items)
             (λ x. is_done x ≡ false) }
         ensures answered { self.new
@@ -241,7 +241,7 @@ impl UnderWay {
     }
 
     /// Removes an exchange: `Exchanges::close`.
-    pub fn close(&mut self, number: u64)
+    pub fn close(&mut self, number: ExchangeNumber)
         ensures closed { self.new
             ≡ record self.old {
               exchanges =
@@ -257,7 +257,7 @@ impl UnderWay {
     ///
     /// # Errors
     /// Those of `Waiters::admit`. Nothing is changed then.
-    pub fn join(&mut self, joining: Joining) -> Result<u64, AdmitError>
+    pub fn join(&mut self, joining: Joining) -> Result<WaiterNumber, AdmitError>
         requires { self.old.waiters.admitted < 2 ^ 64 - 1 }
         ensures number { IfOk result (λ number. number ≡ self.old.waiters.admitted + 1) }
         ensures ok { OnOk result
@@ -298,7 +298,7 @@ impl UnderWay {
     }
 
     /// Removes a client: `Waiters::close`.
-    pub fn close_waiter(&mut self, number: u64)
+    pub fn close_waiter(&mut self, number: WaiterNumber)
         ensures closed { self.new
             ≡ record self.old {
               waiters =
@@ -309,7 +309,7 @@ impl UnderWay {
     }
 
     /// `Waiters::deliver`.
-    pub fn deliver(&mut self, number: u64, bytes: Seq<u8>, id: u16, timer: Timer)
+    pub fn deliver(&mut self, number: WaiterNumber, bytes: Seq<u8>, id: u16, timer: Timer)
         requires waiting { IfSome (item_at number self.old.waiters.items)
             (λ w. is_waiting w ≡ true) }
         requires short { timer.timeout ≤ 3000 }
@@ -325,7 +325,7 @@ impl UnderWay {
     }
 
     /// `Waiters::fire`.
-    pub fn fire_waiter(&mut self, number: u64, now: u64) -> Fire
+    pub fn fire_waiter(&mut self, number: WaiterNumber, now: Moment) -> Fire
         requires due { IfSome (item_at number self.old.waiters.items) (waiters.IsDue now) }
         requires now { now ≤ 2 ^ 62 }
         ensures exact { result ≡ waiters.fire_at now (item_at number self.old.waiters.items) }
@@ -342,7 +342,7 @@ impl UnderWay {
     }
 
     /// `Exchanges::update`. Which client of the exchange is to be served first follows.
-    fn update_exchange(&mut self, number: u64, change: Option<Change>)
+    fn update_exchange(&mut self, number: ExchangeNumber, change: Option<Change>)
         requires { CanUpdate change (item_at number self.old.exchanges.items) }
         ensures { self.new
             ≡ record self.old {
@@ -360,7 +360,7 @@ impl UnderWay {
     }
 
     /// `Waiters::update`. Which client of its exchange is to be served first follows.
-    fn update_waiter(&mut self, number: u64, change: Option<WaiterChange>)
+    fn update_waiter(&mut self, number: WaiterNumber, change: Option<WaiterChange>)
         requires { waiters.CanUpdate change (item_at number self.old.waiters.items) }
         ensures { self.new
             ≡ record self.old {
@@ -381,7 +381,11 @@ impl UnderWay {
 
 /// The moment when the answer of an exchange came, and the first client that waits for it, if there
 /// is an exchange, an answer and a client.
-fn ready_in(exchanges: &Exchanges, waiters: &Waiters, number: Option<u64>) -> Option<(u64, u64)>
+fn ready_in(
+    exchanges: &Exchanges,
+    waiters: &Waiters,
+    number: Option<ExchangeNumber>,
+) -> Option<(Moment, WaiterNumber)>
     ensures exact { result
         ≡ ready_in (record { exchanges = exchanges.now; waiters = waiters.now }) number }
     ensures sound { IsTable waiters.now }

@@ -2,10 +2,14 @@
 ghost use Rattle.std.specs.Prelude.{◌≡◌, ◌≤◌, ◌^◌};
 ghost use Rattle.coap_exchange.specs.Waiters.{changed_by, exchange_of, fire_of_state, fired_waiter, is_waiting, joined, was_sent_as, waits_for, CanChange, CanFire};
 
+use crate::exchange::ExchangeNumber;
 use crate::timer::{Fire, Timer};
 use coap_endpoint::Endpoint;
-use coap_message::{EXCHANGE_LIFETIME, Kind, Pieces, Seq, Token};
+use coap_message::{EXCHANGE_LIFETIME, Kind, Moment, Pieces, Seq, Token};
 use std::alloc::Global;
+
+/// The number of a waiter. They count up from 1.
+pub type WaiterNumber = u64;
 
 /// The state of a waiter.
 ///
@@ -19,7 +23,7 @@ use std::alloc::Global;
 #[derive(Drop)]
 pub enum WaiterState {
     /// It is waiting for the exchange of this number.
-    Waiting(u64),
+    Waiting(ExchangeNumber),
     /// It was sent the response in a Confirmable message, and hasn't acknowledged it.
     Delivering {
         /// The encoded response.
@@ -66,7 +70,7 @@ pub struct Joining {
     /// The ETags of the responses that the client already holds (RFC 7252, 5.10.6.2).
     pub tags: Pieces,
     /// The number of the exchange.
-    pub exchange: u64,
+    pub exchange: ExchangeNumber,
 }
 
 impl Joining {
@@ -94,12 +98,12 @@ pub(crate) enum WaiterChange {
         timer: Timer,
     },
     /// Its timer is due at this moment, in milliseconds.
-    Fire(u64),
+    Fire(Moment),
 }
 
 impl Waiter {
     /// The exchange that it waits for, if the response wasn't sent yet.
-    pub fn exchange(&self) -> Option<u64>
+    pub fn exchange(&self) -> Option<ExchangeNumber>
         ensures exact { result ≡ exchange_of self.now.state }
     {
         match &self.state {
@@ -119,7 +123,7 @@ impl Waiter {
     }
 
     /// Whether it waits for the exchange of this number.
-    pub fn waits_for(&self, exchange: u64) -> bool
+    pub fn waits_for(&self, exchange: ExchangeNumber) -> bool
         ensures exact { result ≡ waits_for exchange self.now }
     {
         match &self.state {
@@ -130,7 +134,7 @@ impl Waiter {
 
     /// Whether the response was sent to the endpoint `at` with Message ID `id`, less than 247,000
     /// milliseconds before `now` (RFC 7252, 4.4).
-    pub fn was_sent_as(&self, at: Endpoint, id: u16, now: u64) -> bool
+    pub fn was_sent_as(&self, at: Endpoint, id: u16, now: Moment) -> bool
         ensures exact { result ≡ was_sent_as at id now self.now }
     {
         match &self.state {
@@ -148,7 +152,7 @@ impl Waiter {
     }
 
     /// What its timer calls for, now that it is due.
-    pub(crate) fn fire_of(&self, now: u64) -> Fire
+    pub(crate) fn fire_of(&self, now: Moment) -> Fire
         ensures exact { result ≡ fire_of_state now self.now.state }
     {
         match &self.state {
@@ -172,7 +176,7 @@ impl Waiter {
         }
     }
 
-    fn fire(&mut self, now: u64)
+    fn fire(&mut self, now: Moment)
         requires now { now ≤ 2 ^ 62 }
         requires timer { CanFire now self.old.state }
         ensures exact { self.new ≡ fired_waiter now self.old }

@@ -4,8 +4,9 @@ ghost use Rattle.std.specs.Option.{option_copied};
 ghost use Rattle.coap_exchange.specs.WaiterIndex.{waiter_keys_at, CanRekeyWaiter, HaveRekeyedWaiter};
 ghost use Rattle.ordered_index.specs.Ordered.{empty_index};
 
-use crate::waiter::{Waiter, WaiterState};
-use coap_message::OutOfMemory;
+use crate::exchange::ExchangeNumber;
+use crate::waiter::{Waiter, WaiterNumber, WaiterState};
+use coap_message::{Moment, OutOfMemory};
 use ordered_index::OrderedIndex;
 use std::alloc::Global;
 
@@ -24,11 +25,11 @@ pub(crate) struct WaiterIndex {
 #[derive(Clone, Copy)]
 pub(crate) struct WaiterKeys {
     /// The exchange that it waits for.
-    pub(crate) awaited: Option<u64>,
+    pub(crate) awaited: Option<ExchangeNumber>,
     /// The Message ID of the response that was sent to it.
     pub(crate) id: Option<u64>,
     /// When the current timeout ends, in milliseconds.
-    pub(crate) end: Option<u64>,
+    pub(crate) end: Option<Moment>,
 }
 
 impl WaiterIndex {
@@ -49,7 +50,7 @@ impl WaiterIndex {
     }
 
     /// Updates what the waiter numbered `number` is looked up by, from `was` to `is`.
-    pub(crate) fn rekey(&mut self, number: u64, was: WaiterKeys, is: WaiterKeys)
+    pub(crate) fn rekey(&mut self, number: WaiterNumber, was: WaiterKeys, is: WaiterKeys)
         requires { CanRekeyWaiter self.old number was is }
         ensures exact { HaveRekeyedWaiter self.old self.new number was is }
     {

@@ -18,14 +18,15 @@ ghost use Rattle.coap_exchange.specs.Updates.{leaver, updated, updated_at, Allow
 use crate::by_client::{count_of, depart, enter};
 use crate::due::{due_under, sooner};
 use crate::endpoint_map::EndpointMap;
+use crate::exchange::ExchangeNumber;
 use crate::exchanges::Exchanges;
 use crate::peer::Peer;
 use crate::table::{AdmitError, Items, Table};
 use crate::timer::{Fire, Timer};
-use crate::waiter::{Joining, Waiter, WaiterChange};
+use crate::waiter::{Joining, Waiter, WaiterChange, WaiterNumber};
 use crate::waiter_index::{WaiterIndex, WaiterKeys, waiter_keys_in, waiter_keys_of};
 use coap_endpoint::Endpoint;
-use coap_message::{OutOfMemory, Seq};
+use coap_message::{Moment, OutOfMemory, Seq};
 use std::alloc::Global;
 use std::marker::Model;
 
@@ -139,14 +140,14 @@ impl Waiters {
     }
 
     /// The number of waiters that wait for the exchange numbered `exchange`.
-    pub fn waiting_for(&self, exchange: u64) -> usize
+    pub fn waiting_for(&self, exchange: ExchangeNumber) -> usize
         ensures exact { result ≡ count (waits_for exchange) self.now.items }
     {
         self.index.awaited.count_of(exchange)
     }
 
     /// The waiter numbered `number`.
-    pub fn get(&self, number: u64) -> Option<&Waiter>
+    pub fn get(&self, number: WaiterNumber) -> Option<&Waiter>
         ensures exact { option_copied result ≡ item_at number self.now.items }
         ensures sound { IsTable self.now }
     {
@@ -156,7 +157,7 @@ impl Waiters {
     /// The number of the waiter whose response was sent to the endpoint `at` with Message ID `id`,
     /// less than 247,000 milliseconds before `now` (RFC 7252, 4.4). If there are several, the
     /// first.
-    pub fn sent_as(&self, at: Endpoint, id: u16, now: u64) -> Option<u64>
+    pub fn sent_as(&self, at: Endpoint, id: u16, now: Moment) -> Option<WaiterNumber>
         ensures exact { result ≡ first_that (was_sent_as at id now) self.now.items }
     {
         let mut after = 0;
@@ -169,7 +170,7 @@ impl Waiters {
         None
     }
 
-    fn was_sent_as(&self, number: u64, at: Endpoint, id: u16, now: u64) -> bool
+    fn was_sent_as(&self, number: WaiterNumber, at: Endpoint, id: u16, now: Moment) -> bool
         ensures exact { result ≡ passes (was_sent_as at id now) (item_at number self.now.items) }
     {
         match self.get(number) {
@@ -186,14 +187,14 @@ impl Waiters {
     }
 
     /// The number of the first waiter that waits for the exchange numbered `exchange`.
-    pub(crate) fn first_waiting(&self, exchange: u64) -> Option<u64>
+    pub(crate) fn first_waiting(&self, exchange: ExchangeNumber) -> Option<WaiterNumber>
         ensures exact { result ≡ first_that (waits_for exchange) self.now.items }
     {
         self.index.awaited.next_of(exchange, 0)
     }
 
     /// The exchange that the waiter numbered `number` waits for, if there is one and it does.
-    pub(crate) fn awaited(&self, number: u64) -> Option<u64>
+    pub(crate) fn awaited(&self, number: WaiterNumber) -> Option<ExchangeNumber>
         ensures exact { result ≡ awaited_by (item_at number self.now.items) }
         ensures sound { IsTable self.now }
     {
@@ -202,7 +203,7 @@ impl Waiters {
 
     /// When the first timeout of those that were sent their response ends, in milliseconds, and the
     /// waiter's number.
-    pub(crate) fn first_end(&self) -> Option<(u64, u64)>
+    pub(crate) fn first_end(&self) -> Option<(Moment, WaiterNumber)>
         ensures exact { result ≡ first_due end_of self.now.items }
         ensures sound { IsTable self.now }
     {
@@ -220,7 +221,7 @@ impl Waiters {
     /// The moment when the first waiter is due, in milliseconds, and its number. If several are due
     /// at the same moment, the one with the least number. A waiter is due when the answer of its
     /// exchange comes, and, once the response was sent, at the end of the current timeout.
-    pub fn due(&self, exchanges: &Exchanges) -> Option<(u64, u64)>
+    pub fn due(&self, exchanges: &Exchanges) -> Option<(Moment, WaiterNumber)>
         ensures exact { result ≡ first_due (due_after exchanges.now.items) self.now.items }
     {
         sooner(self.first_end(), self.first_answered(exchanges))
@@ -228,7 +229,7 @@ impl Waiters {
 
     /// Which waiter is due first because an answer has come. Those whose answer came first are
     /// found without a scan. All are scanned only if none waits for an answer that came first.
-    fn first_answered(&self, exchanges: &Exchanges) -> Option<(u64, u64)>
+    fn first_answered(&self, exchanges: &Exchanges) -> Option<(Moment, WaiterNumber)>
         ensures exact { result ≡ first_due (answered_of exchanges.now.items) self.now.items }
     {
         let Some(moment) = exchanges.first_got() else {
@@ -252,7 +253,7 @@ impl Waiters {
     /// # Errors
     /// `Full` if the table has no room for another waiter; otherwise `ClientFull` if it has none
     /// for another of this client; otherwise `OutOfMemory`. The table is unchanged then.
-    pub fn admit(&mut self, joining: Joining) -> Result<u64, AdmitError>
+    pub fn admit(&mut self, joining: Joining) -> Result<WaiterNumber, AdmitError>
         requires { self.old.admitted < 2 ^ 64 - 1 }
         ensures number { IfOk result (λ number. number ≡ self.old.admitted + 1) }
         ensures ok { OnOk result (self.new ≡ admitted_to (joined joining) self.old) }
@@ -310,7 +311,7 @@ impl Waiters {
     }
 
     /// Removes the waiter numbered `number`, if there is one.
-    pub fn close(&mut self, number: u64)
+    pub fn close(&mut self, number: WaiterNumber)
         ensures closed { self.new ≡ record self.old { items = without number self.old.items } }
     {
         self.update(number, None);
@@ -319,7 +320,7 @@ impl Waiters {
     /// Marks the waiter numbered `number`, which was waiting for an exchange, as being sent its
     /// response: `bytes`, with Message ID `id`. Its token and tags are dropped. The timer's timeout
     /// is at most 3,000 milliseconds, like that of a new timer.
-    pub fn deliver(&mut self, number: u64, bytes: Seq<u8>, id: u16, timer: Timer)
+    pub fn deliver(&mut self, number: WaiterNumber, bytes: Seq<u8>, id: u16, timer: Timer)
         requires waiting { IfSome (item_at number self.old.items) (λ w. is_waiting w ≡ true) }
         requires short { timer.timeout ≤ 3000 }
         ensures delivered { self.new
@@ -334,7 +335,7 @@ impl Waiters {
     /// Fires the timer of the waiter numbered `number`, which was sent its response, and returns
     /// what is to be done. If the response is to be sent again, the timer counts that. `now` is in
     /// milliseconds, and at most 2^62.
-    pub fn fire(&mut self, number: u64, now: u64) -> Fire
+    pub fn fire(&mut self, number: WaiterNumber, now: Moment) -> Fire
         requires due { IfSome (item_at number self.old.items) (IsDue now) }
         requires now { now ≤ 2 ^ 62 }
         ensures exact { result ≡ fire_at now (item_at number self.old.items) }
@@ -351,7 +352,7 @@ impl Waiters {
 
     /// Changes the waiter numbered `number`, or removes it if there is no change. Nothing happens
     /// if there is no such waiter. What is counted of it and what it is looked up by follow.
-    pub(crate) fn update(&mut self, number: u64, change: Option<WaiterChange>)
+    pub(crate) fn update(&mut self, number: WaiterNumber, change: Option<WaiterChange>)
         requires { CanUpdate change (item_at number self.old.items) }
         ensures { self.new
             ≡ record self.old { items = updated_at changed_by change number self.old.items } }
@@ -369,7 +370,12 @@ impl Waiters {
 impl Table<Waiter> {
     /// Changes the waiter numbered `number`, or removes it if there is no change, and returns what
     /// it is looked up by then.
-    fn update(&mut self, number: u64, change: Option<WaiterChange>, alloc: Global) -> WaiterKeys
+    fn update(
+        &mut self,
+        number: WaiterNumber,
+        change: Option<WaiterChange>,
+        alloc: Global,
+    ) -> WaiterKeys
         requires { Allows CanChange change (item_at number self.old.items) }
         ensures updated { self.new
             ≡ record self.old { items = updated_at changed_by change number self.old.items } }
@@ -387,7 +393,7 @@ impl Table<Waiter> {
 
     /// Changes the waiter numbered `number`, if there is one, and returns what it is looked up by
     /// then.
-    fn change(&mut self, number: u64, change: WaiterChange, alloc: Global) -> WaiterKeys
+    fn change(&mut self, number: WaiterNumber, change: WaiterChange, alloc: Global) -> WaiterKeys
         requires { IfSome (item_at number self.old.items) (CanChange change) }
         ensures changed { self.new
             ≡ record self.old { items = changed_at number (changed_by change) self.old.items } }
@@ -397,7 +403,7 @@ impl Table<Waiter> {
         change_under(&mut self.items, number, change, alloc)
     }
 
-    fn first_answered(&self, exchanges: &Exchanges) -> Option<(u64, u64)>
+    fn first_answered(&self, exchanges: &Exchanges) -> Option<(Moment, WaiterNumber)>
         ensures exact { result ≡ first_due (answered_of exchanges.now.items) self.now.items }
     {
         let mut first = None;
@@ -410,7 +416,7 @@ impl Table<Waiter> {
 }
 
 /// Pairs a number with the moment when it is due, if there is a number.
-pub(crate) fn due_at(moment: u64, number: Option<u64>) -> Option<(u64, u64)>
+pub(crate) fn due_at(moment: Moment, number: Option<WaiterNumber>) -> Option<(Moment, WaiterNumber)>
     ensures exact { result ≡ due_at moment number }
 {
     let number = number?;
@@ -418,7 +424,11 @@ pub(crate) fn due_at(moment: u64, number: Option<u64>) -> Option<(u64, u64)>
 }
 
 /// When the answer came that a waiter waits for, with the waiter's number.
-fn answered_at(number: u64, waiter: &Waiter, exchanges: &Exchanges) -> Option<(u64, u64)>
+fn answered_at(
+    number: WaiterNumber,
+    waiter: &Waiter,
+    exchanges: &Exchanges,
+) -> Option<(Moment, WaiterNumber)>
     ensures exact { result ≡ due_row (answered_of exchanges.now.items) (number, waiter.now) }
 {
     let exchange = waiter.exchange()?;
@@ -428,7 +438,7 @@ fn answered_at(number: u64, waiter: &Waiter, exchanges: &Exchanges) -> Option<(u
 
 fn change_under(
     waiters: &mut Items<Waiter>,
-    number: u64,
+    number: WaiterNumber,
     change: WaiterChange,
     alloc: Global,
 ) -> WaiterKeys
@@ -455,7 +465,7 @@ fn change_under(
 fn waiting_without(
     waiting: usize,
     waiters: &Table<Waiter>,
-    number: u64,
+    number: WaiterNumber,
     found: Option<&Waiter>,
 ) -> usize
     requires waiting { waiting ≡ count is_waiting waiters.now.items }
@@ -482,7 +492,7 @@ fn leaver_of(found: Option<&Waiter>, change: &Option<WaiterChange>) -> Option<Pe
 }
 
 /// The exchange that a waiter waits for, if there is a waiter and it does.
-fn awaited_by(found: Option<&Waiter>) -> Option<u64>
+fn awaited_by(found: Option<&Waiter>) -> Option<ExchangeNumber>
     ensures exact { result ≡ awaited_by (option_copied found.entry) }
 {
     match found {

@@ -7,7 +7,9 @@ ghost use Rattle.coap_message.specs.declared.kind.Kind.TheVariants.{Non};
 ghost use Rattle.coap_option.specs.declared.numbers.TheConstants.{OBSERVE};
 ghost use Rattle.coap_forward.specs.Answers.{is_storable, without_observe, taken_of, validates, fits, answer_if_fits, answer_of, copy_in, validated, left_of, left_told, bad_gateway, gateway_timeout, origin_answer, own_answer};
 
-use coap_message::{Code, Kind, Message, MessageRef, OptionList, Options, OutOfMemory, Seq, Token};
+use coap_message::{
+    Code, Kind, Message, MessageRef, Moment, OptionList, Options, OutOfMemory, Seq, Token,
+};
 use coap_option::{max_age, numbers, screen_response_ref};
 use coap_store::{Answer, Stored, aged_fits, left_at, tells_age};
 use coap_validation::{RenewError, renewed};
@@ -82,7 +84,7 @@ fn fits(message: &Message, most: usize) -> bool
 }
 
 /// An answer of the proxy's own, with this code and nothing more. Doesn't allocate.
-fn own_answer(alloc: Global, now: u64, code: Code) -> Answer
+fn own_answer(alloc: Global, now: Moment, code: Code) -> Answer
     ensures { result
         ≡ own_answer now
         (record { kind = Non; code = code; id = 0; token = []; options = []; payload = [] }) }
@@ -103,21 +105,21 @@ fn own_answer(alloc: Global, now: u64, code: Code) -> Answer
 
 /// 5.02, in place of a response that can't be passed on (RFC 7252, 5.9.3.3), or that never comes
 /// because its request was rejected (RFC 7252, 4.2). `now` is in milliseconds. Doesn't allocate.
-pub fn bad_gateway(alloc: Global, now: u64) -> Answer
+pub fn bad_gateway(alloc: Global, now: Moment) -> Answer
     ensures exact { result ≡ own_answer now bad_gateway }
 {
     own_answer(alloc, now, Code::BAD_GATEWAY)
 }
 
 /// 5.04, if no answer came in time (RFC 7252, 5.7.1). `now` is in milliseconds. Doesn't allocate.
-pub fn gateway_timeout(alloc: Global, now: u64) -> Answer
+pub fn gateway_timeout(alloc: Global, now: Moment) -> Answer
     ensures exact { result ≡ own_answer now gateway_timeout }
 {
     own_answer(alloc, now, Code::GATEWAY_TIMEOUT)
 }
 
 /// An origin's response, as an answer.
-fn origin_answer(now: u64, message: Message) -> Answer
+fn origin_answer(now: Moment, message: Message) -> Answer
     ensures { result ≡ origin_answer now message }
 {
     Answer {
@@ -128,7 +130,7 @@ fn origin_answer(now: u64, message: Message) -> Answer
 }
 
 /// An origin's response, as an answer, if it fits a datagram, and 5.02 otherwise.
-fn answer_if_fits(alloc: Global, most: usize, now: u64, message: Message) -> Answer
+fn answer_if_fits(alloc: Global, most: usize, now: Moment, message: Message) -> Answer
     ensures { result ≡ answer_if_fits most now message }
 {
     if fits(&message, most) {
@@ -143,7 +145,7 @@ fn answer_if_fits(alloc: Global, most: usize, now: u64, message: Message) -> Ans
 fn validated(
     alloc: Global,
     most: usize,
-    now: u64,
+    now: Moment,
     copy: Option<&Stored>,
     valid: &Message,
 ) -> Result<Answer, OutOfMemory>
@@ -181,7 +183,7 @@ pub fn answer_of(
     alloc: Global,
     most: usize,
     request: SentRequest<'_>,
-    now: u64,
+    now: Moment,
     response: &MessageRef<'_>,
 ) -> Result<Answer, OutOfMemory>
     ensures exact { IfOk result (λ answer.
@@ -207,14 +209,14 @@ pub fn answer_of(
 }
 
 /// How many seconds an answer stays fresh (RFC 7252, 5.7.1).
-fn left_of(now: u64, answer: &Answer) -> u32
+fn left_of(now: Moment, answer: &Answer) -> u32
     ensures { result ≡ left_of now answer.now }
 {
     left_at(&answer.message, now.saturating_sub(answer.got))
 }
 
 /// The same for an origin's answer to a GET, and `None` for other answers.
-pub(crate) fn left_told(to_get: bool, now: u64, answer: &Answer) -> Option<u32>
+pub(crate) fn left_told(to_get: bool, now: Moment, answer: &Answer) -> Option<u32>
     ensures { result ≡ left_told to_get now answer.now }
 {
     if to_get && !answer.own {

@@ -8,7 +8,9 @@ ghost use Rattle.coap_store.specs.Renewing.{max_age_option};
 ghost use Rattle.coap_forward.specs.Answers.{shown_in, stored_answer};
 
 use crate::answers::left_told;
-use coap_message::{Content, Datagram, Full, Head, Token, put_head, put_message, put_payload};
+use coap_message::{
+    Content, Datagram, Full, Head, Moment, Token, put_head, put_message, put_payload,
+};
 use coap_store::{Answer, Reply, Stored, put_max_age, put_reply};
 
 // ---- the proxy's own messages
@@ -58,7 +60,7 @@ fn try_with_max_age(
 // ---- what clients are sent
 
 /// Writes the reply that a client is sent for an answer to a GET or another method.
-pub fn put_shown(now: u64, answer: &Answer, to_get: bool, reply: Reply<'_>, out: &mut Datagram)
+pub fn put_shown(now: Moment, answer: &Answer, to_get: bool, reply: Reply<'_>, out: &mut Datagram)
     requires fits { length (spelling (shown_in reply to_get now answer.now)) ≤ out.old.room }
     ensures { out.new ≡ holding out.old (spelling (shown_in reply.entry to_get now answer.now)) }
 {
@@ -70,7 +72,7 @@ pub fn put_shown(now: u64, answer: &Answer, to_get: bool, reply: Reply<'_>, out:
 }
 
 /// Writes the reply that a client is sent for a stored response, the answer to a GET.
-pub fn put_stored(now: u64, stored: &Stored, reply: Reply<'_>, out: &mut Datagram)
+pub fn put_stored(now: Moment, stored: &Stored, reply: Reply<'_>, out: &mut Datagram)
     requires fits { length (spelling (shown_in reply true now (stored_answer stored.now)))
         ≤ out.old.room }
     ensures { out.new

@@ -41,7 +41,7 @@ pub use seq::Seq;
 pub use token::Token;
 pub use transmission::{
     ACK_TIMEOUT, EXCHANGE_LIFETIME, LAST_MOMENT, MAX_RETRANSMIT, MAX_TRANSMIT_WAIT, MOST_JITTER,
-    NON_LIFETIME,
+    Moment, NON_LIFETIME,
 };
 pub use writing::{
     encode_into, put_head, put_message, put_option, put_options, put_payload, set_id,

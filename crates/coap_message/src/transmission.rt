@@ -1,6 +1,9 @@
 //! The transmission parameters, and the times that follow from them (RFC 7252, 4.8). All times are
 //! in milliseconds.
 
+/// A moment, in milliseconds since one that is the same for a whole run.
+pub type Moment = u64;
+
 /// A Confirmable message that isn't acknowledged is sent again no earlier than after this time, and
 /// no later than after half as much more (RFC 7252, 4.8).
 pub const ACK_TIMEOUT: u64 = 2_000;
@@ -25,4 +28,4 @@ pub const EXCHANGE_LIFETIME: u64 = 247_000;
 pub const NON_LIFETIME: u64 = 145_000;
 
 /// The last moment that is ever handed in: 2^62 milliseconds.
-pub const LAST_MOMENT: u64 = 1 << 62;
+pub const LAST_MOMENT: Moment = 1 << 62;

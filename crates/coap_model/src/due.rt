@@ -1,11 +1,14 @@
 //! What is due.
 
+use coap_exchange::{ExchangeNumber, WaiterNumber};
+use coap_message::Moment;
+
 /// Something that is due from the moment `at` on, in milliseconds, with the number of its exchange
 /// or of its client.
 #[derive(Clone, Copy)]
 pub enum DueItem {
     /// The exchange with this number.
-    OfExchange { at: u64, number: u64 },
+    OfExchange { at: Moment, number: ExchangeNumber },
     /// The client with this number.
-    OfWaiter { at: u64, number: u64 },
+    OfWaiter { at: Moment, number: WaiterNumber },
 }

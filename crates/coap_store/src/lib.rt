@@ -41,6 +41,6 @@ pub use show::{put_max_age, put_reply, show_into, tells_age};
 pub use showing::shown;
 pub use size::bytes_of;
 pub use store::{Put, Store};
-pub use stored::{Stored, left_at};
+pub use stored::{EventNumber, Stored, left_at};
 pub use tag::tag_of;
 pub use updating::{updated, with_max_age};

@@ -8,7 +8,7 @@ ghost use Rattle.coap_store.specs.Sizes.{size_of};
 use crate::key::CacheKey;
 use crate::stored::Stored;
 use coap_endpoint::Target;
-use coap_message::OutOfMemory;
+use coap_message::{Moment, OutOfMemory};
 use std::alloc::Global;
 
 /// What happened to a response that was to be stored.
@@ -55,7 +55,7 @@ pub trait Store {
     /// Whether the response stored for the key may answer a request at this moment, in
     /// milliseconds: there is one, it is fresh, and it isn't marked (RFC 7252, 5.6 and 5.6.1). If
     /// so, it becomes the most recently used. Doesn't allocate.
-    fn hit(&mut self, key: &CacheKey, now: u64) -> bool
+    fn hit(&mut self, key: &CacheKey, now: Moment) -> bool
         ensures usable { result ≡ has_usable key.now now (entries self.old) }
         ensures moved { IsTrue result
             → entries self.new ≡ used entry_key key.now (entries self.old) }

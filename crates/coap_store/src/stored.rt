@@ -2,19 +2,22 @@
 ghost use Rattle.std.specs.Prelude.{◌≡◌};
 ghost use Rattle.coap_store.specs.Freshness.{left_at};
 
-use coap_message::Message;
+use coap_message::{Message, Moment};
 use coap_option::max_age;
+
+/// The number of an event of a run, counted from 0.
+pub type EventNumber = u64;
 
 /// A response in the store.
 pub struct Stored {
     /// The response. Its kind, Message ID and token are ignored.
     pub response: Message,
     /// The number of the event in which its request was first sent.
-    pub asked: u64,
+    pub asked: EventNumber,
     /// The number of the event in which it came.
-    pub got_no: u64,
+    pub got_no: EventNumber,
     /// When it came, in milliseconds.
-    pub got: u64,
+    pub got: Moment,
     /// Whether its resource was changed since its request was sent, so that it answers no request
     /// (RFC 7252, 5.9.1).
     pub marked: bool,
@@ -36,7 +39,7 @@ impl Stored {
     ghost use Rattle.coap_store.specs.Freshness.{age_of, is_fresh, is_usable, left_of};
 
     /// How long ago it came, in milliseconds: 0 if `now` is before that.
-    fn age(&self, now: u64) -> u64
+    fn age(&self, now: Moment) -> u64
         ensures { result ≡ age_of now self.now }
     {
         now.saturating_sub(self.got)
@@ -44,7 +47,7 @@ impl Stored {
 
     /// Whether it is fresh at this moment, in milliseconds: at most its Max-Age has passed since it
     /// came (RFC 7252, 5.6.1).
-    pub fn is_fresh(&self, now: u64) -> bool
+    pub fn is_fresh(&self, now: Moment) -> bool
         ensures { result ≡ is_fresh now self.now }
     {
         self.age(now) <= 1000 * u64::from(max_age(&self.response))
@@ -52,14 +55,14 @@ impl Stored {
 
     /// How many seconds it stays fresh, 0 if it isn't: its Max-Age less its age, where a second
     /// that has begun counts as gone (RFC 7252, 5.7.1). `now` is in milliseconds.
-    pub fn left(&self, now: u64) -> u32
+    pub fn left(&self, now: Moment) -> u32
         ensures { result ≡ left_of now self.now }
     {
         left_at(&self.response, self.age(now))
     }
 
     /// Whether it may answer a request at this moment, in milliseconds: it is fresh and not marked.
-    pub fn is_usable(&self, now: u64) -> bool
+    pub fn is_usable(&self, now: Moment) -> bool
         ensures { result ≡ is_usable now self.now }
     {
         self.is_fresh(now) && !self.marked
