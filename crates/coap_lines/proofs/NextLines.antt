@@ -1,14 +1,11 @@
 -- Pieces of an input: what reading them takes, and which lines they are.
-use Rattle.std.proofs.Common.{◌≡◌, ◌==◌, ℕ, ◌+◌, ◌<◌, ◌≤◌, true, false, List, [], ◌∷◌, ◌++◌, length, take, drop, Option, Some, None, Result, Ok, Err, refl, sym, ap, ◌∙◌, arith, inl, inr, append_assoc, append-nil, length-append, take-append-drop, lt-ltb, min}
-use Rattle.std.specs.Io.{StartsWith}
-use Rattle.std.specs.Io.BufRead.{DropsConsumable}
+use Rattle.std.proofs.Common.{◌≡◌, ◌==◌, ℕ, ◌+◌, ◌<◌, ◌≤◌, true, false, List, [], ◌∷◌, ◌++◌, length, take, Option, Some, None, Result, Ok, Err, refl, sym, ap, ◌∙◌, arith, inl, inr, append_assoc, append-nil, length-append, lt-ltb}
 use Rattle.std.specs.Io.KnownBytes.{Consumes, IsAtEnd, Keeps}
 use Rattle.std.specs.List.{slice_split}
 use Rattle.std.specs.Option.{IfSome}
 use Rattle.std.specs.Result.{OnErr}
-use Rattle.std.proofs.KnownBytes.{Consumes-trans, starts_with_rest}
 use Rattle.std.proofs.lemmas.Bool.{le-ltb}
-use Rattle.std.proofs.lemmas.List.{length-take, take-append-le, take-take, take_at}
+use Rattle.std.proofs.lemmas.List.{take_at}
 use Rattle.std.proofs.lemmas.List.Folds.{list_any-append}
 use Rattle.std.proofs.lemmas.List.Splits.{length-slice_split, slice_split_at, slice_split_none}
 use Rattle.coap_lines.specs.declared.reading.input.Next.TheVariants.{Line, TooLong}
@@ -24,48 +21,6 @@ before_feed bytes line rest found =
     let more : take (length line + 1) ((line ++ 10 ∷ []) ++ rest) ≡ line ++ 10 ∷ [] = take_at (line ++ 10 ∷ []) rest (length line + 1) (length-append line (10 ∷ [])) in
     let moved : take (length line + 1) (line ++ 10 ∷ rest) ≡ line ++ 10 ∷ [] = rw append_assoc at more in
     rw (is.0, front) (is.1, omega (arith, length-append line (10 ∷ rest)), moved)
-
--- bytes that were shown and then dropped were at the front
-shown_gone : (xs ys : List ℕ) (new : Option (List ℕ)) (chunk : List ℕ) (n : ℕ) → StartsWith xs chunk → ys ≡ xs → new ≡ Some (drop n ys) → n ≤ length chunk → Consumes (Some xs) new (take n chunk)
-shown_gone xs ys new chunk n shown keeps dropped within =
-    let rest = starts_with_rest xs chunk shown in
-    let same : take n xs ≡ take n chunk = ap (take n) rest ∙ take-append-le n chunk (drop (length chunk) xs) within in
-    rw (dropped, keeps) (sym (take-append-drop n xs) ∙ ap (λ l. l ++ drop n xs) same)
-
--- bytes that are shown and then consumed are taken
-consumed : (mid kept new : Option (List ℕ)) (limit : Option ℕ) (chunk : List ℕ) (n : ℕ) → IfSome mid (λ xs. StartsWith xs chunk) → Keeps mid kept → IfSome mid (λ _. IfSome limit (λ m. length chunk ≤ m)) → DropsConsumable kept new limit n → n ≤ length chunk → Consumes mid new (take n chunk)
-consumed None kept new limit chunk n shown keeps allowed drops within = tt
-consumed (Some xs) None new limit chunk n shown keeps allowed drops within = absurd keeps
-consumed (Some xs) (Some ys) new None chunk n shown keeps allowed drops within = shown_gone xs ys new chunk n shown keeps (drops tt) within
-consumed (Some xs) (Some ys) new (Some m) chunk n shown keeps allowed drops within = shown_gone xs ys new chunk n shown keeps (drops (omega arith)) within
-
--- the bytes that were taken from a chunk follow the line so far
-pub taken_part : (old mid kept new : Option (List ℕ)) (limit : Option ℕ) (line chunk part : List ℕ) (m n : ℕ) → part ≡ take m chunk → Consumes old mid line → IfSome mid (λ xs. StartsWith xs chunk) → Keeps mid kept → IfSome mid (λ _. IfSome limit (λ l. length chunk ≤ l)) → DropsConsumable kept new limit n → n ≤ length part → Consumes old new (line ++ take n part)
-taken_part old mid kept new limit line chunk part m n is before shown keeps allowed drops within =
-    let count : length part ≡ min m (length chunk) = ap length is ∙ length-take m chunk in
-    let whole : n ≤ length chunk = omega arith in
-    let few : n ≤ m = omega arith in
-    let same : take n part ≡ take n chunk = ap (take n) is ∙ take-take n m chunk few in
-    rw same (Consumes-trans old mid new line (take n chunk) before (consumed mid kept new limit chunk n shown keeps allowed drops whole))
-
--- the same with the line feed after it
-pub taken_feed : (old mid kept new : Option (List ℕ)) (limit : Option ℕ) (line chunk part : List ℕ) (m n : ℕ) → part ≡ take m chunk → Consumes old mid line → IfSome mid (λ xs. StartsWith xs chunk) → Keeps mid kept → IfSome mid (λ _. IfSome limit (λ l. length chunk ≤ l)) → DropsConsumable kept new limit (n + 1) → n < length part → take (n + 1) part ≡ take n part ++ 10 ∷ [] → Consumes old new ((line ++ take n part) ++ 10 ∷ [])
-taken_feed old mid kept new limit line chunk part m n is before shown keeps allowed drops within feed =
-    let within1 : n + 1 ≤ length part = omega arith in
-    let read = rw feed at (taken_part old mid kept new limit line chunk part m (n + 1) is before shown keeps allowed drops within1) in
-    rw append_assoc read
-
--- if nothing is shown, nothing is left
-pub nothing_shown : (mid : Option (List ℕ)) (chunk : List ℕ) → IfSome mid (λ xs. length chunk ≡ 0 → xs ≡ []) → length chunk ≡ 0 → IfSome mid (λ xs. xs ≡ [])
-nothing_shown None chunk end empty = tt
-nothing_shown (Some xs) chunk end empty = end empty
-
--- the end of known bytes
-pub known_end : (old mid new : Option (List ℕ)) (line : List ℕ) → Consumes old mid line → IfSome mid (λ xs. xs ≡ []) → Keeps mid new → IfSome old (λ _. IsAtEnd new)
-known_end None mid new line taken empty keeps = tt
-known_end (Some xs) None new line taken empty keeps = absurd taken
-known_end (Some xs) (Some ys) None line taken empty keeps = absurd keeps
-known_end (Some xs) (Some ys) (Some zs) line taken empty keeps = keeps ∙ empty
 
 -- if the reader failed, the line so far was taken, and no more
 pub begun : {A E : Type 0} (old mid new : Option (List ℕ)) (line : List ℕ) (result : Result A E) → has 10 line ≡ false → Consumes old mid line → Keeps mid new → OnErr result (IsBegun old new)

@@ -7,6 +7,7 @@ pub mod Turns
 pub mod Failing
 pub mod Ends
 pub mod Lines
+pub mod Pieces
 pub mod Room
 pub mod Scripts
 pub mod Examples

@@ -6,8 +6,6 @@ use Rattle.std.specs.List.{AllByRecursion, flat_map, slice_split}
 use Rattle.coap_endpoint.specs.declared.endpoint.Endpoint.{Endpoint}
 use Rattle.coap_lines.specs.declared.reading.input.Next.{Next}
 use Rattle.coap_lines.specs.declared.reading.input.Next.TheVariants.{Line, TooLong, End}
-use Rattle.coap_lines.specs.declared.reading.input.Piece.{Piece}
-use Rattle.coap_lines.specs.declared.reading.input.Piece.TheVariants.{Feed, Full, Last}
 use Rattle.coap_lines.specs.Texts.{has, line_feed, number_sign}
 use Rattle.coap_lines.specs.Endpoints.{endpoint_text}
 use Rattle.coap_lines.specs.Datagrams.{hex_text}
@@ -74,12 +72,6 @@ IsNext input (Some rest) line End = lines_of input ≡ []
 -- feed
 abbrev pub IsBegun : Option (List ℕ) → Option (List ℕ) → Type 0
 IsBegun old new = (part : List ℕ) × (has line_feed part ≡ false) × Consumes old new part
-
--- the bytes of a line that were taken: its line feed isn't kept
-abbrev pub taken : Piece → List ℕ → List ℕ
-taken Feed line = line ++ line_feed ∷ []
-taken Full line = line
-taken Last line = line
 
 -- the line of a datagram that is sent
 unfoldable pub line_of : ℕ → Endpoint → List ℕ → List ℕ

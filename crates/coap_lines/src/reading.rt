@@ -1,5 +1,5 @@
 //! Reading lines from a reader, and parsing them.
-mod cutting;
+pub(crate) mod cutting;
 mod datagram;
 mod endpoint;
 pub(crate) mod input;

@@ -1,14 +1,14 @@
 //! Lines of an input.
-ghost use Rattle.std.specs.Prelude.{◌≡◌, ◌≤◌, ◌<◌, ◌+◌, ◌++◌, ◌∷◌, [], false, true, take, length, IfOk, IfSome, OnErr, OnOk, vec_capacity, vec_len};
+ghost use Rattle.std.specs.Prelude.{◌≡◌, ◌≤◌, false, IfOk, IfSome, OnErr, OnOk, vec_capacity, vec_len};
 ghost use Rattle.std.specs.Io.KnownBytes.{Consumes, IsAtEnd};
 ghost use Rattle.coap_lines.specs.Failing.{is_failure};
-ghost use Rattle.coap_lines.specs.Lines.{IsBegun, IsNext, is_skipped, taken};
+ghost use Rattle.coap_lines.specs.Lines.{IsBegun, IsNext, is_skipped};
+ghost use Rattle.coap_lines.specs.Pieces.{taken};
 ghost use Rattle.coap_lines.specs.Texts.{has};
-ghost use Rattle.coap_lines.specs.declared.reading.input.Piece.TheVariants.{Feed, Full, Last};
+ghost use Rattle.coap_lines.specs.declared.reading.cutting.Piece.TheVariants.{Feed, Last, Open};
 
-use crate::failing::{Failing, fill};
-use crate::reading::cutting::cut;
-use crate::room::put;
+use crate::failing::Noted;
+use crate::reading::cutting::Piece;
 use std::io;
 use std::io::{BufRead, ErrorKind};
 use std::marker::Model;
@@ -27,38 +27,11 @@ pub enum Next {
     End,
 }
 
-/// Where reading a line stopped.
-#[derive(Clone, Copy, Debug, PartialEq, Eq)]
-enum Piece {
-    /// After its line feed.
-    Feed,
-    /// At one byte more than a line may have.
-    Full,
-    /// At the end of the input.
-    Last,
-}
-
-/// How many of these bytes belong to the line, and whether its line feed follows.
-fn line_part(bytes: &[u8]) -> (usize, bool)
-    ensures within { result.0 ≤ length bytes.now }
-    ensures none { has 10 (take result.0 bytes.now) ≡ false }
-    ensures ended { result.1 ≡ true → result.0 < length bytes.now }
-    ensures feed { result.1 ≡ true
-        → take (result.0 + 1) bytes.now ≡ take result.0 bytes.now ++ 10 ∷ [] }
-    ensures whole { result.1 ≡ false → result.0 ≡ length bytes.now }
-{
-    match cut(bytes, b'\n') {
-        Some((line, _)) => (line.len(), true),
-        None => (bytes.len(), false),
-    }
-}
-
 /// What lines are read from: any reader. It notes whether the reader failed when it was last asked,
 /// so that whoever gives out an error of the reader has had one.
 #[derive(Drop)]
 pub struct Input<R> {
-    reader: R,
-    failing: Failing,
+    reader: Noted<R>,
 }
 
 impl<R> Model for Input<R> {
@@ -68,8 +41,8 @@ impl<R> Model for Input<R> {
 
     ghost view = { λ i.
         record {
-          reader = i.reader;
-          failed = i.failing.last;
+          reader = i.reader.inner;
+          failed = i.reader.failing.last;
         } };
 }
 
@@ -80,8 +53,7 @@ impl<R> Input<R> {
         ensures failed { result.failed ≡ false }
     {
         Input {
-            reader,
-            failing: Failing::new(),
+            reader: Noted::new(reader),
         }
     }
 
@@ -89,7 +61,7 @@ impl<R> Input<R> {
     pub fn has_failed(&self) -> bool
         ensures { result ≡ self.now.failed }
     {
-        self.failing.last()
+        self.reader.has_failed()
     }
 }
 
@@ -111,27 +83,24 @@ impl<R: BufRead> Input<R> {
             (IsBegun (R.remaining self.old.reader) (R.remaining self.new.reader)) }
         ensures failed { self.new.failed ≡ is_failure result }
     {
-        next_of(&mut self.reader, &mut self.failing, line)
+        next_of(&mut self.reader, line)
     }
 }
 
 /// Reads the next line of a reader.
-fn next_of<R: BufRead>(
-    reader: &mut R,
-    failing: &mut Failing,
-    line: &mut Vec<u8>,
-) -> io::Result<Next>
+fn next_of<R: BufRead>(reader: &mut Noted<R>, line: &mut Vec<u8>) -> io::Result<Next>
     requires { 16385 ≤ vec_capacity line.old }
     ensures within { vec_len line.new ≤ 16385 }
     ensures room { vec_capacity line.old ≤ vec_capacity line.new }
-    ensures read { IfSome (R.remaining reader.old)
-        (λ input. IfOk result (IsNext input (R.remaining reader.new) line.new.items)) }
-    ensures begun { OnErr result (IsBegun (R.remaining reader.old) (R.remaining reader.new)) }
-    ensures failed { failing.new.last ≡ is_failure result }
+    ensures read { IfSome (R.remaining reader.old.inner)
+        (λ input. IfOk result (IsNext input (R.remaining reader.new.inner) line.new.items)) }
+    ensures begun { OnErr result
+        (IsBegun (R.remaining reader.old.inner) (R.remaining reader.new.inner)) }
+    ensures failed { reader.new.failing.last ≡ is_failure result }
 {
-    match read_piece(reader, failing, line)? {
+    match read_piece(reader, line)? {
         Piece::Feed => Ok(Next::Line),
-        Piece::Full => Ok(Next::TooLong),
+        Piece::Open => Ok(Next::TooLong),
         Piece::Last if line.is_empty() => Ok(Next::End),
         Piece::Last => Ok(Next::Line),
     }
@@ -139,45 +108,36 @@ fn next_of<R: BufRead>(
 
 /// Reads up to the line feed, which is consumed but not kept, up to one byte more than a line may
 /// have, or to the end.
-fn read_piece<R: BufRead>(
-    reader: &mut R,
-    failing: &mut Failing,
-    line: &mut Vec<u8>,
-) -> io::Result<Piece>
+fn read_piece<R: BufRead>(reader: &mut Noted<R>, line: &mut Vec<u8>) -> io::Result<Piece>
     requires { 16385 ≤ vec_capacity line.old }
     ensures within { vec_len line.new ≤ 16385 }
     ensures room { vec_capacity line.old ≤ vec_capacity line.new }
     ensures none { OnOk result (has 10 line.new.items ≡ false) }
     ensures bytes { IfOk result (λ piece. Consumes
-        (R.remaining reader.old) (R.remaining reader.new) (taken piece line.new.items)) }
+        (R.remaining reader.old.inner) (R.remaining reader.new.inner)
+        (taken piece line.new.items)) }
     ensures feed { IfOk result (λ piece. piece ≡ Feed → vec_len line.new ≤ 16384) }
-    ensures full { IfOk result (λ piece. piece ≡ Full → vec_len line.new ≡ 16385) }
+    ensures full { IfOk result (λ piece. piece ≡ Open → vec_len line.new ≡ 16385) }
     ensures last { IfOk result (λ piece. piece ≡ Last → vec_len line.new ≤ 16384) }
     ensures end { IfOk result (λ piece. piece ≡ Last
-        → IfSome (R.remaining reader.old) (λ _. IsAtEnd (R.remaining reader.new))) }
-    ensures begun { OnErr result (IsBegun (R.remaining reader.old) (R.remaining reader.new)) }
-    ensures failed { failing.new.last ≡ is_failure result }
+        → IfSome (R.remaining reader.old.inner) (λ _. IsAtEnd (R.remaining reader.new.inner))) }
+    ensures begun { OnErr result
+        (IsBegun (R.remaining reader.old.inner) (R.remaining reader.new.inner)) }
+    ensures failed { reader.new.failing.last ≡ is_failure result }
 {
     line.clear();
-    for chunks in 0..u64::MAX {
+    for pieces in 0..u64::MAX {
         let room = LONGEST + 1 - line.len();
         if room == 0 {
-            return Ok(Piece::Full);
+            return Ok(Piece::Open);
         }
-        let chunk = fill(reader, failing)?;
-        if chunk.is_empty() {
-            return Ok(Piece::Last);
+        match reader.take_piece(room, line)? {
+            Piece::Feed => return Ok(Piece::Feed),
+            Piece::Open => {}
+            Piece::Last => return Ok(Piece::Last),
         }
-        let part = &chunk[..chunk.len().min(room)];
-        let (used, ended) = line_part(part);
-        put(line, &part[..used]);
-        if ended {
-            reader.consume(used + 1);
-            return Ok(Piece::Feed);
-        }
-        reader.consume(used);
     }
-    // Not reached: each chunk has a byte, and 16,385 bytes end the loop.
+    // Not reached: each piece has a byte, and 16,385 bytes end the loop.
     Err(io::Error::from(ErrorKind::Other))
 }
 

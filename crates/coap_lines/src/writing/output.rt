@@ -6,7 +6,7 @@ ghost use Rattle.std.specs.IoError.{error_kind};
 ghost use Rattle.coap_lines.specs.Ends.{failed_by};
 ghost use Rattle.coap_lines.specs.Failing.{is_failure};
 
-use crate::failing::{Failing, put};
+use crate::failing::Noted;
 use std::io;
 use std::io::{ErrorKind, Write};
 use std::marker::Model;
@@ -15,8 +15,7 @@ use std::marker::Model;
 /// so that whoever gives out an error of the writer has had one.
 #[derive(Drop)]
 pub struct Output<W> {
-    writer: W,
-    failing: Failing,
+    writer: Noted<W>,
 }
 
 impl<W> Model for Output<W> {
@@ -24,7 +23,7 @@ impl<W> Model for Output<W> {
 
     ghost Value = { Output W };
 
-    ghost view = { λ o. record { writer = o.writer; failed = o.failing.last } };
+    ghost view = { λ o. record { writer = o.writer.inner; failed = o.writer.failing.last } };
 }
 
 impl<W> Output<W> {
@@ -34,8 +33,7 @@ impl<W> Output<W> {
         ensures failed { result.failed ≡ false }
     {
         Output {
-            writer,
-            failing: Failing::new(),
+            writer: Noted::new(writer),
         }
     }
 
@@ -43,14 +41,14 @@ impl<W> Output<W> {
     pub fn writer(&self) -> &W
         ensures { result.now ≡ self.now.writer }
     {
-        &self.writer
+        self.writer.inner()
     }
 
     /// Whether the writer failed when it was last asked.
     pub fn has_failed(&self) -> bool
         ensures { result ≡ self.now.failed }
     {
-        self.failing.last()
+        self.writer.has_failed()
     }
 }
 
@@ -69,24 +67,25 @@ impl<W: Write> Output<W> {
             × Appends (W.contents self.old.writer) (W.contents self.new.writer) done) }
         ensures failed { self.new.failed ≡ failed_by bytes.now self.old.failed result }
     {
-        write_pieces(&mut self.writer, &mut self.failing, bytes)
+        write_pieces(&mut self.writer, bytes)
     }
 }
 
 /// Writes all bytes, piece by piece.
-fn write_pieces<W: Write>(writer: &mut W, failing: &mut Failing, bytes: &[u8]) -> io::Result<()>
-    ensures all { OnOk result (Appends (W.contents writer.old) (W.contents writer.new) bytes.now) }
+fn write_pieces<W: Write>(writer: &mut Noted<W>, bytes: &[u8]) -> io::Result<()>
+    ensures all { OnOk result
+        (Appends (W.contents writer.old.inner) (W.contents writer.new.inner) bytes.now) }
     ensures retried { IfErr result (λ e. error_kind e ≢ ErrorKind.Interrupted) }
     ensures front { OnErr result ((done rest : List ℕ) × (bytes.now ≡ done ++ rest) × (rest ≢ [])
-        × Appends (W.contents writer.old) (W.contents writer.new) done) }
-    ensures failed { failing.new.last ≡ failed_by bytes.now failing.old.last result }
+        × Appends (W.contents writer.old.inner) (W.contents writer.new.inner) done) }
+    ensures failed { writer.new.failing.last ≡ failed_by bytes.now writer.old.failing.last result }
 {
     let mut rest = bytes;
     for pieces in 0..u64::MAX {
         if rest.is_empty() {
             return Ok(());
         }
-        let count = put_some(writer, failing, rest)?;
+        let count = put_some(writer, rest)?;
         rest = &rest[count..];
     }
     // Each piece has a byte, so none is left.
@@ -94,15 +93,16 @@ fn write_pieces<W: Write>(writer: &mut W, failing: &mut Failing, bytes: &[u8]) -
 }
 
 /// Writes some of the bytes, at least one if there is one. An interrupted write is retried.
-fn put_some<W: Write>(writer: &mut W, failing: &mut Failing, bytes: &[u8]) -> io::Result<usize>
+fn put_some<W: Write>(writer: &mut Noted<W>, bytes: &[u8]) -> io::Result<usize>
     ensures bound { WritesAtMost result bytes.now }
-    ensures bytes { WriteAppends (W.contents writer.old) (W.contents writer.new) result bytes.now }
+    ensures bytes { WriteAppends
+        (W.contents writer.old.inner) (W.contents writer.new.inner) result bytes.now }
     ensures some { IfOk result (λ n. n ≡ 0 → bytes.now ≡ []) }
     ensures retried { IfErr result (λ e. error_kind e ≢ ErrorKind.Interrupted) }
-    ensures failed { failing.new.last ≡ is_failure result }
+    ensures failed { writer.new.failing.last ≡ is_failure result }
 {
     for tries in 0..u64::MAX {
-        match put(writer, failing, bytes) {
+        match writer.put(bytes) {
             Ok(count) => return Ok(count),
             Err(error) if error.kind() == ErrorKind::Interrupted => continue,
             Err(error) => return Err(error),

@@ -10,12 +10,12 @@ returns-in-Feed-clause-read g c =
     let short = e.feed c.in-Feed.is in
     next-feed _ _ _ (rw c.in-Feed.is at e.bytes) e.none (omega (arith, same, short))
 
-pub returns-in-Full-clause-read : goal.returns-in-Full-clause-read
-returns-in-Full-clause-read g c =
+pub returns-in-Open-clause-read : goal.returns-in-Open-clause-read
+returns-in-Open-clause-read g c =
     let e = c.in_ok-read_piece.ensures in
     let same = c.read_piece.new.line.ok.0 in
-    let long = e.full c.in-Full.is in
-    next-full _ _ _ (rw c.in-Full.is at e.bytes) e.none (omega (arith, same, long))
+    let long = e.full c.in-Open.is in
+    next-full _ _ _ (rw c.in-Open.is at e.bytes) e.none (omega (arith, same, long))
 
 pub returns-in-Last-2-clause-read : goal.returns-in-Last-2-clause-read
 returns-in-Last-2-clause-read g c =

@@ -7,5 +7,6 @@ greatest n is = ap (λ (m : ℕ). m == 2 ^ 64 - 1) is
 
 pub returns-clause-failed : goal.returns-clause-failed
 returns-clause-failed g c =
-    let (kept, counted, within, noted) = c.loop-tries.invariant in
-    noted (omega (arith, c.loop-tries.auto.tries-end, c.loop-tries-test.false)) ∙ greatest c.loop-tries.failing.interrupted (omega (arith, counted, within, c.loop-tries.auto.tries-end, c.loop-tries-test.false))
+    let (kept, counted, after) = c.loop-tries.invariant in
+    let (within, noted) = after (omega (arith, c.loop-tries.auto.tries-end, c.loop-tries-test.false)) in
+    noted ∙ greatest c.loop-tries.writer.failing.interrupted (omega (arith, counted, within, c.loop-tries.auto.tries-end, c.loop-tries-test.false))

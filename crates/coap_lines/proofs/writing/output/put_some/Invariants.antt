@@ -4,4 +4,4 @@ use Rattle.coap_lines.proofs.writing.output.put_some.Given as goal
 
 -- nothing was written, and each try so far was interrupted
 abbrev pub invariant-loop-tries : goal.invariant-loop-tries
-invariant-loop-tries g l = Keeps (g.W.Write.contents l.fn.writer) (g.W.Write.contents l.writer) × (l.tries ≤ l.failing.interrupted) × (l.failing.interrupted ≤ 2 ^ 64 - 1) × (0 < l.tries → l.failing.last ≡ (l.failing.interrupted == 2 ^ 64 - 1))
+invariant-loop-tries g l = Keeps (g.W.Write.contents l.fn.writer.inner) (g.W.Write.contents l.writer.inner) × (l.tries ≤ l.writer.failing.interrupted) × (0 < l.tries → (l.writer.failing.interrupted ≤ 2 ^ 64 - 1) × (l.writer.failing.last ≡ (l.writer.failing.interrupted == 2 ^ 64 - 1)))

@@ -2,7 +2,7 @@ use Rattle.std.proofs.Common.{sym, length, arith}
 use Rattle.std.proofs.lemmas.List.{take_all}
 use Rattle.coap_lines.proofs.Cuts.{none-has}
 use Rattle.coap_lines.proofs.NextLines.{before_feed}
-use Rattle.coap_lines.proofs.reading.input.line_part.Goals as goal
+use Rattle.coap_lines.proofs.reading.cutting.line_part.Goals as goal
 
 pub returns-in-Some-clause-within : goal.returns-in-Some-clause-within
 returns-in-Some-clause-within c =
