@@ -1,14 +1,34 @@
 -- What the calls of a recording do, by their contracts.
-use Rattle.std.proofs.Common.{◌≡◌, ◌+◌, ◌*◌, ◌≤◌, ◌&&◌, not, ℕ, inl, inr, Bool, true, false, ltb, List, [], ◌∷◌, ◌++◌, length, Option, refl, ap, ◌∙◌, subst, arith}
-use Rattle.std.proofs.lemmas.Bool.{le-ltb}
+use Rattle.std.proofs.Common.{◌≡◌, ◌≢◌, ◌+◌, ◌*◌, ◌≤◌, ◌&&◌, not, ℕ, inl, inr, Bool, true, false, ltb, List, [], ◌∷◌, ◌++◌, length, Option, Result, Ok, Err, refl, sym, ap, ◌∙◌, subst, arith}
+use Rattle.std.specs.Result.{OnOk, is_err}
+use Rattle.std.proofs.lemmas.Bool.{false≢true, le-ltb}
 use Rattle.std.proofs.lemmas.List.{length-append}
 use Rattle.coap_model.specs.Runs.{Turn}
+use Rattle.coap_lines.specs.Ends.{failed_by}
 use Rattle.coap_lines.specs.Turns.{IsReadAs, turn_line, turn_text}
 use Rattle.coap_lines.proofs.WrittenTurns.{read-again}
 use Rattle.coap_port.specs.Driven.{is_arrival}
 use Rattle.coap_port.specs.Given.{IsOnward, event_given, given_by}
 use Rattle.coap_port.specs.declared.port.Turn.{Turn as Given}
 use Rattle.coap_record.specs.Recorder.{AddsTurn, AddsUnless, Gives, IsShort, Recorder, WritesIf, size_of, with_line}
+
+-- what holds on success holds if there is no error
+pub ok-holds : {T E P : Type 0} (r : Result T E) → is_err r ≡ false → OnOk r P → P
+ok-holds (Ok x) ok holds = holds
+ok-holds (Err e) ok holds = absurd (false≢true (sym ok))
+
+-- a writer that took all bytes, and hadn't failed before, still hasn't
+pub still-works : {A E : Type 0} (bytes : List ℕ) (before after : Bool) (r : Result A E) → after ≡ failed_by bytes before r → is_err r ≡ false → before ≡ false → after ≡ false
+still-works [] before after r is ok works = is ∙ works
+still-works (b ∷ bytes) before after (Ok x) is ok works = is
+still-works (b ∷ bytes) before after (Err e) is ok works = absurd (false≢true (sym ok))
+
+-- a writer that didn't take all bytes has failed
+pub fails-so : {A E : Type 0} (bytes done rest : List ℕ) (before after : Bool) (r : Result A E) → after ≡ failed_by bytes before r → is_err r ≡ true → bytes ≡ done ++ rest → rest ≢ [] → after ≡ true
+fails-so [] [] rest before after r is err split some = absurd (some (sym split))
+fails-so [] (b ∷ done) rest before after r is err split some = absurd cc
+fails-so (b ∷ bytes) done rest before after (Ok x) is err split some = absurd (false≢true err)
+fails-so (b ∷ bytes) done rest before after (Err e) is err split some = is
 
 -- the line of a turn that a port gives after the moment `before` is read as this turn
 read : (before after : ℕ) (turn : Given) (bytes : List ℕ) → IsOnward before after turn → IsShort (given_by turn bytes) → IsReadAs before (turn_text (given_by turn bytes)) (given_by turn bytes)
@@ -50,7 +70,7 @@ module _ {P W : Type 0} (contents : W → Option (List ℕ)) where
 
   -- a write leaves the port
   port-written : (b : Bool) (r s : Recorder P W) → WritesIf contents b r s → s.port ≡ r.port
-  port-written true r s (inl (wrote, is)) = ap (λ (x : Recorder P W). x.port) is
+  port-written true r s (inl (wrote, still, is)) = ap (λ (x : Recorder P W). x.port) is
   port-written true r s (inr (done, rest, split, some, wrote, failed, is)) = ap (λ (x : Recorder P W). x.port) is
   port-written false r s is = ap (λ (x : Recorder P W). x.port) is
 

@@ -41,7 +41,7 @@ AreRead first (g ∷ before) = IsReadAs (last_moment first before) (turn_text g.
 module _ {P W : Type 0} (contents : W → Option (List ℕ)) where
   -- a write leaves the port, and what was recorded, unless the recording ended
   written : (r s : Recorder P W) → Writes contents r s → s.ended ≡ false → (r.ended ≡ false) × Appends (recorded contents r) (recorded contents s) []
-  written r s (inl (a, is)) on =
+  written r s (inl (a, still, is)) on =
       (ap (λ (x : Recorder P W). x.ended) (sym is) ∙ on, rw (ap (λ (x : Recorder P W). x.pending) is) (moved (contents r.writer) (contents s.writer) r.pending a))
   written r s (inr (done, rest, split, some, a, failed, is)) on = absurd (false≢true (sym on ∙ ap (λ (x : Recorder P W). x.ended) is))
 

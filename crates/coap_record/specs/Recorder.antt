@@ -8,8 +8,8 @@ use Rattle.coap_lines.specs.Room.{longest_turn}
 use Rattle.coap_lines.specs.Turns.{IsReadAs, IsSourced, turn_line, turn_text}
 use Rattle.coap_port.specs.Driven.{is_arrival}
 
--- Its port; what the lines are written to, and whether that failed when it was last asked; the lines
--- that are kept and not yet written; whether the recording has ended, so that nothing more is
+-- Its port; what the lines are written to, and whether that failed when it was last asked; the
+-- lines that are kept and not yet written; whether the recording has ended, so that nothing more is
 -- recorded; whether nothing came in the last wait.
 pub record Recorder (P W : Type 0) : Type 0 where
   pub port : P
@@ -50,11 +50,12 @@ module _ {P W : Type 0} (contents : W → Option (List ℕ)) where
   abbrev pub recorded : Recorder P W → Option (List ℕ)
   recorded r = append_known (contents r.writer) r.pending
 
-  -- The lines that are kept are written; or the writer fails before it took all of them, and the
-  -- recording ends.
+  -- The lines that are kept are written, and a writer that hadn't failed before still hasn't; or it
+  -- fails before it took all of them, and the recording ends.
   abbrev pub Writes : Recorder P W → Recorder P W → Type 0
   Writes r s =
       (Appends (contents r.writer) (contents s.writer) r.pending
+      × (r.failed ≡ false → s.failed ≡ false)
       × (s ≡ record r { writer = s.writer; failed = s.failed; pending = [] }))
       ⊎ ((done rest : List ℕ) × (r.pending ≡ done ++ rest) × (rest ≢ [])
       × Appends (contents r.writer) (contents s.writer) done × (s.failed ≡ true)

@@ -1,10 +1,10 @@
 -- Faults of the reader and of the writer, and what holds after a line that was read.
-use Rattle.std.proofs.Common.{◌≡◌, ℕ, Bool, false, Ok, Err, refl, subst}
+use Rattle.std.proofs.Common.{◌≡◌, ℕ, Bool, false, true, Result, Ok, Err, refl, subst, sym}
 use Rattle.std.proofs.lemmas.Bool.{false≢true}
 use Rattle.coap_replay.specs.declared.error.ReplayError.{ReplayError}
 use Rattle.coap_replay.specs.declared.error.ReplayError.TheVariants.{BadEvent, OutOfMemory, Read, Write}
 use Rattle.coap_replay.specs.declared.replays.Asked.{Asked}
-use Rattle.coap_replay.specs.Replays.{HasCause, IfMore, is_read_fault, is_write_fault}
+use Rattle.coap_replay.specs.Replays.{FailsBy, HasCause, IfMore, is_read_fault, is_write_fault}
 
 -- where only the reader was asked, only the reader failed
 pub cause-read : (e : ReplayError) (reader writer : Bool) → HasCause {A = Asked} reader false (Err e) → HasCause {A = ℕ} reader writer (Err e)
@@ -37,3 +37,19 @@ unread (BadEvent line) writer cause = refl
 unread (OutOfMemory line) writer cause = refl
 unread Read writer cause = absurd (false≢true cause)
 unread Write writer cause = refl
+
+-- if the reader failed, the fault is its own
+pub reader-failed : (r : Result ℕ ReplayError) → FailsBy (is_read_fault r) false true → r ≡ Err Read
+reader-failed (Ok count) fails = absurd (false≢true (sym (fails refl)))
+reader-failed (Err (BadEvent line)) fails = absurd (false≢true (sym (fails refl)))
+reader-failed (Err (OutOfMemory line)) fails = absurd (false≢true (sym (fails refl)))
+reader-failed (Err Read) fails = refl
+reader-failed (Err Write) fails = absurd (false≢true (sym (fails refl)))
+
+-- if the writer failed, the fault is its own
+pub writer-failed : (r : Result ℕ ReplayError) → FailsBy (is_write_fault r) false true → r ≡ Err Write
+writer-failed (Ok count) fails = absurd (false≢true (sym (fails refl)))
+writer-failed (Err (BadEvent line)) fails = absurd (false≢true (sym (fails refl)))
+writer-failed (Err (OutOfMemory line)) fails = absurd (false≢true (sym (fails refl)))
+writer-failed (Err Read) fails = absurd (false≢true (sym (fails refl)))
+writer-failed (Err Write) fails = refl

@@ -13,6 +13,7 @@
 
 mod buffers;
 mod error;
+pub mod laws;
 mod replays;
 mod whole;
 
