@@ -12,9 +12,9 @@ taken Feed line = line ++ line_feed ∷ []
 taken Open line = line
 taken Last line = line
 
--- A piece of at most `most` bytes was taken of what a reader had left, and added to what was held. A
--- line feed is taken with fewer bytes; a piece without one has a byte, unless none was wanted; and
--- the last one is empty.
+-- A piece of at most `most` bytes was taken of what a reader had left, and added to what was held.
+-- A line feed is taken with fewer bytes; a piece without one has a byte, unless none was wanted;
+-- and the last one is empty.
 pub record IsPiece (most : ℕ) (input left : Option (List ℕ)) (old new : Vec ℕ) (piece : Piece) :
     Type 0 where
   pub bytes : List ℕ

@@ -17,8 +17,8 @@ Adds old new text most = (new.items ≡ old.items ++ text)
 abbrev pub longest_line : ℕ → ℕ
 longest_line count = 71 + 2 * count
 
--- The greatest length of the line of a turn whose datagram has `count` bytes: 20 digits of a moment,
--- 5 of a draw, 47 bytes of an endpoint, two digits for each byte, or a hyphen if there are none,
--- three spaces and a line feed. The line of a tick isn't longer than that of no bytes.
+-- The greatest length of the line of a turn whose datagram has `count` bytes: 20 digits of a
+-- moment, 5 of a draw, 47 bytes of an endpoint, two digits for each byte, or a hyphen if there are
+-- none, three spaces and a line feed. The line of a tick isn't longer than that of no bytes.
 abbrev pub longest_turn : ℕ → ℕ
 longest_turn count = 77 + 2 * count

@@ -1,8 +1,9 @@
 //! A reader or a writer, and the note whether it failed when it was last asked.
 //!
-//! Outside this file nobody reaches the reader or the writer but through these methods, each of which
-//! makes the note, and nobody can write or undo a note: the fields are private, so that the compiler
-//! refuses such a body. So an error that others give out as the reader's or the writer's is one.
+//! Outside this file nobody reaches the reader or the writer but through these methods, each of
+//! which makes the note, and nobody can write or undo a note: the fields are private, so that the
+//! compiler refuses such a body. So an error that others give out as the reader's or the writer's
+//! is one.
 ghost use Rattle.std.specs.Prelude.{◌≡◌, ◌≢◌, ◌≤◌, false, true, [], IfSome, IfErr, IfOk, OnErr, OnOk, length, vec_capacity};
 ghost use Rattle.std.specs.Borrow.{sem};
 ghost use Rattle.std.specs.Io.{WritesAtMost, StartsWith};
@@ -18,8 +19,8 @@ use crate::room;
 use std::io;
 use std::io::{BufRead, ErrorKind, Write};
 
-/// Whether what was last asked failed. A write that was interrupted didn't, unless it is the last of
-/// 2^64 - 1 in a row.
+/// Whether what was last asked failed. A write that was interrupted didn't, unless it is the last
+/// of 2^64 - 1 in a row.
 #[derive(Drop)]
 struct Failing {
     last: bool,
@@ -48,7 +49,8 @@ impl Failing {
     }
 }
 
-/// A reader or a writer, which is asked here alone, and the note whether it failed when it last was.
+/// A reader or a writer, which is asked here alone, and the note whether it failed when it last
+/// was.
 #[derive(Drop)]
 pub(crate) struct Noted<T> {
     inner: T,

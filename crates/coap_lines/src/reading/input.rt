@@ -66,12 +66,12 @@ impl<R> Input<R> {
 }
 
 impl<R: BufRead> Input<R> {
-    /// Reads the next line, without its line feed, which the last line may lack. The buffer has room
-    /// for 16,385 bytes, and never holds more, so that this doesn't allocate.
+    /// Reads the next line, without its line feed, which the last line may lack. The buffer has
+    /// room for 16,385 bytes, and never holds more, so that this doesn't allocate.
     ///
     /// # Errors
-    /// Those of the reader, an interrupted read included. Part of the line may have been taken then,
-    /// but never its line feed; that part is lost.
+    /// Those of the reader, an interrupted read included. Part of the line may have been taken
+    /// then, but never its line feed; that part is lost.
     pub fn next_line(&mut self, line: &mut Vec<u8>) -> io::Result<Next>
         requires { 16385 ≤ vec_capacity line.old }
         ensures within { vec_len line.new ≤ 16385 }

@@ -11,8 +11,8 @@ use std::io;
 use std::io::{ErrorKind, Write};
 use std::marker::Model;
 
-/// What lines are written to: any writer. It notes whether the writer failed when it was last asked,
-/// so that whoever gives out an error of the writer has had one.
+/// What lines are written to: any writer. It notes whether the writer failed when it was last
+/// asked, so that whoever gives out an error of the writer has had one.
 #[derive(Drop)]
 pub struct Output<W> {
     writer: Noted<W>,
