@@ -1,9 +1,11 @@
-//! Laws of the definitions: public functions that do nothing, whose contracts are the laws.
+//! Laws of the definitions: public functions that do nothing, whose contracts are the laws; and
+//! facts about the values of a call, by functions of the crate's own that do nothing.
 ghost use Rattle.std.specs.Prelude.{◌≡◌, ◌+◌, ◌<◌, ◌≤◌, ◌^◌, ℕ, List, None, Some, false, length, true};
 ghost use Rattle.std.specs.List.{AllByRecursion};
 ghost use Rattle.coap_message.specs.Uint.{IsBytes};
 ghost use Rattle.coap_endpoint.specs.declared.endpoint.Endpoint.{Endpoint};
 ghost use Rattle.coap_endpoint.specs.declared.endpoint.Ip.{Ip};
+ghost use Rattle.coap_model.specs.Events.Event.{arrival};
 ghost use Rattle.coap_model.specs.Runs.{AreTurns, Turn};
 ghost use Rattle.coap_lines.specs.Datagrams.{IsHex, bytes_read, hex_text};
 ghost use Rattle.coap_uri.specs.Address.{IsIp};
@@ -11,8 +13,10 @@ ghost use Rattle.coap_lines.specs.Endpoints.{IsEndpoint, endpoint_at, endpoint_o
 ghost use Rattle.coap_lines.specs.Lines.{AreLines, IsNext, is_skipped, lines_of};
 ghost use Rattle.coap_lines.specs.Numbers.{IsNumber, number_of};
 ghost use Rattle.coap_lines.specs.Scripts.{all_done, bad_at, script_from, script_of, with_turn};
-ghost use Rattle.coap_lines.specs.Turns.{IsReadAs, IsSayable, IsTurnLine, greatest, turn_of, turn_text};
+ghost use Rattle.coap_lines.specs.Turns.{IsReadAs, IsSayable, IsSourced, IsTurnLine, greatest, turn_of, turn_text};
 ghost use Rattle.coap_lines.specs.declared.reading.input.Next.{Next};
+
+use coap_endpoint::{Endpoint, Ip};
 
 /// A text is read as a number exactly if it is the number's decimal form.
 pub fn numbers_are_read()
@@ -103,3 +107,19 @@ pub fn an_input_is_done_line_by_line()
         → turn_of last line ≡ Some turn → 2 ^ 63 ≤ events
         → script_from number last events (lines_of input) ≡ bad_at number }
 {}
+
+/// Does nothing: octets are below 256.
+fn octets_are_below_256(octets: &[u8])
+    ensures { AllByRecursion (λ b. b < 256) octets.now }
+{}
+
+/// Does nothing: a datagram has a source, and consists of bytes.
+pub(crate) fn datagrams_are_sourced(from: Endpoint, bytes: &[u8])
+    ensures { IsSourced (arrival from bytes.now) }
+{
+    let _laws = from.port;
+    match from.ip {
+        Ip::V4(octets) => octets_are_below_256(&octets),
+        Ip::V6(octets) => octets_are_below_256(&octets),
+    }
+}

@@ -23,6 +23,16 @@ pub struct Start {
     pub salt: u64,
 }
 
+impl Start {
+    /// Does nothing: the numbers are those of 64 bits.
+    fn laws(self)
+        ensures id { self.first_id < 2 ^ 64 }
+        ensures salt { self.salt < 2 ^ 64 }
+    {
+        let _laws = (self.first_id, self.salt);
+    }
+}
+
 /// The comments that a recording begins with, each with a line feed: the program with its version
 /// and the words that make a replay the same run (`--replay`, `--id`, `--salt`, and then `words`,
 /// as a shell reads them), and the lines of the configuration after `# config: `. A replay skips
@@ -44,7 +54,7 @@ pub fn header_of(
     ensures long { result ≡ Err errors.TooLong → list_any is_too_long
         (spec.header_lines version.now start (map string_bytes words.now) config.now) ≡ true }
 {
-    are_numbers(start);
+    start.laws();
     let mut out = Vec::new(alloc);
     put_first(&mut out, version, start, words)?;
     if out.len() > LONGEST {
@@ -113,15 +123,6 @@ fn put_number<I: Integer>(out: &mut Vec<u8>, number: I) -> Result<(), AllocError
     ensures { OnOk result (out.new.items ≡ out.old.items ++ I.text number) }
 {
     out.extend_from_slice(Buffer::new().format(number).as_bytes())
-}
-
-// Does nothing: it lets a proof conclude that the numbers are those of 64 bits.
-fn are_numbers(start: Start)
-    ensures id { start.first_id < 2 ^ 64 }
-    ensures salt { start.salt < 2 ^ 64 }
-{
-    let _first_id = start.first_id;
-    let _salt = start.salt;
 }
 
 /// Adds the words that say how a run was started.

@@ -3,8 +3,7 @@
 ghost use Rattle.coap_dedup.specs.Lists.{AreUpTo};
 
 use coap_cache::CacheKey;
-use coap_dedup::laws::records_stay_so;
-use coap_dedup::{NON_LIFETIME, Records, Refused, Seen};
+use coap_dedup::{NON_LIFETIME, Records, Refused, Seen, laws};
 use coap_exchange::{AdmitError, Exchanges, Joining, Opening, Waiters, digests_of};
 use coap_message::{Kind, OptionList, OutOfMemory, Pieces, Seq, Token};
 use coap_target::{Endpoint, Ip, Target};
@@ -139,7 +138,7 @@ fn keep(
     requires { AreUpTo 0 records.old.items }
     ensures { AreUpTo 0 records.new.items }
 {
-    records_stay_so();
+    laws::records_stay_so();
     let Seen::New = records.seen(from, id, 0) else {
         panic!(rt; "the message was seen before");
     };

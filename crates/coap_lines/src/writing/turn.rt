@@ -1,16 +1,16 @@
 //! Lines of turns.
-ghost use Rattle.std.specs.Prelude.{◌++◌, ◌<◌, codes, length};
+ghost use Rattle.std.specs.Prelude.{◌++◌, codes, length};
 ghost use Rattle.std.specs.Fmt.{decimal};
-ghost use Rattle.std.specs.List.{AllByRecursion};
 ghost use Rattle.coap_model.specs.Events.Event.{arrival, tick};
 ghost use Rattle.coap_lines.specs.Room.{Adds, HasRoom, longest_turn};
 ghost use Rattle.coap_lines.specs.Turns.{IsSourced, turn_at, turn_line};
 
+use crate::laws;
 use crate::room::put;
 use crate::writing::datagram::put_bytes;
 use crate::writing::endpoint::put_endpoint;
 use crate::writing::number::put_number;
-use coap_endpoint::{Endpoint, Ip};
+use coap_endpoint::Endpoint;
 
 /// Adds the moment and the draw, each with the space after it.
 fn put_moment(out: &mut Vec<u8>, now: u64, draw: u16)
@@ -21,22 +21,6 @@ fn put_moment(out: &mut Vec<u8>, now: u64, draw: u16)
     put(out, b" ");
     put_number(out, draw);
     put(out, b" ");
-}
-
-// Does nothing: it lets a proof conclude that octets are below 256.
-fn are_octets(octets: &[u8])
-    ensures { AllByRecursion (λ b. b < 256) octets.now }
-{}
-
-// Does nothing: it lets a proof conclude that a datagram has a source, and consists of bytes.
-fn is_sourced(from: Endpoint, bytes: &[u8])
-    ensures { IsSourced (arrival from bytes.now) }
-{
-    let _port = from.port;
-    match from.ip {
-        Ip::V4(octets) => are_octets(&octets),
-        Ip::V6(octets) => are_octets(&octets),
-    }
 }
 
 /// Adds the line of a turn in which a datagram came: `MOMENT DRAW FROM HEX` and a line feed. `now`
@@ -51,7 +35,7 @@ pub fn put_arrival(out: &mut Vec<u8>, now: u64, draw: u16, from: Endpoint, bytes
         (longest_turn (length bytes.now)) }
     ensures sourced { IsSourced (arrival from bytes.now) }
 {
-    is_sourced(from, bytes);
+    laws::datagrams_are_sourced(from, bytes);
     put_moment(out, now, draw);
     put_endpoint(out, from);
     put(out, b" ");

@@ -5,7 +5,7 @@ use Rattle.coap_record.proofs.header.header_of.Goals as goal
 
 pub returns-clause-skipped : goal.returns-clause-skipped
 returns-clause-skipped c =
-    skips c.args.version.now c.args.start (map string_bytes c.args.words.now) c.args.config.now c.put_config.new.out.items c.are_numbers.ensures.id c.are_numbers.ensures.salt (search rules) (search rules) c.in_ok-put_config.ensures.short
+    skips c.args.version.now c.args.start (map string_bytes c.args.words.now) c.args.config.now c.put_config.new.out.items c.laws.ensures.id c.laws.ensures.salt (search rules) (search rules) c.in_ok-put_config.ensures.short
 
 pub returns-in_err-put_config-clause-long : goal.returns-in_err-put_config-clause-long
 returns-in_err-put_config-clause-long c = λ long.
