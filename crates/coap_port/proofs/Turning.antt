@@ -14,7 +14,7 @@ use Rattle.coap_model.specs.declared.report.Report.{Report}
 use Rattle.coap_endpoint.specs.declared.endpoint.Endpoint.{Endpoint}
 use Rattle.coap_watch.specs.Told.{Told}
 use Rattle.coap_port.specs.Driven.{DidWatched, HandsOver, datagram_of, is_arrival, wait_for}
-use Rattle.coap_port.specs.Given.{event_given}
+use Rattle.coap_watch.specs.Given.{event_given}
 use Rattle.coap_port.specs.Stats.{with_turn}
 use Rattle.coap_port.specs.declared.stats.Stats.{Stats}
 

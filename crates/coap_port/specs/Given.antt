@@ -1,13 +1,8 @@
 -- What a port gives.
-use Rattle.std.specs.Prelude.{◌≡◌, ◌≤◌, ◌^◌, ℕ, List, Option, Some, None}
-use Rattle.coap_model.specs.Events.{Event, arrival, tick}
+use Rattle.std.specs.Prelude.{◌≡◌, ◌≤◌, ◌^◌, ℕ, List}
 use Rattle.coap_model.specs.Runs as model
-use Rattle.coap_endpoint.specs.declared.endpoint.Endpoint.{Endpoint}
+use Rattle.coap_watch.specs.Given.{event_given}
 use Rattle.coap_port.specs.declared.port.Turn.{Turn}
-
-abbrev pub event_given : Option Endpoint → List ℕ → Event
-event_given None bytes = tick
-event_given (Some source) bytes = arrival source bytes
 
 -- the turn, with the bytes that were put into the buffer
 abbrev pub given_by : Turn → List ℕ → model.Turn

@@ -5,9 +5,8 @@ ghost use Rattle.coap_port.specs.Driven.{Ends, EndsWatched};
 use crate::error::{DriveError, PortFault};
 use crate::port::Port;
 use crate::stats::Stats;
-use crate::turns::do_turn;
+use crate::turns::Drive;
 use coap_core::Core;
-use coap_message::Datagram;
 use coap_store::Store;
 use coap_watch::{Unwatched, Watch};
 use std::alloc::Global;
@@ -67,31 +66,14 @@ pub fn drive_watched<P: Port, S: Store + Drop, W: Watch>(
     ensures events { core.new.events ≤ core.old.events + turns }
     ensures onward { IfOk result (λ _. core.new.last ≤ P.clock port.new) }
 {
-    let longest = core.datagram();
-    let Some(room) = longest.checked_add(1) else {
+    let Ok(mut drive) = Drive::new(alloc, core.datagram()) else {
         return Err(DriveError::OutOfMemory);
     };
-    let Ok(mut input) = Datagram::new(alloc, room) else {
-        return Err(DriveError::OutOfMemory);
-    };
-    let Ok(mut output) = Datagram::new(alloc, longest) else {
-        return Err(DriveError::OutOfMemory);
-    };
-    let mut stats = Stats::default();
-    let mut came = false;
     for done in 0..turns {
-        match do_turn(
-            core,
-            port,
-            watcher,
-            came,
-            &mut input,
-            &mut output,
-            &mut stats,
-        ) {
-            Ok(arrived) => came = arrived,
-            Err(PortFault) => return Err(DriveError::Port { stats }),
+        match drive.do_turn(core, port, watcher) {
+            Ok(()) => {}
+            Err(PortFault) => return Err(DriveError::Port { stats: drive.stats }),
         }
     }
-    Ok(stats)
+    Ok(drive.stats)
 }

@@ -1,22 +1,17 @@
-//! One turn of a port.
+//! What a drive over a port holds, and one turn of it.
 ghost use Rattle.std.specs.Prelude.{◌≡◌, ◌≤◌, ◌<◌, ◌+◌, ◌^◌, [], None, Some, false, IfOk, OnErr, is_some, length, option_map};
-ghost use Rattle.coap_message.specs.Uint.{IsBytes};
-ghost use Rattle.coap_model.specs.Events.{IsEvent};
-ghost use Rattle.coap_model.specs.State.{State};
-ghost use Rattle.coap_core.specs.Events.{seen};
-ghost use Rattle.coap_watch.specs.Told.{told};
 ghost use Rattle.coap_port.specs.Driven as spec;
-ghost use Rattle.coap_port.specs.Given.{event_given};
-ghost use Rattle.coap_port.specs.Stats.{AreWithin, with_turn};
+ghost use Rattle.coap_port.specs.Stats.{AreWithin, no_stats, with_turn};
 
 use crate::error::PortFault;
-use crate::port::{Port, Turn};
+use crate::port::Port;
 use crate::stats::Stats;
-use coap_core::{Core, Event, Report};
+use coap_core::Core;
 use coap_endpoint::Endpoint;
 use coap_message::{Datagram, OutOfMemory};
 use coap_store::Store;
 use coap_watch::{Seen, Watch};
+use std::alloc::Global;
 
 /// The longest wait, in milliseconds.
 const LONGEST_WAIT: u64 = 1000;
@@ -37,23 +32,6 @@ fn wait_for(came: bool, last: u64, due: Option<u64>) -> u64
         None => LONGEST_WAIT,
     }
 }
-
-/// The event of a turn.
-fn event_of(from: Option<Endpoint>, bytes: &[u8]) -> Event<'_>
-    ensures event { seen result ≡ event_given from bytes.now }
-    ensures bytes { IsEvent (event_given from bytes.now) }
-{
-    are_bytes(bytes);
-    match from {
-        Some(from) => Event::Datagram { from, bytes },
-        None => Event::Tick,
-    }
-}
-
-// Does nothing: it lets a proof conclude that the bytes of a datagram are below 256.
-fn are_bytes(bytes: &[u8])
-    ensures { IsBytes bytes.now }
-{}
 
 /// Hands over a datagram, if there is one. Returns whether it was taken.
 fn hand_over<P: Port>(port: &mut P, to: Option<Endpoint>, bytes: &[u8]) -> bool
@@ -88,92 +66,82 @@ fn count(stats: &mut Stats, lost: bool, sent: bool, went: bool)
     }
 }
 
-/// What a watcher is told of a turn that was done.
-fn done<'a>(turn: Turn, event: Event<'a>, report: Report, sent: &'a [u8], went: bool) -> Seen<'a>
-    ensures { (w : State) → told result w ≡ record {
-      turn = record { now = turn.now; draw = turn.draw; event = seen event.entry };
-      report = Some report;
-      bytes = sent.entry.now;
-      went = went;
-      state = w;
-    } }
-{
-    Seen {
-        now: turn.now,
-        draw: turn.draw,
-        event,
-        report: Some(report),
-        sent,
-        went,
-    }
-}
-
-/// What a watcher is told of a turn that was lost.
-fn lost<'a>(turn: Turn, event: Event<'a>) -> Seen<'a>
-    ensures { (w : State) → told result w ≡ record {
-      turn = record { now = turn.now; draw = turn.draw; event = seen event.entry };
-      report = None;
-      bytes = [];
-      went = false;
-      state = w;
-    } }
-{
-    Seen {
-        now: turn.now,
-        draw: turn.draw,
-        event,
-        report: None,
-        sent: &[],
-        went: false,
-    }
-}
-
-/// Does one turn: the core handles what the port gives, what it sends is handed over, and the
-/// watcher is told. Returns whether a datagram came.
-///
-/// # Errors
-/// The port failed. The core, the watcher and the counts don't change then.
-pub(crate) fn do_turn<P: Port, S: Store + Drop, W: Watch>(
-    core: &mut Core<S>,
-    port: &mut P,
-    watcher: &mut W,
+/// What a drive holds between its turns: the buffers for what comes and for what is sent, the
+/// counts of the turns that were done, and whether a datagram came in the last one.
+#[derive(Drop)]
+pub(crate) struct Drive {
+    input: Datagram,
+    output: Datagram,
+    pub(crate) stats: Stats,
     came: bool,
-    input: &mut Datagram,
-    output: &mut Datagram,
-    stats: &mut Stats,
-) -> Result<bool, PortFault>
-    requires failures { P.failures port.old < 2 ^ 63 }
-    requires onward { core.old.last ≤ P.clock port.old }
-    requires events { core.old.events < 2 ^ 63 }
-    requires room { core.old.setting.limits.datagram ≤ output.old.room }
-    requires within { AreWithin stats.old }
-    requires few { stats.old.turns < 2 ^ 63 }
-    ensures done { IfOk result (spec.DidWatched (P.gives input.old.room) P.takes W.sees P.clock
-        P.failures came core.old port.old watcher.old stats.old core.new port.new watcher.new
-        stats.new) }
-    ensures within { AreWithin stats.new }
-    ensures input { input.new.room ≡ input.old.room }
-    ensures room { output.new.room ≡ output.old.room }
-    ensures setting { core.new.setting ≡ core.old.setting }
-    ensures nothing { OnErr result (core.new ≡ core.old) }
-    ensures untold { OnErr result (watcher.new ≡ watcher.old) }
-    ensures uncounted { OnErr result (stats.new ≡ stats.old) }
-    ensures fails { OnErr result (P.failures port.new ≡ P.failures port.old + 1) }
-{
-    let wait = wait_for(came, port.last(), core.next_due());
-    let turn = port.next(wait, input)?;
-    let event = event_of(turn.from, input.bytes());
-    match core.step(turn.now, turn.draw, event, output) {
-        Ok(report) => {
-            let sent = output.bytes();
-            let went = hand_over(port, report.send, sent);
-            count(stats, false, report.send.is_some(), went);
-            watcher.see(done(turn, event, report, sent, went), core);
-        }
-        Err(OutOfMemory) => {
-            count(stats, true, false, false);
-            watcher.see(lost(turn, event), core);
-        }
+}
+
+impl Drive {
+    /// A drive that has done nothing yet, of a core that sends at most `longest` bytes. There is
+    /// room for one byte more than that in the input buffer.
+    ///
+    /// # Errors
+    /// Out of memory.
+    pub(crate) fn new(alloc: Global, longest: usize) -> Result<Drive, OutOfMemory>
+        ensures input { IfOk result (λ drive. drive.input.room ≡ longest + 1) }
+        ensures output { IfOk result (λ drive. drive.output.room ≡ longest) }
+        ensures stats { IfOk result (λ drive. drive.stats ≡ no_stats) }
+        ensures came { IfOk result (λ drive. drive.came ≡ false) }
+    {
+        let room = longest.checked_add(1).ok_or(OutOfMemory)?;
+        Ok(Drive {
+            input: Datagram::new(alloc, room)?,
+            output: Datagram::new(alloc, longest)?,
+            stats: Stats::default(),
+            came: false,
+        })
     }
-    Ok(turn.from.is_some())
+
+    /// Does one turn: the core handles what the port gives, what it sends is handed over, and the
+    /// watcher is told.
+    ///
+    /// # Errors
+    /// The port failed. The core, the watcher and the counts don't change then.
+    pub(crate) fn do_turn<P: Port, S: Store + Drop, W: Watch>(
+        &mut self,
+        core: &mut Core<S>,
+        port: &mut P,
+        watcher: &mut W,
+    ) -> Result<(), PortFault>
+        requires failures { P.failures port.old < 2 ^ 63 }
+        requires onward { core.old.last ≤ P.clock port.old }
+        requires events { core.old.events < 2 ^ 63 }
+        requires room { core.old.setting.limits.datagram ≤ self.old.output.room }
+        requires within { AreWithin self.old.stats }
+        requires few { self.old.stats.turns < 2 ^ 63 }
+        ensures done { IfOk result (λ _. spec.DidWatched (P.gives self.old.input.room) P.takes
+            W.sees P.clock P.failures self.old.came core.old port.old watcher.old self.old.stats
+            core.new port.new watcher.new self.new.stats self.new.came) }
+        ensures within { AreWithin self.new.stats }
+        ensures input { self.new.input.room ≡ self.old.input.room }
+        ensures room { self.new.output.room ≡ self.old.output.room }
+        ensures setting { core.new.setting ≡ core.old.setting }
+        ensures nothing { OnErr result (core.new ≡ core.old) }
+        ensures untold { OnErr result (watcher.new ≡ watcher.old) }
+        ensures uncounted { OnErr result (self.new.stats ≡ self.old.stats) }
+        ensures fails { OnErr result (P.failures port.new ≡ P.failures port.old + 1) }
+    {
+        let wait = wait_for(self.came, port.last(), core.next_due());
+        let turn = port.next(wait, &mut self.input)?;
+        let seen = Seen::begun(turn.now, turn.draw, turn.from, self.input.bytes());
+        match core.step(turn.now, turn.draw, seen.event, &mut self.output) {
+            Ok(report) => {
+                let sent = self.output.bytes();
+                let went = hand_over(port, report.send, sent);
+                count(&mut self.stats, false, report.send.is_some(), went);
+                watcher.see(seen.done(report, sent, went), core);
+            }
+            Err(OutOfMemory) => {
+                count(&mut self.stats, true, false, false);
+                watcher.see(seen, core);
+            }
+        }
+        self.came = turn.from.is_some();
+        Ok(())
+    }
 }

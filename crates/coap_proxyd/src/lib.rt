@@ -12,7 +12,11 @@
 //!     draw: 250,
 //!     datagram: None,
 //! })?;
-//! serve_port::<_, ListStore>(alloc, (), plan, 1, 0, &mut port)?;
+//! let start = Start {
+//!     first_id: 1,
+//!     salt: 0,
+//! };
+//! Server::<ListStore>::new(alloc, (), plan).serve_port(start, &mut port)?;
 //! ```
 #![tactic(auto)]
 
@@ -43,5 +47,5 @@ pub use coap_words::{
 pub use fault::{ConfigFault, Fault};
 pub use planning::{Plan, read_plan};
 pub use recording::{RecordFile, words_again};
-pub use serving::{serve_events, serve_events_watched, serve_port, serve_watched};
+pub use serving::Server;
 pub use words::{Wanted, read_wanted};

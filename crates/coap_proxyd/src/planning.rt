@@ -1,6 +1,5 @@
 //! What the program is to do, by its words and its configuration.
-ghost use Rattle.std.specs.Prelude.{◌≡◌, IfOk, Ok, option_map, string_bytes};
-ghost use Rattle.coap_model.specs.State.{new_state};
+ghost use Rattle.std.specs.Prelude.{◌≡◌, Ok, option_map, string_bytes};
 ghost use Rattle.coap_target.specs.RouteTexts.{pair_of};
 ghost use Rattle.coap_uri.specs.Answer.{Says};
 ghost use Rattle.coap_words.specs.ConfigView as view;
@@ -11,10 +10,8 @@ ghost use Rattle.coap_proxyd.specs.declared.fault.Fault.TheVariants as faults;
 
 use crate::fault::Fault;
 use crate::words::Wanted;
-use coap_core::{Core, LimitValues, Limits};
+use coap_core::{LimitValues, Limits};
 use coap_endpoint::Endpoint;
-use coap_message::OutOfMemory;
-use coap_store::Store;
 use coap_target::{RouteError, Routes};
 use coap_words::{Config, parse_map_option, read_config};
 use std::alloc::Global;
@@ -152,19 +149,4 @@ fn routes_of(alloc: Global, config: &Config, next: Option<Endpoint>) -> Result<R
         Err(RouteError::OutOfMemory) => Err(Fault::OutOfMemory),
         Err(_) => Err(Fault::MapOption),
     }
-}
-
-/// The core of a plan, with this first Message ID and this salt if the plan has none.
-pub(crate) fn core_of<S: Store + Drop>(
-    alloc: Global,
-    seed: S::Seed,
-    plan: Plan,
-    first_id: u16,
-    salt: u64,
-) -> Result<Core<S>, OutOfMemory>
-    ensures { IfOk result (λ core. core ≡ new_state (spec.setting_of plan first_id salt)) }
-{
-    let first_id = plan.first_id.unwrap_or(first_id);
-    let salt = plan.salt.unwrap_or(salt);
-    Core::new(alloc, seed, plan.limits, plan.routes, first_id, salt)
 }

@@ -20,5 +20,5 @@ mod whole;
 pub use coap_lines::{Input, Output};
 pub use coap_watch::{Seen, Unwatched, Watch};
 pub use error::ReplayError;
-pub use replays::{replay_turns, replay_watched};
+pub use replays::{Budget, replay_turns, replay_watched};
 pub use whole::replay;

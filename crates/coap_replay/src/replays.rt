@@ -1,19 +1,15 @@
 //! Replays: a core handles the events of an input one after the other, and what it sends is
 //! written.
 ghost use Rattle.std.specs.Prelude.{◌≡◌, ◌≤◌, ◌^◌, ℕ, true, false, Some, IfSome, length, vec_capacity};
-ghost use Rattle.coap_model.specs.State.{State};
-ghost use Rattle.coap_core.specs.Events.{seen};
 ghost use Rattle.coap_replay.specs.Buffers.{HaveRoom};
-ghost use Rattle.coap_watch.specs.Told.{told};
 ghost use Rattle.coap_replay.specs.Watched.{IsTold, TellsTurn};
 ghost use Rattle.coap_replay.specs.Replays.{AsksNext, DoesTurn, FailsBy, HasCause, IfDo, IfMore, IsReplayed, MayBeDone, is_read_fault, is_write_fault, line_for};
 ghost use Rattle.coap_lines.specs.Room.{longest_line};
-ghost use Rattle.coap_lines.specs.Turns.{turn_seen, event_seen};
+ghost use Rattle.coap_lines.specs.Turns.{turn_seen};
 
 use crate::buffers::Buffers;
 use crate::error::ReplayError;
-use coap_core::{Core, Event, Report};
-use coap_endpoint::Endpoint;
+use coap_core::{Core, Report};
 use coap_lines::{Input, Next, Output, Turn, is_skipped, put_line, read_turn};
 use coap_message::Datagram;
 use coap_store::Store;
@@ -78,16 +74,6 @@ fn next_asked<R: BufRead>(
     }
 }
 
-/// The event of a turn.
-fn event_of(from: Option<Endpoint>, bytes: &[u8]) -> Event<'_>
-    ensures { seen result ≡ event_seen from bytes.now }
-{
-    match from {
-        Some(from) => Event::Datagram { from, bytes },
-        None => Event::Tick,
-    }
-}
-
 /// Overwrites a buffer with the line of the datagram that was sent, or empties it if none was sent.
 /// There is enough room.
 fn line_for(text: &mut Vec<u8>, now: u64, report: Report, out: &Datagram)
@@ -101,53 +87,40 @@ fn line_for(text: &mut Vec<u8>, now: u64, report: Report, out: &Datagram)
     }
 }
 
-/// What a watcher is told of a turn.
-fn done<'a>(turn: Turn, event: Event<'a>, report: Report, sent: &'a [u8]) -> Seen<'a>
-    ensures { (w : State) → told result w ≡ record {
-      turn = record { now = turn.now; draw = turn.draw; event = seen event.entry };
-      report = Some report;
-      bytes = sent.entry.now;
-      went = true;
-      state = w;
-    } }
-{
-    Seen {
-        now: turn.now,
-        draw: turn.draw,
-        event,
-        report: Some(report),
-        sent,
-        went: true,
-    }
+/// A turn, and the number of the line that it was read from.
+#[derive(Clone, Copy)]
+struct Numbered {
+    turn: Turn,
+    number: u64,
 }
 
-/// Does a turn, tells the watcher, and writes the line of what it sends. If it runs out of memory,
-/// nothing was done, and the watcher isn't told.
+/// Does the turn of a line, tells the watcher, and writes the line of what it sends. If it runs out
+/// of memory, nothing was done, and the watcher isn't told.
 fn do_turn<W: Write, S: Store + Drop, V: Watch>(
     output: &mut Output<W>,
     core: &mut Core<S>,
     watcher: &mut V,
-    turn: Turn,
-    number: u64,
+    line: Numbered,
     buffers: &mut Buffers,
 ) -> Result<(), ReplayError>
     requires may { MayBeDone core.old.last core.old.events
-        (turn_seen turn buffers.old.input.bytes) }
+        (turn_seen line.turn buffers.old.input.bytes) }
     requires room { HaveRoom core.old.setting.limits.datagram buffers.old }
-    ensures does { DoesTurn core.old core.new (turn_seen turn buffers.old.input.bytes)
-        (W.contents output.old.writer) (W.contents output.new.writer) number result }
+    ensures does { DoesTurn core.old core.new (turn_seen line.turn buffers.old.input.bytes)
+        (W.contents output.old.writer) (W.contents output.new.writer) line.number result }
     ensures cause { HasCause false output.new.failed result }
     ensures writer { FailsBy (is_write_fault result) output.old.failed output.new.failed }
     ensures told { TellsTurn V.sees core.old watcher.old core.new watcher.new
-        (turn_seen turn buffers.old.input.bytes) result }
+        (turn_seen line.turn buffers.old.input.bytes) result }
     ensures room { HaveRoom core.new.setting.limits.datagram buffers.new }
 {
-    let event = event_of(turn.from, buffers.input.bytes());
-    let Ok(report) = core.step(turn.now, turn.draw, event, &mut buffers.output) else {
+    let Numbered { turn, number } = line;
+    let seen = Seen::begun(turn.now, turn.draw, turn.from, buffers.input.bytes());
+    let Ok(report) = core.step(turn.now, turn.draw, seen.event, &mut buffers.output) else {
         return Err(ReplayError::OutOfMemory { line: number });
     };
     line_for(&mut buffers.text, turn.now, report, &buffers.output);
-    watcher.see(done(turn, event, report, buffers.output.bytes()), core);
+    watcher.see(seen.done(report, buffers.output.bytes(), true), core);
     if output.write_all(&buffers.text).is_err() {
         return Err(ReplayError::Write);
     }
@@ -158,8 +131,8 @@ fn do_turn<W: Write, S: Store + Drop, V: Watch>(
 /// that many are done it ends, and reads nothing after the line of the last one: a bad line after
 /// it goes unnoticed.
 ///
-/// All buffers are allocated before the first line. So a line runs out of memory only where the step
-/// of its event may (`Core::step`).
+/// All buffers are allocated before the first line. So a line runs out of memory only where the
+/// step of its event may (`Core::step`).
 ///
 /// # Errors
 /// `BadEvent` with the number of the first bad line; `OutOfMemory` with the number of the line
@@ -181,24 +154,31 @@ pub fn replay_turns<R: BufRead, W: Write, S: Store + Drop>(
     ensures reader { FailsBy (is_read_fault result) input.old.failed input.new.failed }
     ensures writer { FailsBy (is_write_fault result) output.old.failed output.new.failed }
 {
-    replay_watched(alloc, input, output, core, &mut Unwatched, turns)
+    let budget = Budget { alloc, turns };
+    replay_watched(budget, input, output, core, &mut Unwatched)
 }
 
-/// Does the same as `replay_turns`, and tells a watcher each turn that was done, before the line of
-/// what it sends is written.
+/// What a replay may use: memory of this allocator, and at most so many turns.
+#[derive(Clone, Copy)]
+pub struct Budget {
+    pub alloc: Global,
+    pub turns: u64,
+}
+
+/// Does the same as `replay_turns`, within this budget, and tells a watcher each turn that was
+/// done, before the line of what it sends is written.
 ///
 /// # Errors
 /// Those of `replay_turns`. The watcher was told the turns that were done, also the one whose line
 /// couldn't be written.
 pub fn replay_watched<R: BufRead, W: Write, S: Store + Drop, V: Watch>(
-    alloc: Global,
+    budget: Budget,
     input: &mut Input<R>,
     output: &mut Output<W>,
     core: &mut Core<S>,
     watcher: &mut V,
-    turns: u64,
 ) -> Result<u64, ReplayError>
-    ensures replayed { IsReplayed core.old core.new turns (R.remaining input.old.reader)
+    ensures replayed { IsReplayed core.old core.new budget.turns (R.remaining input.old.reader)
         (R.remaining input.new.reader) (W.contents output.old.writer)
         (W.contents output.new.writer) result }
     ensures cause { HasCause input.new.failed output.new.failed result }
@@ -206,6 +186,7 @@ pub fn replay_watched<R: BufRead, W: Write, S: Store + Drop, V: Watch>(
     ensures writer { FailsBy (is_write_fault result) output.old.failed output.new.failed }
     ensures told { IsTold V.sees core.old watcher.old core.new watcher.new }
 {
+    let Budget { alloc, turns } = budget;
     if turns == 0 {
         return Ok(0);
     }
@@ -219,7 +200,8 @@ pub fn replay_watched<R: BufRead, W: Write, S: Store + Drop, V: Watch>(
             Asked::End => return Ok(count),
             Asked::Skip => {}
             Asked::Do(turn) => {
-                do_turn(output, core, watcher, turn, number, &mut buffers)?;
+                let line = Numbered { turn, number };
+                do_turn(output, core, watcher, line, &mut buffers)?;
                 count += 1;
                 if count == turns {
                     return Ok(count);

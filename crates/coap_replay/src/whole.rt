@@ -12,8 +12,8 @@ use std::io::{BufRead, Write};
 /// Feeds the events of an input to the core, one after the other, and writes the lines of what it
 /// sends, and nothing else. Returns how many events were done: those of all lines.
 ///
-/// All buffers are allocated before the first line. So a line runs out of memory only where the step
-/// of its event may (`Core::step`).
+/// All buffers are allocated before the first line. So a line runs out of memory only where the
+/// step of its event may (`Core::step`).
 ///
 /// # Errors
 /// 1. `BadEvent`: the number of the first bad line.

@@ -19,6 +19,7 @@
 //! ```
 #![tactic(auto)]
 
+mod laws;
 mod watch;
 
 pub use watch::{Seen, Unwatched, Watch};

@@ -1,6 +1,14 @@
 //! What is told of a turn, and to whom.
+ghost use Rattle.std.specs.Prelude.{◌≡◌, [], None, Some, false};
+ghost use Rattle.coap_model.specs.Events.{IsEvent};
+ghost use Rattle.coap_model.specs.State.{State};
+ghost use Rattle.coap_core.specs.Events.{seen};
+ghost use Rattle.coap_watch.specs.Given.{event_given};
+ghost use Rattle.coap_watch.specs.Told.{told};
 
+use crate::laws;
 use coap_core::{Core, Event, Report};
+use coap_endpoint::Endpoint;
 use coap_store::Store;
 
 /// A turn that was done, or was lost: what it was, and what was done in it.
@@ -16,8 +24,66 @@ pub struct Seen<'a> {
     pub report: Option<Report>,
     /// The bytes that the report sends to an endpoint; none if it sends nothing.
     pub sent: &'a [u8],
-    /// Whether what was sent was taken; true as well if nothing was sent, and false for a lost turn.
+    /// Whether what was sent was taken; true as well if nothing was sent, and false for a lost
+    /// turn.
     pub went: bool,
+}
+
+/// The event of a turn: these bytes from their source, or a tick if there is none.
+fn event_of(from: Option<Endpoint>, bytes: &[u8]) -> Event<'_>
+    ensures { seen result ≡ event_given from bytes.now }
+{
+    match from {
+        Some(from) => Event::Datagram { from, bytes },
+        None => Event::Tick,
+    }
+}
+
+impl<'a> Seen<'a> {
+    /// A turn whose step wasn't done, as a lost one is told: its moment and its draw, in
+    /// milliseconds, and the bytes that came from a source, or a tick if there is none.
+    pub fn begun(now: u64, draw: u16, from: Option<Endpoint>, bytes: &'a [u8]) -> Seen<'a>
+        ensures now { result.now ≡ now }
+        ensures draw { result.draw ≡ draw }
+        ensures event { seen result.event ≡ event_given from bytes.entry.now }
+        ensures bytes { IsEvent (event_given from bytes.entry.now) }
+        ensures lost { (w : State) → told result w ≡ record {
+          turn = record { now = now; draw = draw; event = event_given from bytes.entry.now };
+          report = None;
+          bytes = [];
+          went = false;
+          state = w;
+        } }
+    {
+        laws::bytes_are_below_256(bytes);
+        Seen {
+            now,
+            draw,
+            event: event_of(from, bytes),
+            report: None,
+            sent: &[],
+            went: false,
+        }
+    }
+
+    /// The same turn, whose step was done: with what it did, the bytes that it sends, and whether
+    /// they were taken.
+    pub fn done(self, report: Report, sent: &'a [u8], went: bool) -> Seen<'a>
+        ensures { (w : State) → told result w ≡ record {
+          turn = (told self.entry w).turn;
+          report = Some report;
+          bytes = sent.entry.now;
+          went = went;
+          state = w;
+        } }
+    {
+        Seen {
+            report: Some(report),
+            sent,
+            went,
+            ..self
+        }
+    }
 }
 
 /// Is told each turn of a loop, after it was done.

@@ -9,9 +9,8 @@ use crate::reporter::Reporter;
 use coap_account::Explainer;
 use coap_cache::LruStore;
 use coap_proxyd::{
-    Fault, HeaderError, Output, Plan, Port, RecordFile, Recording, Start, VERSION, header_of,
-    read_plan, read_wanted, serve_events, serve_events_watched, serve_port, serve_watched,
-    words_again,
+    Fault, HeaderError, Output, Plan, Port, RecordFile, Recording, Server, Start, VERSION,
+    header_of, read_plan, read_wanted, words_again,
 };
 use coap_udp::UdpPort;
 use std::hash::RandomState;
@@ -59,13 +58,16 @@ fn plan(rt: &HostRuntime) -> Result<Plan, Fault> {
 }
 
 /// A random first Message ID and a random salt.
-fn draw(rt: &HostRuntime) -> Result<(u16, u64), Fault> {
+fn draw(rt: &HostRuntime) -> Result<Start, Fault> {
     let (mut id, mut salt) = ([0; 2], [0; 8]);
     match rt
         .fill_bytes(&mut id)
         .and_then(|()| rt.fill_bytes(&mut salt))
     {
-        Ok(()) => Ok((u16::from_le_bytes(id), u64::from_le_bytes(salt) >> 1)),
+        Ok(()) => Ok(Start {
+            first_id: u16::from_le_bytes(id),
+            salt: u64::from_le_bytes(salt) >> 1,
+        }),
         Err(_) => Err(Fault::Socket),
     }
 }
@@ -80,10 +82,10 @@ fn seed(rt: &HostRuntime) -> Result<RandomState, Fault> {
 
 /// Serves a socket.
 fn serve_socket(rt: &HostRuntime, plan: Plan) -> Result<(), Fault> {
-    let (first_id, salt) = draw(rt)?;
+    let drawn = draw(rt)?;
     match UdpPort::bind(rt, rt.alloc(), plan.local) {
-        Ok(mut port) if plan.recording.is_none() => serve(rt, plan, first_id, salt, &mut port),
-        Ok(port) => record(rt, plan, first_id, salt, port),
+        Ok(mut port) if plan.recording.is_none() => serve(rt, plan, drawn, &mut port),
+        Ok(port) => record(rt, plan, drawn, port),
         Err(error) => Err(fault_of(&error, Fault::Socket)),
     }
 }
@@ -117,22 +119,21 @@ fn recording<'a>(rt: &'a HostRuntime, path: &str, start: Start) -> Result<Record
 fn record<P: Port + Drop>(
     rt: &HostRuntime,
     plan: Plan,
-    first_id: u16,
-    salt: u64,
+    drawn: Start,
     port: P,
 ) -> Result<(), Fault>
     requires failures { P.failures port < 2 ^ 63 }
 {
     let start = Start {
-        first_id: plan.first_id.unwrap_or(first_id),
-        salt: plan.salt.unwrap_or(salt),
+        first_id: plan.first_id.unwrap_or(drawn.first_id),
+        salt: plan.salt.unwrap_or(drawn.salt),
     };
     let path = plan.recording.as_deref().unwrap_or("");
     let file = recording(rt, path, start)?;
     let Ok(mut recording) = Recording::new(rt.alloc(), port, file) else {
         return Err(Fault::OutOfMemory);
     };
-    let served = serve(rt, plan, start.first_id, start.salt, &mut recording);
+    let served = serve(rt, plan, start, &mut recording);
     recording.finish();
     served
 }
@@ -141,27 +142,27 @@ fn record<P: Port + Drop>(
 fn serve<P: Port>(
     rt: &HostRuntime,
     plan: Plan,
-    first_id: u16,
-    salt: u64,
+    start: Start,
     port: &mut P,
 ) -> Result<(), Fault>
     requires failures { P.failures port.old < 2 ^ 63 }
 {
-    let (alloc, seed) = (rt.alloc(), seed(rt)?);
-    let Some(mut reporter) = Reporter::of(rt, &plan)? else {
-        return serve_port::<_, Cache>(alloc, seed, plan, first_id, salt, port);
+    let seed = seed(rt)?;
+    let reporter = Reporter::of(rt, &plan)?;
+    let server = Server::<Cache>::new(rt.alloc(), seed, plan);
+    let Some(mut reporter) = reporter else {
+        return server.serve_port(start, port);
     };
-    let watcher = &mut reporter;
-    let counts = serve_watched::<_, Cache, _>(alloc, seed, plan, first_id, salt, port, watcher)?;
+    let counts = server.serve_watched(start, port, &mut reporter)?;
     reporter.report(&counts);
     Ok(())
 }
 
 /// Replays standard input.
 fn replay(rt: &HostRuntime, plan: Plan) -> Result<(), Fault> {
-    let (alloc, seed) = (rt.alloc(), seed(rt)?);
+    let server = Server::<Cache>::new(rt.alloc(), seed(rt)?, plan);
     let mut output = Output::new(io::writer(rt));
-    serve_events::<_, _, Cache>(alloc, seed, plan, rt.reader(), &mut output)
+    server.serve_events(rt.reader(), &mut output)
 }
 
 /// Replays standard input, and says after each event what it did. The routes are read once more for
@@ -171,7 +172,8 @@ fn explain(rt: &HostRuntime, plan: Plan) -> Result<(), Fault> {
     let Plan { limits, routes, .. } = self::plan(rt)?;
     let mut explainer = Explainer::new(alloc, limits, routes, io::writer(rt));
     let (input, mut output) = (rt.reader(), Output::new(io::writer(rt)));
-    serve_events_watched::<_, _, Cache, _>(alloc, seed, plan, input, &mut output, &mut explainer)?;
+    Server::<Cache>::new(alloc, seed, plan)
+        .serve_events_watched(input, &mut output, &mut explainer)?;
     if explainer.failed() {
         return Err(Fault::File);
     }

@@ -247,18 +247,20 @@ fn has(con_records: u64, non_records: u64, exchanges: u64, waiters: u64) -> Clie
     }
 }
 
-/// Checks a step, and what two clients and the origin server have after it.
+/// The outcome of a step, and what two clients and the origin server have after it.
+type After = (Outcome, [ClientCounts; 3]);
+
+/// Checks a step at the moment `now`, in milliseconds.
 fn check_counts(
     rt: &impl Abort,
     run: &mut Run,
     now: u64,
     event: Event<'_>,
-    outcome: Outcome,
-    expected: [ClientCounts; 3],
+    expected: After,
 ) -> Result<(), OutOfMemory> {
     let report = run.step(rt, now, event)?;
+    let (outcome, [first, second, origin]) = expected;
     assert_eq!(rt; report.outcome, outcome);
-    let [first, second, origin] = expected;
     assert_eq!(rt; run.core.client_counts(local(40001)), first);
     assert_eq!(rt; run.core.client_counts(local(40002)), second);
     assert_eq!(rt; run.core.client_counts(local(5690)), origin);
@@ -271,13 +273,13 @@ fn check_counts_of_requests(rt: &impl Abort, run: &mut Run) -> Result<(), OutOfM
     let nothing = has(0, 0, 0, 0);
     let opens = arrival(40001, b"\x40\x01\x00\x01\xB1t");
     let counts = [has(1, 0, 1, 1), nothing, nothing];
-    check_counts(rt, run, 0, opens, Outcome::Opened, counts)?;
+    check_counts(rt, run, 0, opens, (Outcome::Opened, counts))?;
     let joins = arrival(40002, b"\x50\x01\x00\x01\xB1t");
     let counts = [has(1, 0, 1, 1), has(0, 1, 0, 1), nothing];
-    check_counts(rt, run, 0, joins, Outcome::Joined, counts)?;
+    check_counts(rt, run, 0, joins, (Outcome::Joined, counts))?;
     let another = arrival(40001, b"\x40\x01\x00\x02\xB1t\x01x");
     let counts = [has(2, 0, 1, 1), has(0, 1, 0, 1), nothing];
-    check_counts(rt, run, 0, another, Outcome::Overloaded, counts)
+    check_counts(rt, run, 0, another, (Outcome::Overloaded, counts))
 }
 
 /// The answer comes in a Confirmable message, and goes to both clients. The first client has a
@@ -285,19 +287,19 @@ fn check_counts_of_requests(rt: &impl Abort, run: &mut Run) -> Result<(), OutOfM
 fn check_counts_of_answer(rt: &impl Abort, run: &mut Run) -> Result<(), OutOfMemory> {
     let (opener, joiner) = (has(2, 0, 1, 1), has(0, 1, 0, 1));
     let counts = [opener, joiner, has(0, 0, 0, 0)];
-    check_counts(rt, run, 0, Event::Tick, Outcome::SentRequest, counts)?;
+    check_counts(rt, run, 0, Event::Tick, (Outcome::SentRequest, counts))?;
     let bytes = b"\x48\x45\x00\x09\x00\x00\x00\x00\x00\x00\x00\x01\xD1\x01\x0A\xFF21";
     let storing = Storing::Kept;
     let origin = has(1, 0, 0, 0);
     let (answer, outcome) = (arrival(5690, bytes), Outcome::Answered { storing });
-    check_counts(rt, run, 0, answer, outcome, [opener, joiner, origin])?;
+    check_counts(rt, run, 0, answer, (outcome, [opener, joiner, origin]))?;
     let counts = [opener, joiner, origin];
-    check_counts(rt, run, 0, Event::Tick, Outcome::Delivered, counts)?;
+    check_counts(rt, run, 0, Event::Tick, (Outcome::Delivered, counts))?;
     let counts = [has(2, 0, 0, 1), has(0, 1, 0, 0), origin];
-    check_counts(rt, run, 0, Event::Tick, Outcome::Delivered, counts)?;
+    check_counts(rt, run, 0, Event::Tick, (Outcome::Delivered, counts))?;
     let acknowledgement = arrival(40001, b"\x60\x00\x00\x02");
     let counts = [has(2, 0, 0, 0), has(0, 1, 0, 0), origin];
-    check_counts(rt, run, 0, acknowledgement, Outcome::Acked, counts)
+    check_counts(rt, run, 0, acknowledgement, (Outcome::Acked, counts))
 }
 
 /// A hit leaves a record alone, until the end of its lifetime.
@@ -305,11 +307,11 @@ fn check_counts_of_records(rt: &impl Abort, run: &mut Run) -> Result<(), OutOfMe
     let origin = has(1, 0, 0, 0);
     let hit = arrival(40002, b"\x40\x01\x00\x02\xB1t");
     let counts = [has(2, 0, 0, 0), has(1, 1, 0, 0), origin];
-    check_counts(rt, run, 1, hit, Outcome::Hit, counts)?;
+    check_counts(rt, run, 1, hit, (Outcome::Hit, counts))?;
     let counts = [has(2, 0, 0, 0), has(1, 0, 0, 0), origin];
-    check_counts(rt, run, 145_000, Event::Tick, Outcome::Idle, counts)?;
+    check_counts(rt, run, 145_000, Event::Tick, (Outcome::Idle, counts))?;
     let counts = [has(0, 0, 0, 0), has(1, 0, 0, 0), has(0, 0, 0, 0)];
-    check_counts(rt, run, 247_000, Event::Tick, Outcome::Idle, counts)
+    check_counts(rt, run, 247_000, Event::Tick, (Outcome::Idle, counts))
 }
 
 // Each client has what it asked for itself, and the origin server what it sent.

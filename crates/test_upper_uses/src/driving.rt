@@ -2,7 +2,7 @@
 use crate::fixtures;
 use coap_core::{LimitValues, Limits};
 use coap_port::{MemoryPort, Port, Scripted, drive, drive_watched};
-use coap_proxyd::{ListStore, read_plan, read_wanted, serve_port};
+use coap_proxyd::{ListStore, Server, Start, read_plan, read_wanted};
 use coap_record::Recording;
 use coap_stats::{Tally, put_line};
 use std::test::*;
@@ -46,7 +46,11 @@ fn coap_proxyd(rt: HostRuntime) -> Result<(), Fail> {
         draw: 250,
         datagram: None,
     })?;
-    serve_port::<_, ListStore>(alloc, (), plan, 1, 0, &mut port)?;
+    let start = Start {
+        first_id: 1,
+        salt: 0,
+    };
+    Server::<ListStore>::new(alloc, (), plan).serve_port(start, &mut port)?;
     assert_eq!(rt; (port.last(), port.failures()), (5, 0)); // it gave its turn
     Ok(())
 }

@@ -4,7 +4,7 @@ use crate::fixtures::CLIENT;
 use coap_account::Explainer;
 use coap_core::{Datagram, LimitValues, Limits, Routes};
 use coap_lines::{LONGEST, line_buffer, put_line, read_turn};
-use coap_replay::{Input, Output, replay, replay_watched};
+use coap_replay::{Budget, Input, Output, replay, replay_watched};
 use coap_words::{read_config, read_words};
 use std::test::*;
 
@@ -58,7 +58,8 @@ fn coap_account(rt: HostRuntime) -> Result<(), Fail> {
     let mut input = Input::new(b"0 0 192.0.2.7:40001 50010007B174\n".as_slice());
     let (mut lines, mut output) = (Output::new(Vec::new(alloc)), Vec::new(alloc));
     let mut explainer = Explainer::new(alloc, limits, routes, &mut output);
-    replay_watched(alloc, &mut input, &mut lines, &mut core, &mut explainer, 1)?;
+    let budget = Budget { alloc, turns: 1 };
+    replay_watched(budget, &mut input, &mut lines, &mut core, &mut explainer)?;
     drop(explainer);
     let line = b"# 1 0 192.0.2.7:40001 NON GET coap://127.0.0.1:5690/temp opened\n";
     assert_eq!(rt; output.as_slice(), line.as_slice());

@@ -2,30 +2,19 @@
 
 use crate::lines::{config_of, words_in, words_of};
 use coap_cache::Store;
-use coap_proxyd::{Fault, Output, read_plan, read_wanted, serve_events};
+use coap_proxyd::{Fault, Output, Plan, Server, read_plan, read_wanted};
 use std::alloc::Global;
 use std::io;
 use std::io::{ErrorKind, Write};
 
-/// Runs the program with these words, a configuration, if there is one, and events, over a store
-/// that is made from this seed.
-fn serve_words<W: Write, S: Store + Drop>(
-    alloc: Global,
-    seed: S::Seed,
-    words: &[String],
-    config: Option<&[u8]>,
-    events: &[u8],
-    output: &mut W,
-) -> Result<(), Fault>
-where
-    S::Seed: Drop,
-{
+/// What the program is to do by these words, and a configuration, if there is one.
+fn plan_of(alloc: Global, words: &[String], config: Option<&[u8]>) -> Result<Plan, Fault> {
     let wanted = read_wanted(alloc, words)?;
-    let plan = read_plan(alloc, wanted, config)?;
-    serve_events::<_, _, S>(alloc, seed, plan, events, &mut Output::new(output))
+    read_plan(alloc, wanted, config)
 }
 
-/// Runs the program with the words, the configuration and the events of a run.
+/// Runs the program with the words, the configuration and the events of a run, over a store that is
+/// made from this seed.
 fn serve_run<W: Write, S: Store + Drop>(
     alloc: Global,
     seed: S::Seed,
@@ -40,7 +29,13 @@ where
     };
     let words = words_in(alloc, words)?;
     let config = config_of(alloc, events)?;
-    Ok(serve_words::<_, S>(alloc, seed, &words, config.as_deref(), events, output))
+    match plan_of(alloc, &words, config.as_deref()) {
+        Ok(plan) => {
+            let server = Server::<S>::new(alloc, seed, plan);
+            Ok(server.serve_events(events, &mut Output::new(output)))
+        }
+        Err(fault) => Ok(Err(fault)),
+    }
 }
 
 /// Writes the status and the text with which the program would stop.

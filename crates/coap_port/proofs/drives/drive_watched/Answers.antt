@@ -5,13 +5,13 @@ use Rattle.coap_port.proofs.drives.drive_watched.Goals as goal
 
 pub loop-done-init : goal.loop-done-init
 loop-done-init g c = record {
-  at = rw c.default-stats.ensures (watched-start (g.P.Port.gives (c.args.core.now.setting.limits.datagram + 1)) g.P.Port.takes g.W.Watch.sees g.P.Port.clock g.P.Port.failures c.args.core.now c.args.port.now c.args.watcher.now);
-  counted = rw c.default-stats.ensures refl;
-  within = rw c.default-stats.ensures (record { sent = omega arith; send_faults = omega arith; lost = omega arith });
+  at = rw (c.in-Ok.ensures.stats, c.in-Ok.ensures.came) (watched-start (g.P.Port.gives (c.args.core.now.setting.limits.datagram + 1)) g.P.Port.takes g.W.Watch.sees g.P.Port.clock g.P.Port.failures c.args.core.now c.args.port.now c.args.watcher.now);
+  counted = rw c.in-Ok.ensures.stats refl;
+  within = rw c.in-Ok.ensures.stats (record { sent = omega arith; send_faults = omega arith; lost = omega arith });
   onward = c.requires.onward;
   events = omega arith;
-  input = rw c.in-Ok.ensures (omega (arith, c.in-Some.ensures, c.datagram-longest.ensures.exact));
-  room = rw (c.in-Ok-new.ensures, c.datagram-longest.ensures.exact) (omega arith);
+  input = rw (c.in-Ok.ensures.input, c.datagram.ensures.exact) refl;
+  room = rw (c.in-Ok.ensures.output, c.datagram.ensures.exact) (omega arith);
   failures = refl;
 }
 
@@ -20,7 +20,7 @@ loop-done-preserved g c =
     let i = c.loop-done.invariant in
     let watched = rw i.input at c.in-Ok-do_turn.ensures.done in
     let did = watched.did in
-    let more : c.do_turn.new.stats.turns ≡ c.loop-done.stats.turns + 1 = ap (λ (s : Stats). s.turns) did.counted in
+    let more : c.do_turn.new.self.stats.turns ≡ c.loop-done.drive.stats.turns + 1 = ap (λ (s : Stats). s.turns) did.counted in
     record {
       at = watched-more (g.P.Port.gives (c.args.core.now.setting.limits.datagram + 1)) g.P.Port.takes g.W.Watch.sees g.P.Port.clock g.P.Port.failures _ _ _ _ _ _ _ _ _ i.at _ _ _ _ _ watched;
       counted = omega (arith, more, i.counted);
