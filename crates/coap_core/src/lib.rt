@@ -34,7 +34,7 @@ mod ticks;
 mod timing;
 
 pub use coap_endpoint::{Endpoint, Ip};
-pub use coap_message::{Code, Datagram, OutOfMemory};
+pub use coap_message::{Code, Datagram, Moment, OutOfMemory};
 pub use coap_model::{
     ClientCounts, Counts, Limit, LimitError, LimitValues, Limits, Outcome, Report, Storing,
 };

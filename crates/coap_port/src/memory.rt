@@ -6,7 +6,7 @@ ghost use Rattle.coap_port.specs.Memory as spec;
 use crate::error::PortFault;
 use crate::port::{Port, Turn};
 use coap_endpoint::Endpoint;
-use coap_message::{Datagram, LAST_MOMENT, MOST_JITTER, OutOfMemory, Seq};
+use coap_message::{Datagram, LAST_MOMENT, MOST_JITTER, Moment, OutOfMemory, Seq};
 use std::alloc::Global;
 use std::collections::VecDeque;
 use std::marker::Model;
@@ -15,7 +15,7 @@ use std::marker::Model;
 #[derive(Drop)]
 pub struct Scripted {
     /// In milliseconds.
-    pub now: u64,
+    pub now: Moment,
     /// A random number of milliseconds.
     pub draw: u16,
     pub datagram: Option<(Endpoint, Seq<u8>)>,
@@ -38,7 +38,7 @@ pub struct MemoryPort {
     script: VecDeque<Scripted>,
     handed: Seq<Handed>,
     refused: Option<usize>,
-    last: u64,
+    last: Moment,
     failures: u64,
 }
 
@@ -108,7 +108,7 @@ impl MemoryPort {
 
 /// The turn for an entry of a script, if `last` is the last moment. Its datagram is put into the
 /// buffer, which is empty.
-fn turn_of(scripted: Scripted, last: u64, into: &mut Datagram) -> Turn
+fn turn_of(scripted: Scripted, last: Moment, into: &mut Datagram) -> Turn
     requires { into.old.bytes ≡ [] }
     ensures turn { given_by result into.new.bytes ≡ spec.turn_of into.old.room last scripted }
     ensures room { into.new.room ≡ into.old.room }
@@ -136,7 +136,7 @@ impl Port for MemoryPort {
 
     ghost takes = { Takes };
 
-    fn last(&self) -> u64 {
+    fn last(&self) -> Moment {
         self.last
     }
 

@@ -1,14 +1,14 @@
 //! Ports.
 use crate::error::PortFault;
 use coap_endpoint::Endpoint;
-use coap_message::Datagram;
+use coap_message::{Datagram, Moment};
 
 /// What a port gives: a moment, a draw, and the source of the datagram that it put into the buffer;
 /// no source for a tick.
 #[derive(Clone, Copy, Debug, PartialEq, Eq)]
 pub struct Turn {
     /// In milliseconds.
-    pub now: u64,
+    pub now: Moment,
     /// A random number of milliseconds.
     pub draw: u16,
     pub from: Option<Endpoint>,
@@ -37,7 +37,7 @@ pub trait Port {
     ghost takes: { Self → Endpoint → List ℕ → Bool → Self → Type 0 };
 
     /// The last moment that it gave, in milliseconds, or 0 before the first.
-    fn last(&self) -> u64
+    fn last(&self) -> Moment
         ensures { result ≡ clock self.now };
 
     /// The next turn: a datagram if one comes within `wait` milliseconds, or else a tick. Without a

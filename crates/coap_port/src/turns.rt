@@ -8,7 +8,7 @@ use crate::port::Port;
 use crate::stats::Stats;
 use coap_core::Core;
 use coap_endpoint::Endpoint;
-use coap_message::{Datagram, OutOfMemory};
+use coap_message::{Datagram, Moment, OutOfMemory};
 use coap_store::Store;
 use coap_watch::{Seen, Watch};
 use std::alloc::Global;
@@ -18,7 +18,7 @@ const LONGEST_WAIT: u64 = 1000;
 
 /// How many milliseconds a port is asked to wait after the moment `last`, if the next item is due
 /// at the moment `due`.
-fn wait_for(came: bool, last: u64, due: Option<u64>) -> u64
+fn wait_for(came: bool, last: Moment, due: Option<Moment>) -> u64
     ensures { result ≡ spec.wait_for came last due }
 {
     match due {

@@ -8,7 +8,7 @@ ghost use Rattle.coap_record.specs.Recorder as spec;
 use crate::turns::{put_turn, size_of};
 use coap_endpoint::Endpoint;
 use coap_lines::Output;
-use coap_message::{Datagram, OutOfMemory};
+use coap_message::{Datagram, Moment, OutOfMemory};
 use coap_port::{Port, PortFault, Turn};
 use std::alloc::Global;
 use std::io::Write;
@@ -179,7 +179,7 @@ impl<P: Port, W: Write> Port for Recording<P, W> {
 
     ghost takes = { Takes P.takes P.clock };
 
-    fn last(&self) -> u64 {
+    fn last(&self) -> Moment {
         self.port.last()
     }
 

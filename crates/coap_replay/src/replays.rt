@@ -11,7 +11,7 @@ use crate::buffers::Buffers;
 use crate::error::ReplayError;
 use coap_core::{Core, Report};
 use coap_lines::{Input, Next, Output, Turn, is_skipped, put_line, read_turn};
-use coap_message::Datagram;
+use coap_message::{Datagram, Moment};
 use coap_store::Store;
 use coap_watch::{Seen, Unwatched, Watch};
 use std::alloc::Global;
@@ -40,7 +40,7 @@ fn next_asked<R: BufRead>(
     input: &mut Input<R>,
     buffers: &mut Buffers,
     number: u64,
-    last: u64,
+    last: Moment,
     events: u64,
 ) -> Result<Asked, ReplayError>
     requires line { 16385 ≤ vec_capacity buffers.old.line }
@@ -76,7 +76,7 @@ fn next_asked<R: BufRead>(
 
 /// Overwrites a buffer with the line of the datagram that was sent, or empties it if none was sent.
 /// There is enough room.
-fn line_for(text: &mut Vec<u8>, now: u64, report: Report, out: &Datagram)
+fn line_for(text: &mut Vec<u8>, now: Moment, report: Report, out: &Datagram)
     requires { longest_line (length out.now.bytes) ≤ vec_capacity text.old }
     ensures line { text.new.items ≡ line_for now report.send out.now.bytes }
     ensures room { vec_capacity text.old ≤ vec_capacity text.new }

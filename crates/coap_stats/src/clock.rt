@@ -2,9 +2,11 @@
 ghost use Rattle.std.specs.Prelude.{◌≡◌, ◌+◌, ◌*◌, ◌/◌, ◌<◌, ◌≤◌, ◌^◌};
 ghost use Rattle.coap_stats.specs.Clock as spec;
 
+use coap_message::Moment;
+
 /// The end of the period in which a moment is: the first multiple of the length after it, in
 /// milliseconds.
-pub fn period_end(now: u64, length: u64) -> u64
+pub fn period_end(now: Moment, length: u64) -> Moment
     requires length { 0 < length }
     requires fits { now + length < 2 ^ 64 }
     ensures multiple { result ≡ (now / length + 1) * length }
@@ -36,7 +38,7 @@ const MANY_TURNS: u64 = 10_000;
 #[derive(Clone, Copy, Debug, PartialEq, Eq)]
 pub struct StandingClock {
     /// The moment of the last turn, in milliseconds.
-    pub last: u64,
+    pub last: Moment,
     /// How many turns there were at that moment, up to 10,000.
     pub turns: u64,
 }
@@ -51,7 +53,7 @@ impl StandingClock {
 
     /// Notes the moment of a turn. Returns whether that is the 10,000th in a row at one moment,
     /// which is so once while the clock stands still.
-    pub fn stops(&mut self, now: u64) -> bool
+    pub fn stops(&mut self, now: Moment) -> bool
         ensures stopped { result ≡ spec.stops now self.old }
         ensures noted { self.new ≡ spec.with_turn now self.old }
     {

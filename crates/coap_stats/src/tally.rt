@@ -5,7 +5,7 @@ ghost use Rattle.coap_stats.specs.Tally as spec;
 ghost use Rattle.coap_watch.specs.Told.{told};
 
 use coap_core::{Core, Event, Outcome, Storing};
-use coap_message::Code;
+use coap_message::{Code, Moment};
 use coap_store::Store;
 use coap_watch::{Seen, Watch};
 
@@ -64,7 +64,7 @@ pub struct AnswerCounts {
 #[derive(Clone, Copy, Debug, PartialEq, Eq)]
 pub struct Tally {
     /// The moment of the last turn, in milliseconds, or 0 before the first.
-    pub last: u64,
+    pub last: Moment,
     /// Datagrams that came.
     pub received: u64,
     /// Datagrams that were sent, and taken.

@@ -11,7 +11,7 @@ use crate::host::Host;
 use crate::system::System;
 use crate::values::{draw_of, moment_after, read_waits, rest_of, silent_after, turn_of_read};
 use coap_endpoint::{Endpoint, Ip};
-use coap_message::Datagram;
+use coap_message::{Datagram, Moment};
 use coap_port::{Port, PortFault, Turn};
 use std::alloc::Global;
 use std::io;
@@ -40,7 +40,7 @@ pub struct UdpPort<S> {
     waiting: bool,
     is_ipv6: bool,
     silent: u64,
-    last: u64,
+    last: Moment,
     failures: u64,
 }
 
@@ -196,7 +196,7 @@ impl<S: System + Drop> Port for UdpPort<S> {
 
     ghost takes = { Takes S.sets S.sends };
 
-    fn last(&self) -> u64 {
+    fn last(&self) -> Moment {
         self.last
     }
 

@@ -4,7 +4,7 @@ ghost use Rattle.coap_udp.specs.Values as spec;
 
 use crate::failing::passes;
 use coap_endpoint::Endpoint;
-use coap_message::{LAST_MOMENT, MOST_JITTER};
+use coap_message::{LAST_MOMENT, MOST_JITTER, Moment};
 use coap_port::PortFault;
 use std::io;
 use std::time::Instant;
@@ -38,7 +38,7 @@ pub(crate) fn millis_between(start: Instant, now: Instant) -> u64
 }
 
 /// The moment after `last`, given what the clock shows, if it can be read.
-pub(crate) fn moment_after(last: u64, shown: Option<u64>) -> u64
+pub(crate) fn moment_after(last: Moment, shown: Option<Moment>) -> Moment
     requires { last ≤ 2 ^ 62 }
     ensures exact { result ≡ spec.moment_after last shown }
     ensures onward { last ≤ result }

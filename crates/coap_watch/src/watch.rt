@@ -9,13 +9,14 @@ ghost use Rattle.coap_watch.specs.Told.{told};
 use crate::laws;
 use coap_core::{Core, Event, Report};
 use coap_endpoint::Endpoint;
+use coap_message::Moment;
 use coap_store::Store;
 
 /// A turn that was done, or was lost: what it was, and what was done in it.
 #[derive(Clone, Copy)]
 pub struct Seen<'a> {
     /// Its moment, in milliseconds.
-    pub now: u64,
+    pub now: Moment,
     /// Its random number of milliseconds.
     pub draw: u16,
     /// What happened: a datagram with its source, or a tick.
@@ -42,7 +43,7 @@ fn event_of(from: Option<Endpoint>, bytes: &[u8]) -> Event<'_>
 impl<'a> Seen<'a> {
     /// A turn whose step wasn't done, as a lost one is told: its moment and its draw, in
     /// milliseconds, and the bytes that came from a source, or a tick if there is none.
-    pub fn begun(now: u64, draw: u16, from: Option<Endpoint>, bytes: &'a [u8]) -> Seen<'a>
+    pub fn begun(now: Moment, draw: u16, from: Option<Endpoint>, bytes: &'a [u8]) -> Seen<'a>
         ensures now { result.now ≡ now }
         ensures draw { result.draw ≡ draw }
         ensures event { seen result.event ≡ event_given from bytes.entry.now }

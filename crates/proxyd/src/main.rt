@@ -116,12 +116,7 @@ fn recording<'a>(rt: &'a HostRuntime, path: &str, start: Start) -> Result<Record
 }
 
 /// Serves a port, and records its turns.
-fn record<P: Port + Drop>(
-    rt: &HostRuntime,
-    plan: Plan,
-    drawn: Start,
-    port: P,
-) -> Result<(), Fault>
+fn record<P: Port + Drop>(rt: &HostRuntime, plan: Plan, drawn: Start, port: P) -> Result<(), Fault>
     requires failures { P.failures port < 2 ^ 63 }
 {
     let start = Start {
@@ -139,12 +134,7 @@ fn record<P: Port + Drop>(
 }
 
 /// Serves a port. If counts are asked for, writes them meanwhile and at the end.
-fn serve<P: Port>(
-    rt: &HostRuntime,
-    plan: Plan,
-    start: Start,
-    port: &mut P,
-) -> Result<(), Fault>
+fn serve<P: Port>(rt: &HostRuntime, plan: Plan, start: Start, port: &mut P) -> Result<(), Fault>
     requires failures { P.failures port.old < 2 ^ 63 }
 {
     let seed = seed(rt)?;
@@ -172,8 +162,11 @@ fn explain(rt: &HostRuntime, plan: Plan) -> Result<(), Fault> {
     let Plan { limits, routes, .. } = self::plan(rt)?;
     let mut explainer = Explainer::new(alloc, limits, routes, io::writer(rt));
     let (input, mut output) = (rt.reader(), Output::new(io::writer(rt)));
-    Server::<Cache>::new(alloc, seed, plan)
-        .serve_events_watched(input, &mut output, &mut explainer)?;
+    Server::<Cache>::new(alloc, seed, plan).serve_events_watched(
+        input,
+        &mut output,
+        &mut explainer,
+    )?;
     if explainer.failed() {
         return Err(Fault::File);
     }

@@ -3,7 +3,7 @@ ghost use Rattle.std.specs.Prelude.{◌≡◌, ◌<◌, ◌≤◌, IfOk, IfSome}
 ghost use Rattle.coap_stats.specs.Clock.{period_of};
 
 use coap_core::{Core, Counts, LimitValues};
-use coap_message::{LAST_MOMENT, OutOfMemory};
+use coap_message::{LAST_MOMENT, Moment, OutOfMemory};
 use coap_proxyd::{Fault, Plan, Seen, Watch};
 use coap_stats::{StandingClock, Tally, period_end, period_of, put_line, put_metrics};
 use coap_store::Store;
@@ -120,7 +120,7 @@ impl<'a> Reporter<'a> {
     }
 
     /// Says once that the clock stands still.
-    fn note_clock(&mut self, now: u64)
+    fn note_clock(&mut self, now: Moment)
         ensures { self.new.tally ≡ self.old.tally }
     {
         if self.clock.stops(now) {

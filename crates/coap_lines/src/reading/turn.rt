@@ -8,14 +8,14 @@ use crate::reading::datagram::read_bytes;
 use crate::reading::endpoint::read_endpoint;
 use crate::reading::number::read_number;
 use coap_endpoint::Endpoint;
-use coap_message::{Datagram, LAST_MOMENT, MOST_JITTER};
+use coap_message::{Datagram, LAST_MOMENT, MOST_JITTER, Moment};
 
 /// What a line gives: a moment, a draw, and the source of the datagram that was put into the
 /// buffer; no source for a tick.
 #[derive(Clone, Copy, Debug, PartialEq, Eq)]
 pub struct Turn {
     /// In milliseconds, at most 2^62.
-    pub now: u64,
+    pub now: Moment,
     /// In milliseconds, at most 1,000.
     pub draw: u16,
     pub from: Option<Endpoint>,
@@ -58,7 +58,7 @@ fn read_event(text: &[u8], into: &mut Datagram) -> Option<Option<Endpoint>>
 /// line is long, so that this doesn't allocate. If the line encodes no such turn, there is no
 /// result, and what the buffer holds isn't specified.
 #[tactic(auto, unfolding(crate::specs::Turns::turn_of))]
-pub fn read_turn(line: &[u8], last: u64, into: &mut Datagram) -> Option<Turn>
+pub fn read_turn(line: &[u8], last: Moment, into: &mut Datagram) -> Option<Turn>
     requires { length line.now / 2 ≤ into.old.room }
     ensures read { Finds turn_seen (turn_of last line.now) result into.new.bytes }
     ensures room { into.new.room ≡ into.old.room }

@@ -8,7 +8,7 @@ use crate::writing::datagram::put_bytes;
 use crate::writing::endpoint::put_endpoint;
 use crate::writing::number::put_number;
 use coap_endpoint::Endpoint;
-use coap_message::OutOfMemory;
+use coap_message::{Moment, OutOfMemory};
 use std::alloc::Global;
 
 /// An empty buffer with room for the line of a datagram of `datagram` bytes.
@@ -30,7 +30,7 @@ pub fn line_buffer(alloc: Global, datagram: usize) -> Result<Vec<u8>, OutOfMemor
 ///
 /// The buffer has room for it, as one from `line_buffer` has, so that this doesn't allocate.
 #[tactic(auto, unfolding(crate::specs::Lines::line_of))]
-pub fn put_line(out: &mut Vec<u8>, now: u64, to: Endpoint, bytes: &[u8])
+pub fn put_line(out: &mut Vec<u8>, now: Moment, to: Endpoint, bytes: &[u8])
     requires { HasRoom out.old (longest_line (length bytes.now)) }
     ensures line { out.new.items ≡ out.old.items ++ line_of now to bytes.now }
     ensures room { vec_capacity out.old ≤ vec_capacity out.new }

@@ -11,9 +11,10 @@ use crate::writing::datagram::put_bytes;
 use crate::writing::endpoint::put_endpoint;
 use crate::writing::number::put_number;
 use coap_endpoint::Endpoint;
+use coap_message::Moment;
 
 /// Adds the moment and the draw, each with the space after it.
-fn put_moment(out: &mut Vec<u8>, now: u64, draw: u16)
+fn put_moment(out: &mut Vec<u8>, now: Moment, draw: u16)
     requires { HasRoom out.old 27 }
     ensures { Adds out.old out.new (decimal now ++ codes " " ++ decimal draw ++ codes " ") 27 }
 {
@@ -29,7 +30,7 @@ fn put_moment(out: &mut Vec<u8>, now: u64, draw: u16)
 ///
 /// The buffer has room for it, so that this doesn't allocate.
 #[tactic(auto, unfolding(crate::specs::Turns::turn_text))]
-pub fn put_arrival(out: &mut Vec<u8>, now: u64, draw: u16, from: Endpoint, bytes: &[u8])
+pub fn put_arrival(out: &mut Vec<u8>, now: Moment, draw: u16, from: Endpoint, bytes: &[u8])
     requires { HasRoom out.old (longest_turn (length bytes.now)) }
     ensures line { Adds out.old out.new (turn_line (turn_at now draw (arrival from bytes.now)))
         (longest_turn (length bytes.now)) }
@@ -48,7 +49,7 @@ pub fn put_arrival(out: &mut Vec<u8>, now: u64, draw: u16, from: Endpoint, bytes
 ///
 /// The buffer has room for it, so that this doesn't allocate.
 #[tactic(auto, unfolding(crate::specs::Turns::turn_text))]
-pub fn put_tick(out: &mut Vec<u8>, now: u64, draw: u16)
+pub fn put_tick(out: &mut Vec<u8>, now: Moment, draw: u16)
     requires { HasRoom out.old (longest_turn 0) }
     ensures { Adds out.old out.new (turn_line (turn_at now draw tick)) (longest_turn 0) }
 {
