@@ -162,11 +162,8 @@ fn explain(rt: &HostRuntime, plan: Plan) -> Result<(), Fault> {
     let Plan { limits, routes, .. } = self::plan(rt)?;
     let mut explainer = Explainer::new(alloc, limits, routes, io::writer(rt));
     let (input, mut output) = (rt.reader(), Output::new(io::writer(rt)));
-    Server::<Cache>::new(alloc, seed, plan).serve_events_watched(
-        input,
-        &mut output,
-        &mut explainer,
-    )?;
+    let server = Server::<Cache>::new(alloc, seed, plan);
+    server.serve_events_watched(input, &mut output, &mut explainer)?;
     if explainer.failed() {
         return Err(Fault::File);
     }
