@@ -260,7 +260,7 @@ impl<S: Store + Drop> State<S> {
     /// Writes to `out` what the client is sent for a usable response that is stored for the key.
     ///
     /// # Errors
-    /// What is stored instead, if none is.
+    /// If no usable response is stored: what is stored.
     fn put_usable(
         &self,
         arrival: Arrival<'_, '_>,
@@ -325,7 +325,7 @@ impl<S: Store + Drop> State<S> {
         }
     }
 
-    /// Joins the exchange numbered `number`, if there is room for the client.
+    /// Joins the exchange numbered `exchange`, if there is room for the client.
     fn on_joinable(
         &mut self,
         arrival: Arrival<'_, '_>,
@@ -644,7 +644,7 @@ impl<S: Store + Drop> State<S> {
         done
     }
 
-    /// Has the client wait for the exchange numbered `number`.
+    /// Has the client wait for the exchange numbered `exchange`.
     fn join(
         &mut self,
         arrival: Arrival<'_, '_>,

@@ -13,8 +13,8 @@ taken Open line = line
 taken Last line = line
 
 -- A piece of at most `most` bytes was taken of what a reader had left, and added to what was held.
--- A line feed is taken with fewer bytes; a piece without one has a byte, unless none was wanted;
--- and the last one is empty.
+-- Before a line feed that is taken stand fewer than `most` bytes; a piece without one has a byte,
+-- unless none was wanted; and the last one is empty.
 pub record IsPiece (most : ℕ) (input left : Option (List ℕ)) (old new : Vec ℕ) (piece : Piece) :
     Type 0 where
   pub bytes : List ℕ

@@ -26,8 +26,8 @@ use std::alloc::Global;
 ///
 /// # How many turns
 /// Every call ends, since every function is proved to return. So a program gets control back after
-/// `turns` turns, and may call again for more. A server that is to run for ever takes `1 << 63`, the
-/// most that a new core can handle: at a million turns a second they take 292,000 years.
+/// `turns` turns, and may call again for more. A server that is to run for ever takes `1 << 63`,
+/// the most that a new core can handle: at a million turns a second they take 292,000 years.
 pub fn drive<P: Port, S: Store + Drop>(
     alloc: Global,
     core: &mut Core<S>,

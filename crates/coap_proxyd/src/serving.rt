@@ -25,16 +25,18 @@ fn turns_of(plan: &Plan) -> u64
     plan.turns.unwrap_or(MOST_TURNS).min(MOST_TURNS)
 }
 
-/// What the program serves with: where it has its memory from, what its store is made from, and
-/// what it is to do.
+/// What the program serves with. It serves once: each way to serve takes the server.
 pub struct Server<S: Store> {
+    /// Where the memory of the core and of its buffers comes from.
     alloc: Global,
+    /// What the store is made from.
     seed: S::Seed,
+    /// What is asked for.
     plan: Plan,
 }
 
 impl<S: Store + Drop> Server<S> {
-    /// A server that does this plan, with a store that is made from this seed.
+    /// A server that carries out this plan, with a store that is made from this seed.
     pub fn new(alloc: Global, seed: S::Seed, plan: Plan) -> Server<S>
         ensures { result.plan ≡ plan }
     {
@@ -53,12 +55,12 @@ impl<S: Store + Drop> Server<S> {
     }
 
     /// Replays the events of an input with a new core, for the number of turns in the plan, or else
-    /// for the greatest number, and writes the datagrams that are sent. Message ids begin with 1
+    /// for the greatest number, and writes the datagrams that are sent. Message IDs begin with 1
     /// and the salt is 0, unless the plan has others.
     ///
     /// # Errors
-    /// `OutOfMemory` if there was no memory for the core or for the buffer of the input, and nothing
-    /// is written then; otherwise the fault of the replay.
+    /// `OutOfMemory` if there was no memory for the core or for the buffer of the input, and
+    /// nothing was written; otherwise the fault of the replay.
     pub fn serve_events<R: Read + Drop, W: Write>(
         self,
         input: R,

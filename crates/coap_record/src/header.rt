@@ -15,7 +15,7 @@ use coap_uri::first_part;
 use itoa::{Buffer, Integer};
 use std::alloc::{AllocError, Global};
 
-/// How a run was started: the first Message ID, and the salt of tokens.
+/// How a run starts: the first Message ID, and the salt of tokens.
 #[derive(Clone, Copy, Debug, PartialEq, Eq)]
 pub struct Start {
     pub first_id: u16,
@@ -24,7 +24,7 @@ pub struct Start {
 }
 
 impl Start {
-    /// Does nothing: the numbers are those of 64 bits.
+    /// Does nothing: both numbers are below 2^64.
     fn laws(self)
         ensures id { self.first_id < 2 ^ 64 }
         ensures salt { self.salt < 2 ^ 64 }

@@ -23,6 +23,15 @@ const LAST_LINE: u64 = 1 << 62;
 /// The most events that a core handles: 2^63.
 const MOST_EVENTS: u64 = 1 << 63;
 
+/// What a replay may use.
+#[derive(Clone, Copy)]
+pub struct Budget {
+    /// Where the memory of its buffers comes from.
+    pub alloc: Global,
+    /// The most events that are done.
+    pub turns: u64,
+}
+
 /// What comes next in an input.
 #[derive(Clone, Copy)]
 pub(crate) enum Asked {
@@ -89,7 +98,7 @@ fn line_for(text: &mut Vec<u8>, now: Moment, report: Report, out: &Datagram)
 
 /// A turn, and the number of the line that it was read from.
 #[derive(Clone, Copy)]
-struct Numbered {
+struct NumberedTurn {
     turn: Turn,
     number: u64,
 }
@@ -100,7 +109,7 @@ fn do_turn<W: Write, S: Store + Drop, V: Watch>(
     output: &mut Output<W>,
     core: &mut Core<S>,
     watcher: &mut V,
-    line: Numbered,
+    line: NumberedTurn,
     buffers: &mut Buffers,
 ) -> Result<(), ReplayError>
     requires may { MayBeDone core.old.last core.old.events
@@ -114,7 +123,7 @@ fn do_turn<W: Write, S: Store + Drop, V: Watch>(
         (turn_seen line.turn buffers.old.input.bytes) result }
     ensures room { HaveRoom core.new.setting.limits.datagram buffers.new }
 {
-    let Numbered { turn, number } = line;
+    let NumberedTurn { turn, number } = line;
     let seen = Seen::begun(turn.now, turn.draw, turn.from, buffers.input.bytes());
     let Ok(report) = core.step(turn.now, turn.draw, seen.event, &mut buffers.output) else {
         return Err(ReplayError::OutOfMemory { line: number });
@@ -158,13 +167,6 @@ pub fn replay_turns<R: BufRead, W: Write, S: Store + Drop>(
     replay_watched(budget, input, output, core, &mut Unwatched)
 }
 
-/// What a replay may use: memory of this allocator, and at most so many turns.
-#[derive(Clone, Copy)]
-pub struct Budget {
-    pub alloc: Global,
-    pub turns: u64,
-}
-
 /// Does the same as `replay_turns`, within this budget, and tells a watcher each turn that was
 /// done, before the line of what it sends is written.
 ///
@@ -200,7 +202,7 @@ pub fn replay_watched<R: BufRead, W: Write, S: Store + Drop, V: Watch>(
             Asked::End => return Ok(count),
             Asked::Skip => {}
             Asked::Do(turn) => {
-                let line = Numbered { turn, number };
+                let line = NumberedTurn { turn, number };
                 do_turn(output, core, watcher, line, &mut buffers)?;
                 count += 1;
                 if count == turns {

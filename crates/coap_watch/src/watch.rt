@@ -41,8 +41,9 @@ fn event_of(from: Option<Endpoint>, bytes: &[u8]) -> Event<'_>
 }
 
 impl<'a> Seen<'a> {
-    /// A turn whose step wasn't done, as a lost one is told: its moment and its draw, in
-    /// milliseconds, and the bytes that came from a source, or a tick if there is none.
+    /// A turn that has begun: its moment and its draw, in milliseconds, and the bytes that came from
+    /// a source, or a tick if there is none. Its step isn't done yet: told like this, it is a lost
+    /// one.
     pub fn begun(now: Moment, draw: u16, from: Option<Endpoint>, bytes: &'a [u8]) -> Seen<'a>
         ensures now { result.now ≡ now }
         ensures draw { result.draw ≡ draw }

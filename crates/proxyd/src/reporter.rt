@@ -28,7 +28,7 @@ pub(crate) struct Reporter<'a> {
     /// The length of a period, in milliseconds.
     period: u64,
     /// The moment from which on the next report is due.
-    due: u64,
+    due: Moment,
     /// Whether lines are asked for.
     lines: bool,
     file: Option<StatsFile>,

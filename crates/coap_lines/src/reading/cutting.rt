@@ -1,4 +1,4 @@
-//! Splitting a text at a byte.
+//! Splitting a text at a byte, and how much of a line is at hand.
 ghost use Rattle.std.specs.Prelude.{◌≡◌, ◌≤◌, ◌<◌, ◌+◌, ◌++◌, ◌∷◌, [], false, true, take, length, IfSome};
 ghost use Rattle.coap_lines.specs.Texts.{cut, has, parts_seen};
 
