@@ -107,17 +107,6 @@ impl CacheQuery {
         Ok(query)
     }
 
-    /// Copies of the key and the tags, with no spare capacity.
-    ///
-    /// # Errors
-    /// Out of memory.
-    pub(crate) fn copied(&self) -> Result<(CacheKey, Pieces), OutOfMemory>
-        ensures key { IfOk result (λ copy. copy.0 ≡ self.now.key) }
-        ensures tags { IfOk result (λ copy. copy.1 ≡ self.now.tags) }
-    {
-        Ok((self.key.copied()?, self.tags.clone()?))
-    }
-
     /// Reads what a request for a target asks for.
     ///
     /// # Errors

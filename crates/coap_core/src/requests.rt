@@ -7,7 +7,6 @@ ghost use Rattle.coap_option.specs.Selection.{tags_of};
 ghost use Rattle.coap_endpoint.specs.Target.{IsTarget};
 ghost use Rattle.coap_target.specs.declared.error.TargetError.TheVariants as errors;
 ghost use Rattle.coap_target.specs.Request.{request_target};
-ghost use Rattle.coap_exchange.specs.Digests.{digests_of};
 ghost use Rattle.coap_forward.specs.Forms.{form_fits, forwarded};
 ghost use Rattle.coap_forward.specs.Messages.{is_get, is_method};
 ghost use Rattle.coap_model.specs.Verdicts.{verdict_of};
@@ -27,7 +26,7 @@ use crate::known::{put_acceptance, reply_kind};
 use crate::request_target::{CacheQuery, RequestTarget};
 use crate::state::{State, silent};
 use coap_endpoint::{Endpoint, Target};
-use coap_exchange::{Digests, ExchangeNumber, Joining, Opening, digests_of};
+use coap_exchange::{ExchangeNumber, HashedKey, Joining, Opening};
 use coap_forward::{
     Form, put_bare, put_forwarded, put_stored, put_with_max_age, token_of, validating_tag,
 };
@@ -55,32 +54,29 @@ pub(crate) enum Miss {
     Stale,
 }
 
-/// What is known of the key of a request that isn't answered from the store.
-#[derive(Clone, Copy)]
-pub(crate) struct Missed {
-    /// What is stored for it.
+/// The key of a request that isn't answered from the store, and what is stored for it.
+#[derive(Drop)]
+pub(crate) struct Missed<'k> {
     stored: Miss,
-    /// The digests that exchanges are found by.
-    digests: Digests,
+    key: HashedKey<'k>,
 }
 
-impl Missed {
+impl<'k> Missed<'k> {
     /// This is stored for the key, which is hashed here, once for the request.
-    fn of(key: &CacheKey, stored: Miss) -> Missed
-        ensures { result ≡ record { stored = stored; digests = digests_of key.now } }
+    fn new(key: &'k CacheKey, stored: Miss) -> Missed<'k>
+        ensures { result ≡ record { stored = stored; key = key.now } }
     {
         Missed {
             stored,
-            digests: digests_of(key),
+            key: HashedKey::new(key),
         }
     }
 }
 
-/// What an exchange is opened with, beside its request.
+/// What an exchange is opened with, in addition to its request.
 #[derive(Drop)]
-pub(crate) struct NewExchange {
-    key: CacheKey,
-    digests: Digests,
+pub(crate) struct NewExchange<'k> {
+    key: HashedKey<'k>,
     /// The tags of the responses that the client already holds.
     tags: Pieces,
     /// The stored response that the request asks to validate.
@@ -244,7 +240,7 @@ impl<S: Store + Drop> State<S> {
             result out.old out.new self.old self.new }
     {
         if !is_get(arrival.message.code()) {
-            let missed = Missed::of(&asked.key, Miss::Nothing);
+            let missed = Missed::new(&asked.key, Miss::Nothing);
             return self.on_exchange_needed(arrival, asked, missed, out);
         }
         match self.put_usable(arrival, asked, out) {
@@ -253,7 +249,7 @@ impl<S: Store + Drop> State<S> {
                 self.store.touch(&asked.key);
                 Ok(report)
             }
-            Err(stored) => self.on_miss(arrival, asked, Missed::of(&asked.key, stored), out),
+            Err(stored) => self.on_miss(arrival, asked, Missed::new(&asked.key, stored), out),
         }
     }
 
@@ -306,7 +302,7 @@ impl<S: Store + Drop> State<S> {
         &mut self,
         arrival: Arrival<'_, '_>,
         asked: &CacheQuery,
-        missed: Missed,
+        missed: Missed<'_>,
         out: &mut Datagram,
     ) -> Result<Report, OutOfMemory>
         requires can { CanAsk arrival asked.now missed self.old }
@@ -319,7 +315,7 @@ impl<S: Store + Drop> State<S> {
             result out.old out.new self.old self.new }
     {
         let exchanges = self.under_way.exchanges();
-        match exchanges.joinable_as(&asked.key, missed.digests) {
+        match exchanges.joinable_as(&missed.key) {
             Some(exchange) => self.on_joinable(arrival, exchange, asked, out),
             None => self.on_exchange_needed(arrival, asked, missed, out),
         }
@@ -356,7 +352,7 @@ impl<S: Store + Drop> State<S> {
         &mut self,
         arrival: Arrival<'_, '_>,
         asked: &CacheQuery,
-        missed: Missed,
+        missed: Missed<'_>,
         out: &mut Datagram,
     ) -> Result<Report, OutOfMemory>
         requires can { CanAsk arrival asked.now missed self.old }
@@ -379,16 +375,10 @@ impl<S: Store + Drop> State<S> {
         if !self.has_room_to_open(arrival.now, arrival.from) {
             return self.overload(arrival, out);
         }
-        let copy = self.put_validating(arrival.message, asked, missed.stored, out)?;
-        let (key, tags) = asked.copied()?;
-        let digests = missed.digests;
-        let exchange = NewExchange {
-            key,
-            digests,
-            tags,
-            copy,
-        };
-        self.open(arrival, exchange, out)
+        let Missed { stored, key } = missed;
+        let copy = self.put_validating(arrival.message, asked, stored, out)?;
+        let tags = asked.tags.clone()?;
+        self.open(arrival, NewExchange { key, tags, copy }, out)
     }
 
     /// Rewrites the forwarded request, which `out` holds, with the tag of what is stored for the
@@ -586,12 +576,11 @@ impl<S: Store + Drop> State<S> {
     fn open(
         &mut self,
         arrival: Arrival<'_, '_>,
-        exchange: NewExchange,
+        exchange: NewExchange<'_>,
         out: &mut Datagram,
     ) -> Result<Report, OutOfMemory>
         requires reply { CanReplyTo arrival self.old }
         requires tags { exchange.tags ≡ tags_of arrival.message.now }
-        requires digests { exchange.digests ≡ digests_of exchange.key }
         requires copy { exchange.copy
             ≡ copy_of self.old.setting.limits.datagram exchange.key.target arrival.message.now
             (held_for self.old arrival.message.now exchange.key) }
@@ -606,20 +595,14 @@ impl<S: Store + Drop> State<S> {
             ≤ out.old.room }
         ensures { IsDone
             (of_arrival remembers arrival.entry
-            (of_arrival (opening_step self.old) arrival.entry exchange.key))
+            (of_arrival (opening_step self.old) arrival.entry exchange.entry.key))
             result out.old out.new self.old self.new }
     {
-        let NewExchange {
-            key,
-            digests,
-            tags,
-            copy,
-        } = exchange;
+        let NewExchange { key, tags, copy } = exchange;
         let form = Seq::from_slice(self.alloc, out.bytes())?;
         let opening = Opening {
             client: arrival.from,
             key,
-            digests,
             is_get: is_get(arrival.message.code()),
             form,
             copy,

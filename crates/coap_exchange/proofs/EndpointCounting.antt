@@ -161,19 +161,19 @@ queued-few endpoints xs e are = let few = count-length (is_queued_to e) xs in le
 pub sent-few : (endpoints : Endpoints) (xs : List (Numbered Exchange)) (e : Endpoint) → AreCounted xs endpoints → sent_in endpoints e ≤ length xs
 sent-few endpoints xs e are = let few = count-length (is_sent_to e) xs in let s = are.sent e in omega arith
 
--- what is closed for an item leaves the counts of the others
-pub left : (x : Exchange) (o : Option Exchange) (old new : Endpoint → ℕ) (test : Endpoint → Exchange → Bool) (one : Endpoint → ℕ) → o ≡ Some x → ((e : Endpoint) → one e ≡ one_if (test e x)) → ((e : Endpoint) → new e ≡ old e - one e) → ((e : Endpoint) → one_if (passes (test e) o) ≤ old e)
-    → (e : Endpoint) → new e + one_if (passes (test e) o) ≡ old e
-left x o old new test one there same less some e =
-    let at : one_if (passes (test e) o) ≡ one_if (test e x) = ap (λ (p : Option Exchange). one_if (passes (test e) p)) there in
-    let a = same e in
-    let b = less e in
-    let c = some e in
-    omega arith
-
 -- an item is counted
-pub counted-some : (test : Endpoint → Exchange → Bool) (n : ℕ) (t : Table Exchange) (old : Endpoint → ℕ) → IsTable t → ((e : Endpoint) → old e ≡ count (test e) t.items) → (e : Endpoint) → one_if (passes (test e) (item_at n t.items)) ≤ old e
+counted-some : (test : Endpoint → Exchange → Bool) (n : ℕ) (t : Table Exchange) (old : Endpoint → ℕ) → IsTable t → ((e : Endpoint) → old e ≡ count (test e) t.items) → (e : Endpoint) → one_if (passes (test e) (item_at n t.items)) ≤ old e
 counted-some test n t old is are e = let counted = count-without (test e) n 0 t.items is.rising in let was = are e in omega arith
+
+-- what is counted of an item is no longer, once that is taken from the count of its endpoint
+pub uncounted : (n : ℕ) (x : Exchange) (t : Table Exchange) (old new : Endpoint → ℕ) (test : Endpoint → Exchange → Bool) (one : Endpoint → ℕ) → IsTable t → item_at n t.items ≡ Some x → ((e : Endpoint) → old e ≡ count (test e) t.items) → ((e : Endpoint) → one e ≡ one_if (test e x)) → ((e : Endpoint) → new e ≡ old e - one e)
+    → (e : Endpoint) → new e + one_if (passes (test e) (item_at n t.items)) ≡ old e
+uncounted n x t old new test one is there counted same less e =
+    let at : one_if (passes (test e) (item_at n t.items)) ≡ one_if (test e x) = ap (λ (p : Option Exchange). one_if (passes (test e) p)) there in
+    let its = same e in
+    let left = less e in
+    let within = counted-some test n t old is counted e in
+    omega arith
 
 -- the same for all endpoints
 pub at-with-of : (x : Exchange) → (e : Endpoint) → one_if_at true x.key.target.at e ≡ one_if (is_with e x)

@@ -8,13 +8,14 @@ use Rattle.coap_exchange.specs.declared.waiter.WaiterChange.{WaiterChange}
 use Rattle.coap_exchange.specs.declared.waiter.WaiterChange.TheVariants.{Deliver, Fire as fire}
 use Rattle.coap_exchange.specs.declared.waiter.WaiterState.{WaiterState}
 use Rattle.coap_exchange.specs.declared.waiter.WaiterState.TheVariants.{Waiting, Delivering}
+use Rattle.coap_exchange.specs.Ready.{Tables}
 use Rattle.coap_exchange.specs.Table.{Numbered, Table, IsTable, count, item_at, passes}
 use Rattle.coap_exchange.specs.Tally.{AreTallied, AreWaiters}
 use Rattle.coap_exchange.specs.Updates.{updated, updated_at, Allows}
-use Rattle.coap_exchange.specs.Waiters.{changed_by, exchange_of, fired_state, fired_waiter, is_waiting, is_waiting_state, AreShort, CanChange, CanUpdate, HasEnded, IsDue}
+use Rattle.coap_exchange.specs.Waiters.{awaited_by, changed_by, exchange_of, fired_state, fired_waiter, is_waiting, is_waiting_state, AreShort, CanChange, CanUpdate, HasEnded, IsDue}
 use Rattle.coap_exchange.proofs.Counts.{one_if}
-use Rattle.coap_exchange.proofs.Readying.{WaitsAt}
-use Rattle.coap_exchange.proofs.Updating.{moves-updated, updated-at}
+use Rattle.coap_exchange.proofs.Readying.{AreElsewhere, WaitsAt, waiter-elsewhere, waits-its}
+use Rattle.coap_exchange.proofs.Updating.{moves-updated, updated-at, updated-others}
 use Rattle.coap_exchange.proofs.Waiting.{HaveCounted, fireable, short-delivered, short-fired, short-without, tallied-moved}
 
 -- a change leaves the client
@@ -77,3 +78,11 @@ waits-updated at (Some (fire now)) (Some w) waits = go w.state waits
     go : (s : WaiterState) → IfSome (exchange_of s) (λ e. at ≡ Some e) → IfSome (exchange_of (fired_state now s)) (λ e. at ≡ Some e)
     go (Waiting e) h = h
     go (Delivering bytes id timer) h = tt
+
+-- so nobody else's exchange is concerned
+pub updated-elsewhere : (n : ℕ) (change : Option WaiterChange) (t : Tables) (vs : Table Waiter) (at : Option ℕ) → IsTable t.waiters → IsTable vs → vs ≡ record t.waiters { items = updated_at changed_by change n t.waiters.items } → at ≡ awaited_by (item_at n t.waiters.items) → AreElsewhere t (record t { waiters = vs }) at
+updated-elsewhere n change t vs at was is same awaits =
+    let found = item_at n t.waiters.items in
+    let waits : WaitsAt at found = rw awaits (waits-its found) in
+    waiter-elsewhere n t vs at was is (λ q e. rw same (updated-others changed_by n change q t.waiters.items e)) waits
+    (rw (same, updated-at changed_by n change t.waiters.items) (waits-updated at change found waits))

@@ -15,11 +15,19 @@ use std::marker::Model;
 
 /// Counts by endpoint, for at most as many endpoints as its limit. Only `new` allocates. A contract
 /// sees the entries.
-#[derive(Drop)]
 pub(crate) struct EndpointMap {
     slots: Slots,
     /// The numbers of the places, by the digest of the endpoint.
     places: HashedIndex,
+}
+
+impl Drop for EndpointMap {
+    fn drop(self) {
+        let EndpointMap {
+            slots: _,
+            places: _,
+        } = self;
+    }
 }
 
 impl Model for EndpointMap {

@@ -1,14 +1,14 @@
 //! Exchanges: requests on their way to an origin.
-ghost use Rattle.std.specs.Prelude.{◌≡◌, ◌≤◌, ◌^◌};
+ghost use Rattle.std.specs.Prelude.{◌≡◌, ◌≤◌, ◌^◌, IfOk};
 ghost use Rattle.std.specs.Option.{option_copied};
 ghost use Rattle.coap_exchange.specs.Exchanges.{answer_at, changed_by, fire_of_sending, fired_exchange, is_as, is_acked, is_changed_with, is_joinable, is_queued, is_sent, opened, tainted_by, was_sent_as, CanChange, CanFire};
 ghost use Rattle.coap_exchange.specs.Endpoints.{is_queued_to, sends};
 
-use crate::digests::Digests;
+use crate::digests::HashedKey;
 use crate::endpoints::Stage;
 use crate::timer::{Fire, Timer};
 use coap_endpoint::{Endpoint, Target};
-use coap_message::{EXCHANGE_LIFETIME, Moment, Seq, set_id};
+use coap_message::{EXCHANGE_LIFETIME, Moment, OutOfMemory, Seq, set_id};
 use coap_store::{Answer, CacheKey, EventNumber, Stored};
 
 /// The number of an exchange. They count up from 1.
@@ -94,13 +94,11 @@ impl Drop for Exchange {
 }
 
 /// A request that is to be sent, as an exchange is opened with it.
-pub struct Opening {
+pub struct Opening<'k> {
     /// The client that sent it.
     pub client: Endpoint,
-    /// What its response is cached under.
-    pub key: CacheKey,
-    /// The digests of that key.
-    pub digests: Digests,
+    /// What its response is cached under. It is copied.
+    pub key: HashedKey<'k>,
     /// Whether the method is GET.
     pub is_get: bool,
     /// The encoded request that is forwarded, with Message ID 0.
@@ -111,12 +109,11 @@ pub struct Opening {
     pub now: Moment,
 }
 
-impl Drop for Opening {
+impl<'k> Drop for Opening<'k> {
     fn drop(self) {
         let Opening {
             client: _,
             key: _,
-            digests: _,
             is_get: _,
             form: _,
             copy: _,
@@ -125,23 +122,26 @@ impl Drop for Opening {
     }
 }
 
-impl Opening {
+impl Opening<'_> {
     /// The exchange that it opens, whose request is waiting for its turn.
-    pub(crate) fn opened(self) -> Exchange
-        ensures exact { result ≡ opened self }
+    ///
+    /// # Errors
+    /// Out of memory.
+    pub(crate) fn opened(self) -> Result<Exchange, OutOfMemory>
+        ensures exact { IfOk result (λ exchange. exchange ≡ opened self.entry) }
     {
+        let copied = self.key.copied()?;
         let Opening {
             client,
-            key,
-            digests: _,
+            key: _,
             is_get,
             form,
             copy,
             now,
         } = self;
-        Exchange {
+        Ok(Exchange {
             client,
-            key,
+            key: copied,
             is_get,
             form,
             copy,
@@ -149,7 +149,7 @@ impl Opening {
             sending: None,
             tainted: false,
             state: ExchangeState::Queued,
-        }
+        })
     }
 }
 

@@ -7,7 +7,6 @@ ghost use Rattle.coap_endpoint.specs.declared.endpoint.Endpoint.{Endpoint};
 ghost use Rattle.coap_exchange.specs.Answered.{IsFirstGot, IsNextGot};
 ghost use Rattle.coap_exchange.specs.declared.table.AdmitError.TheVariants.{ClientFull, Full};
 ghost use Rattle.coap_exchange.specs.Clients.{count_of, AreWithin};
-ghost use Rattle.coap_exchange.specs.Digests.{digests_of};
 ghost use Rattle.coap_exchange.specs.Due.{due_row, first_due};
 ghost use Rattle.coap_exchange.specs.Exchanges.{acked, answer_in, answered, changed_by, due_among, fire_at, fired_exchange, is_acked, is_done, is_joinable, is_opened_by, is_queued, is_sent, is_sent_to, opened, sent, tainted_by, was_sent_as, AreTimely, CanChange, CanUpdate, IsDue};
 ghost use Rattle.coap_exchange.specs.Index.{keys_at, turn_among, AreIndexed};
@@ -17,7 +16,7 @@ ghost use Rattle.coap_exchange.specs.SendQueue.{IsSendQueue};
 ghost use Rattle.coap_exchange.specs.Updates.{leaver, updated, updated_at, Allows};
 
 use crate::by_client::{count_of, depart, enter};
-use crate::digests::{Digests, digest_of_target, digests_of};
+use crate::digests::{HashedKey, digest_of_target};
 use crate::due::{later, sooner};
 use crate::endpoint_map::EndpointMap;
 use crate::endpoints::{Stage, close_one, counts_of, lowered, move_one, open_one};
@@ -110,14 +109,16 @@ impl Exchanges {
     ) -> Result<Exchanges, OutOfMemory>
         ensures empty { IfOk result (λ exchanges. exchanges ≡ empty_table limit per_client) }
     {
+        let send_queue = SendQueue::new(alloc, limit)?;
+        let endpoints = EndpointMap::new(alloc, limit, seed)?;
+        let clients = EndpointMap::new(alloc, limit, seed)?;
         let table = Table::new(alloc, limit, per_client, seed)?;
         let index = Index::new(alloc, limit, seed)?;
-        let send_queue = SendQueue::new(alloc, limit)?;
         Ok(Exchanges {
             table,
             queued: 0,
-            endpoints: EndpointMap::new(alloc, limit, seed)?,
-            clients: EndpointMap::new(alloc, limit, seed)?,
+            endpoints,
+            clients,
             index,
             send_queue,
         })
@@ -195,16 +196,16 @@ impl Exchanges {
     pub fn joinable(&self, key: &CacheKey) -> Option<ExchangeNumber>
         ensures exact { result ≡ first_that (is_joinable key.now) self.now.items }
     {
-        self.joinable_as(key, digests_of(key))
+        self.joinable_as(&HashedKey::new(key))
     }
 
-    /// That of `joinable`, for a key whose digests are at hand.
-    pub fn joinable_as(&self, key: &CacheKey, digests: Digests) -> Option<ExchangeNumber>
-        requires { digests ≡ digests_of key.now }
+    /// The same, for a key that is hashed already.
+    pub fn joinable_as(&self, key: &HashedKey<'_>) -> Option<ExchangeNumber>
         ensures exact { result ≡ first_that (is_joinable key.now) self.now.items }
     {
-        let sought = Sought::Joinable(key);
-        first_sought(&self.table, &self.index.cache_keys, digests.key, &sought)
+        let sought = Sought::Joinable(key.key());
+        let digest = key.digests().key;
+        first_sought(&self.table, &self.index.cache_keys, digest, &sought)
     }
 
     /// The number of the exchange whose request was sent to the endpoint `at` with Message ID `id`,
@@ -250,21 +251,20 @@ impl Exchanges {
     /// # Errors
     /// `Full` if the table has no room for another exchange; otherwise `ClientFull` if it has none
     /// for another of this client; otherwise `OutOfMemory`. The table is unchanged then.
-    pub fn admit(&mut self, opening: Opening) -> Result<ExchangeNumber, AdmitError>
+    pub fn admit(&mut self, opening: Opening<'_>) -> Result<ExchangeNumber, AdmitError>
         requires numbers { self.old.admitted < 2 ^ 64 - 1 }
         requires now { opening.now ≤ 2 ^ 62 }
-        requires digests { opening.digests ≡ digests_of opening.key }
         ensures number { IfOk result (λ number. number ≡ self.old.admitted + 1) }
-        ensures ok { OnOk result (self.new ≡ admitted_to (opened opening) self.old) }
+        ensures ok { OnOk result (self.new ≡ admitted_to (opened opening.entry) self.old) }
         ensures full { IfErr result (λ error.
             (error ≡ Full) ↔ (length self.old.items ≡ self.old.limit)) }
         ensures client_full { IfErr result (λ error.
             (error ≡ ClientFull)
             ↔ ((length self.old.items < self.old.limit)
-            × (count (is_opened_by opening.client) self.old.items ≡ self.old.per_client))) }
+            × (count (is_opened_by opening.entry.client) self.old.items ≡ self.old.per_client))) }
         ensures room { OnOk result (length self.old.items < self.old.limit) }
         ensures client_room { OnOk result
-            (count (is_opened_by opening.client) self.old.items < self.old.per_client) }
+            (count (is_opened_by opening.entry.client) self.old.items < self.old.per_client) }
         ensures err { OnErr result (self.new ≡ self.old) }
         ensures sound { IsTable self.old }
         ensures within { AreWithin is_opened_by self.old }
@@ -272,11 +272,11 @@ impl Exchanges {
         if self.table.is_full() {
             return Err(AdmitError::Full);
         }
-        let (opener, now, digests) = (Peer::new(opening.client), opening.now, opening.digests);
+        let (opener, now) = (Peer::new(opening.client), opening.now);
         if count_of(&self.clients, opener) == self.table.per_client() {
             return Err(AdmitError::ClientFull);
         }
-        let listed = IndexedExchange::new(opening.opened(), opener, digests);
+        let listed = IndexedExchange::opened(opening, opener)?;
         let at = listed.peer();
         self.send_queue.heads.laws();
         self.endpoints.laws();

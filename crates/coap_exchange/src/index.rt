@@ -15,7 +15,6 @@ use ordered_index::{HashedIndex, OrderedIndex};
 use std::alloc::Global;
 
 /// Numbers of exchanges, by what they are looked up by. Room for all of them is allocated up front.
-#[derive(Drop)]
 pub(crate) struct Index {
     /// By the Message ID that they were sent with.
     pub(crate) ids: HashedIndex,
@@ -32,6 +31,20 @@ pub(crate) struct Index {
     /// By the digest of their target, from when they are sent until they are tainted or their
     /// answer comes.
     pub(crate) targets: HashedIndex,
+}
+
+impl Drop for Index {
+    fn drop(self) {
+        let Index {
+            ids: _,
+            dones: _,
+            openings: _,
+            ends: _,
+            queues: _,
+            cache_keys: _,
+            targets: _,
+        } = self;
+    }
 }
 
 /// What one exchange is looked up by.
@@ -70,6 +83,20 @@ impl Sought<'_> {
     }
 }
 
+/// Two empty indexes with room for `limit` pairs. Which keys meet in them depends on `seed`.
+fn two_indexes(
+    alloc: Global,
+    limit: usize,
+    seed: u64,
+) -> Result<(HashedIndex, HashedIndex), OutOfMemory>
+    ensures first { IfOk result (λ two. two.0 ≡ empty_index limit) }
+    ensures second { IfOk result (λ two. two.1 ≡ empty_index limit) }
+{
+    let first = HashedIndex::new(alloc, limit, seed)?;
+    let second = HashedIndex::new(alloc, limit, seed)?;
+    Ok((first, second))
+}
+
 impl Index {
     /// An empty index with room for `limit` exchanges. Which keys meet in it depends on `seed`.
     ///
@@ -84,14 +111,19 @@ impl Index {
         ensures cache_keys { IfOk result (λ index. index.cache_keys ≡ empty_index limit) }
         ensures targets { IfOk result (λ index. index.targets ≡ empty_index limit) }
     {
+        let dones = OrderedIndex::new(alloc, limit)?;
+        let openings = OrderedIndex::new(alloc, limit)?;
+        let ends = OrderedIndex::new(alloc, limit)?;
+        let (ids, queues) = two_indexes(alloc, limit, seed)?;
+        let (cache_keys, targets) = two_indexes(alloc, limit, seed)?;
         Ok(Index {
-            ids: HashedIndex::new(alloc, limit, seed)?,
-            dones: OrderedIndex::new(alloc, limit)?,
-            openings: OrderedIndex::new(alloc, limit)?,
-            ends: OrderedIndex::new(alloc, limit)?,
-            queues: HashedIndex::new(alloc, limit, seed)?,
-            cache_keys: HashedIndex::new(alloc, limit, seed)?,
-            targets: HashedIndex::new(alloc, limit, seed)?,
+            ids,
+            dones,
+            openings,
+            ends,
+            queues,
+            cache_keys,
+            targets,
         })
     }
 

@@ -1,16 +1,17 @@
 //! Exchanges with the digests that they are looked up by.
-ghost use Rattle.std.specs.Prelude.{◌≡◌};
+ghost use Rattle.std.specs.Prelude.{◌≡◌, IfOk};
 ghost use Rattle.std.specs.Option.{option_copied, option_map};
-ghost use Rattle.coap_exchange.specs.Digests.{digest_of_key, digest_of_target, digests_of};
-ghost use Rattle.coap_exchange.specs.Exchanges.{changed_by, is_queued, is_sent, tainted_by, CanChange};
+ghost use Rattle.coap_exchange.specs.Digests.{digest_of_key, digest_of_target};
+ghost use Rattle.coap_exchange.specs.Exchanges.{changed_by, is_queued, is_sent, opened, tainted_by, CanChange};
 ghost use Rattle.coap_exchange.specs.Table.{item_at, IsTable};
 
 use crate::digests::Digests;
 use crate::endpoints::Stage;
-use crate::exchange::{Change, Exchange, ExchangeNumber};
+use crate::exchange::{Change, Exchange, ExchangeNumber, Opening};
 use crate::peer::Peer;
 use crate::table::Table;
 use coap_endpoint::Target;
+use coap_message::OutOfMemory;
 use std::marker::Model;
 
 /// An exchange, and the digests that it is looked up by, which it is opened with. A contract sees
@@ -39,19 +40,22 @@ impl Model for IndexedExchange {
 }
 
 impl IndexedExchange {
-    /// A new exchange, which this client opened, with the digests of its key.
-    pub(crate) fn new(exchange: Exchange, client: Peer, digests: Digests) -> IndexedExchange
-        requires client { client ≡ exchange.client }
-        requires digests { digests ≡ digests_of exchange.key }
-        ensures exact { result ≡ exchange }
+    /// The exchange that this client opens.
+    ///
+    /// # Errors
+    /// Out of memory.
+    pub(crate) fn opened(opening: Opening<'_>, client: Peer) -> Result<IndexedExchange, OutOfMemory>
+        requires { client ≡ opening.client }
+        ensures exact { IfOk result (λ exchange. exchange ≡ opened opening.entry) }
     {
-        let peer = Peer::new(exchange.key.target.at);
-        IndexedExchange {
-            exchange,
+        let digests = opening.key.digests();
+        let peer = Peer::new(opening.key.key().target.at);
+        Ok(IndexedExchange {
+            exchange: opening.opened()?,
             client,
             peer,
             digests,
-        }
+        })
     }
 
     /// The exchange.

@@ -7,8 +7,7 @@
 //! let mut exchanges = Exchanges::new(alloc, 256, 16)?;
 //! let opening = Opening {
 //!     client,
-//!     digests: digests_of(&key),
-//!     key,
+//!     key: HashedKey::new(&key),
 //!     is_get: true,
 //!     form,
 //!     copy: None,
@@ -51,7 +50,7 @@ mod waiter_index;
 mod waiters;
 
 pub use coap_store::Answer;
-pub use digests::{Digests, digests_of};
+pub use digests::HashedKey;
 pub use exchange::{Exchange, ExchangeNumber, ExchangeState, Opening, Sending};
 pub use exchanges::Exchanges;
 pub use ids::Ids;

@@ -4,7 +4,6 @@ ghost use Rattle.std.specs.Option.{option_copied};
 ghost use Rattle.coap_exchange.specs.declared.exchange.Exchange.{Exchange};
 ghost use Rattle.coap_exchange.specs.declared.waiter.Waiter.{Waiter};
 ghost use Rattle.coap_exchange.specs.declared.table.AdmitError.TheVariants.{ClientFull, Full};
-ghost use Rattle.coap_exchange.specs.Digests.{digests_of};
 ghost use Rattle.coap_exchange.specs.Due.{first_due};
 ghost use Rattle.coap_exchange.specs.Exchanges.{acked, answered, changed_by, fire_at, fired_exchange, is_done, is_opened_by, is_queued, is_sent, opened, sent, tainted_by, CanUpdate, IsDue};
 ghost use Rattle.coap_exchange.specs.Ready.{ready_in};
@@ -125,15 +124,14 @@ impl UnderWay {
     ///
     /// # Errors
     /// Those of `Exchanges::admit`. Nothing is changed then.
-    pub fn open(&mut self, opening: Opening) -> Result<ExchangeNumber, AdmitError>
+    pub fn open(&mut self, opening: Opening<'_>) -> Result<ExchangeNumber, AdmitError>
         requires numbers { self.old.exchanges.admitted < 2 ^ 64 - 1 }
         requires now { opening.now ≤ 2 ^ 62 }
-        requires digests { opening.digests ≡ digests_of opening.key }
         ensures number { IfOk result (λ number. number ≡ self.old.exchanges.admitted + 1) }
         ensures ok { OnOk result
             (self.new
             ≡ record self.old {
-              exchanges = admitted_to (opened opening) self.old.exchanges;
+              exchanges = admitted_to (opened opening.entry) self.old.exchanges;
             }) }
         ensures full { IfErr result (λ error.
             (error ≡ Full)
@@ -141,7 +139,7 @@ impl UnderWay {
         ensures client_full { IfErr result (λ error.
             (error ≡ ClientFull)
             ↔ ((length self.old.exchanges.items < self.old.exchanges.limit)
-            × (count (is_opened_by opening.client) self.old.exchanges.items
+            × (count (is_opened_by opening.entry.client) self.old.exchanges.items
             ≡ self.old.exchanges.per_client))) }
         ensures err { OnErr result (self.new ≡ self.old) }
         ensures sound { IsTable self.old.exchanges }
@@ -268,7 +266,8 @@ impl UnderWay {
         ensures client_full { IfErr result (λ error.
             (error ≡ ClientFull)
             ↔ ((length self.old.waiters.items < self.old.waiters.limit)
-            × (count (is_of joining.client) self.old.waiters.items ≡ self.old.waiters.per_client))) }
+            × (count (is_of joining.client) self.old.waiters.items
+            ≡ self.old.waiters.per_client))) }
         ensures err { OnErr result (self.new ≡ self.old) }
         ensures sound { IsTable self.old.waiters }
     {

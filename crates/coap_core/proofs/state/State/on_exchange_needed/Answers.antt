@@ -21,9 +21,9 @@ pub returns-then-not-has_room_to_open : goal.returns-then-not-has_room_to_open
 returns-then-not-has_room_to_open g c = remembered-as c.args.arrival (turned-away c.requires.can (sym c.put_request.ensures.exact ∙ c.if-is_err.ensures.negation) (sym c.if-not-has_room_to_open.ensures)) c.put_request.ensures.kept c.overload.ensures
 
 pub returns : goal.returns
-returns g c = remembered-as c.args.arrival (opened c.requires.can (sym c.put_request.ensures.exact ∙ c.if-is_err.ensures.negation) (sym c.if-not-has_room_to_open.ensures)) (c.in_ok-copy.ensures.kept ∙ c.put_request.ensures.kept) (rw c.in_ok-key.ensures.key at c.open.ensures)
+returns g c = remembered-as c.args.arrival (opened c.requires.can (sym c.put_request.ensures.exact ∙ c.if-is_err.ensures.negation) (sym c.if-not-has_room_to_open.ensures)) (c.in_ok-copy.ensures.kept ∙ c.put_request.ensures.kept) (rw c.requires.can.hashed at c.open.ensures)
 
 pub open-requires-clause-fits : goal.open-requires-clause-fits
 open-requires-clause-fits g c =
-    rw c.in_ok-key.ensures.key
+    rw c.requires.can.hashed
     (fits-as (opened c.requires.can (sym c.put_request.ensures.exact ∙ c.if-is_err.ensures.negation) (sym c.if-not-has_room_to_open.ensures)) (c.in_ok-copy.ensures.kept ∙ c.put_request.ensures.kept) c.requires.fits)

@@ -48,7 +48,7 @@ pub rekey-requires : goal.rekey-requires
 rekey-requires c =
     let is = c.is_full.ensures.sound in
     let t = c.self.inside.table in
-    let x = c.new-listed.result in
+    let x = c.in_ok-listed.listed in
     let room = room-there t is (sym c.is_full.ensures.exact ∙ c.if-is_full.false) in
     rw (c.keys_in-was.ensures.exact, c.keys_of-is.ensures.exact, c.in-Ok.ensures.number)
     (can-pass-as (t.admitted + 1) t.limit t.items (admitted_to x t).items c.self.inside.index (moves-admitted t x is) c.self.invariant.2 _ _ (item_at-fresh t is) (item_at-last t.admitted (t.admitted + 1) t.items x (omega arith) is.below) (admitted-is t x is room).within)
@@ -59,20 +59,20 @@ head_of-next-requires-clause-indexed c =
     let t = c.self.inside.table in
     let x : Exchange = opened c.args.opening in
     let room = room-there t is (sym c.is_full.ensures.exact ∙ c.if-is_full.false) in
-    let passed = rw (c.keys_in-was.ensures.exact, c.keys_of-is.ensures.exact, c.new-listed.ensures.exact, c.opened.ensures.exact, c.in-Ok.ensures.number) at c.rekey.ensures.exact in
-    rw (c.in-Ok.ensures.ok, c.new-listed.ensures.exact, c.opened.ensures.exact) (have-passed-as (t.admitted + 1) t.limit t.items (admitted_to x t).items c.self.inside.index (moves-admitted t x is) c.self.invariant.2 _ _ (item_at-fresh t is) (item_at-last t.admitted (t.admitted + 1) t.items x (omega arith) is.below) c.rekey.new.self passed (admitted-is t x is room).rising)
+    let passed = rw (c.keys_in-was.ensures.exact, c.keys_of-is.ensures.exact, c.in_ok-listed.ensures.exact, c.in-Ok.ensures.number) at c.rekey.ensures.exact in
+    rw (c.in-Ok.ensures.ok, c.in_ok-listed.ensures.exact) (have-passed-as (t.admitted + 1) t.limit t.items (admitted_to x t).items c.self.inside.index (moves-admitted t x is) c.self.invariant.2 _ _ (item_at-fresh t is) (item_at-last t.admitted (t.admitted + 1) t.items x (omega arith) is.below) c.rekey.new.self passed (admitted-is t x is room).rising)
 
 pub head_of-next-requires-clause-counted : goal.head_of-next-requires-clause-counted
 head_of-next-requires-clause-counted c =
     let t = c.self.inside.table in
-    rw (c.in-Ok.ensures.ok, c.new-listed.ensures.exact, c.opened.ensures.exact) (counted-push t.items c.self.inside.endpoints c.open_one.new.endpoints _ _ refl refl c.self.invariant.1 (rw (c.peer-at.ensures.exact, c.new-listed.ensures.exact, c.opened.ensures.exact) at c.open_one.ensures.all) c.open_one.ensures.sent (rw (c.peer-at.ensures.exact, c.new-listed.ensures.exact, c.opened.ensures.exact) at c.open_one.ensures.queued))
+    rw (c.in-Ok.ensures.ok, c.in_ok-listed.ensures.exact) (counted-push t.items c.self.inside.endpoints c.open_one.new.endpoints _ _ refl refl c.self.invariant.1 (rw (c.peer-at.ensures.exact, c.in_ok-listed.ensures.exact) at c.open_one.ensures.all) c.open_one.ensures.sent (rw (c.peer-at.ensures.exact, c.in_ok-listed.ensures.exact) at c.open_one.ensures.queued))
 
 pub replace-requires-clause-free : goal.replace-requires-clause-free
 replace-requires-clause-free c =
     let is = c.is_full.ensures.sound in
     let t = c.self.inside.table in
     let room = room-there t is (sym c.is_full.ensures.exact ∙ c.if-is_full.false) in
-    rw (c.head_of-head.ensures.exact, c.head_of-next.ensures.exact, c.peer-at.ensures.exact, c.in-Ok.ensures.ok, c.new-listed.ensures.exact, c.opened.ensures.exact)
+    rw (c.head_of-head.ensures.exact, c.head_of-next.ensures.exact, c.peer-at.ensures.exact, c.in-Ok.ensures.ok, c.in_ok-listed.ensures.exact)
     (admitted-free t _ is room c.self.inside.send_queue c.self.invariant.3 (heads-room t c.self.inside.send_queue is room c.self.invariant.3 c.laws.ensures c.self.invariant.6.for_heads))
 
 pub replace-requires-clause-room : goal.replace-requires-clause-room
@@ -91,12 +91,12 @@ invariant_of-self c =
     let room = room-there t is (sym c.is_full.ensures.exact ∙ c.if-is_full.false) in
     let counted = rw c.new-opener.ensures.exact at c.count_of.ensures.exact in
     let own_room : count (is_opened_by c.args.opening.client) t.items < t.per_client = omega (arith, counted, c.per_client.ensures.exact, c.if-count_of-per_client.false, c.self.invariant.4 c.args.opening.client, c.self.invariant.5 c.args.opening.client) in
-    let passed = rw (c.keys_in-was.ensures.exact, c.keys_of-is.ensures.exact, c.new-listed.ensures.exact, c.opened.ensures.exact, c.in-Ok.ensures.number) at c.rekey.ensures.exact in
-    let len = rw (c.head_of-head.ensures.exact, c.head_of-next.ensures.exact, c.peer-at.ensures.exact, c.in-Ok.ensures.ok, c.new-listed.ensures.exact, c.opened.ensures.exact) at c.replace.ensures.length in
-    let replaced = rw (c.head_of-head.ensures.exact, c.head_of-next.ensures.exact, c.peer-at.ensures.exact, c.in-Ok.ensures.ok, c.new-listed.ensures.exact, c.opened.ensures.exact) at c.replace.ensures.replaced in
-    rw (c.in-Ok.ensures.ok, c.new-listed.ensures.exact, c.opened.ensures.exact, c.note.ensures.exact) (
+    let passed = rw (c.keys_in-was.ensures.exact, c.keys_of-is.ensures.exact, c.in_ok-listed.ensures.exact, c.in-Ok.ensures.number) at c.rekey.ensures.exact in
+    let len = rw (c.head_of-head.ensures.exact, c.head_of-next.ensures.exact, c.peer-at.ensures.exact, c.in-Ok.ensures.ok, c.in_ok-listed.ensures.exact) at c.replace.ensures.length in
+    let replaced = rw (c.head_of-head.ensures.exact, c.head_of-next.ensures.exact, c.peer-at.ensures.exact, c.in-Ok.ensures.ok, c.in_ok-listed.ensures.exact) at c.replace.ensures.replaced in
+    rw (c.in-Ok.ensures.ok, c.in_ok-listed.ensures.exact, c.note.ensures.exact) (
       exchanges-push t.items c.self.inside.queued _ refl c.requires.now refl c.self.invariant.0,
-      counted-push t.items c.self.inside.endpoints c.open_one.new.endpoints _ _ refl refl c.self.invariant.1 (rw (c.peer-at.ensures.exact, c.new-listed.ensures.exact, c.opened.ensures.exact) at c.open_one.ensures.all) c.open_one.ensures.sent (rw (c.peer-at.ensures.exact, c.new-listed.ensures.exact, c.opened.ensures.exact) at c.open_one.ensures.queued),
+      counted-push t.items c.self.inside.endpoints c.open_one.new.endpoints _ _ refl refl c.self.invariant.1 (rw (c.peer-at.ensures.exact, c.in_ok-listed.ensures.exact) at c.open_one.ensures.all) c.open_one.ensures.sent (rw (c.peer-at.ensures.exact, c.in_ok-listed.ensures.exact) at c.open_one.ensures.queued),
       have-passed-as (t.admitted + 1) t.limit t.items (admitted_to x t).items c.self.inside.index (moves-admitted t x is) c.self.invariant.2 _ _ (item_at-fresh t is) (item_at-last t.admitted (t.admitted + 1) t.items x (omega arith) is.below) c.rekey.new.self passed (admitted-is t x is room).rising,
       send_queue-more t _ is room c.self.inside.send_queue c.self.invariant.3 (heads-room t c.self.inside.send_queue is room c.self.invariant.3 c.laws.ensures c.self.invariant.6.for_heads) c.replace.new.self c.replace.ensures.limit len replaced,
       of_clients-push (λ (x : Exchange). x.client) t.items c.self.inside.clients c.enter.new.clients (t.admitted + 1) x (rw c.new-opener.ensures.exact at c.enter.ensures.exact) c.self.invariant.4,

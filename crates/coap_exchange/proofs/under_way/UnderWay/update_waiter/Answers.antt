@@ -1,37 +1,29 @@
 use Rattle.std.proofs.Common.{ap}
 use Rattle.coap_exchange.specs.declared.waiter.Waiter.{Waiter}
 use Rattle.coap_exchange.specs.Ready.{Tables}
-use Rattle.coap_exchange.specs.Table.{Table, item_at}
-use Rattle.coap_exchange.specs.Waiters.{changed_by}
-use Rattle.coap_exchange.proofs.Readying.{waiter-elsewhere, waits-its, ready-free, ready-moved, ready-room}
-use Rattle.coap_exchange.proofs.Updating.{updated-at, updated-others}
-use Rattle.coap_exchange.proofs.WaiterUpdating.{waits-updated}
+use Rattle.coap_exchange.specs.Table.{Table}
+use Rattle.coap_exchange.proofs.Readying.{ready-free, ready-moved, ready-room}
+use Rattle.coap_exchange.proofs.WaiterUpdating.{updated-elsewhere}
 use Rattle.coap_exchange.proofs.under_way.UnderWay.update_waiter.Goals as goal
 
 pub replace-requires-clause-free : goal.replace-requires-clause-free
 replace-requires-clause-free c =
-    let n = c.args.number in
-    let waiters = c.self.inside.waiters in
-    let old : Tables = record { exchanges = c.self.inside.exchanges; waiters = waiters } in
+    let old : Tables = record { exchanges = c.self.inside.exchanges; waiters = c.self.inside.waiters } in
     let new : Tables = record { exchanges = c.self.inside.exchanges; waiters = c.update.new.self } in
-    let stays = waiter-elsewhere n old c.update.new.self c.awaited-exchange.result c.ready_in-was.ensures.sound c.ready_in-is.ensures.sound (λ q e. rw c.update.ensures (updated-others changed_by n c.args.change q waiters.items e)) (rw c.awaited-exchange.ensures.exact (waits-its (item_at n waiters.items))) (rw (c.update.ensures, updated-at changed_by n c.args.change waiters.items) (waits-updated c.awaited-exchange.result c.args.change (item_at n waiters.items) (rw c.awaited-exchange.ensures.exact (waits-its (item_at n waiters.items))))) in
+    let stays = updated-elsewhere c.args.number c.args.change old c.update.new.self c.awaited-exchange.result c.ready_in-was.ensures.sound c.ready_in-is.ensures.sound c.update.ensures c.awaited-exchange.ensures.exact in
     rw (c.ready_in-was.ensures.exact, c.ready_in-is.ensures.exact) (ready-free old new c.ready_in-was.ensures.sound c.ready_in-is.ensures.sound c.awaited-exchange.result stays c.self.inside.ready c.self.invariant)
 
 pub replace-requires-clause-room : goal.replace-requires-clause-room
 replace-requires-clause-room c =
-    let n = c.args.number in
-    let waiters = c.self.inside.waiters in
-    let old : Tables = record { exchanges = c.self.inside.exchanges; waiters = waiters } in
+    let old : Tables = record { exchanges = c.self.inside.exchanges; waiters = c.self.inside.waiters } in
     let new : Tables = record { exchanges = c.self.inside.exchanges; waiters = c.update.new.self } in
-    let stays = waiter-elsewhere n old c.update.new.self c.awaited-exchange.result c.ready_in-was.ensures.sound c.ready_in-is.ensures.sound (λ q e. rw c.update.ensures (updated-others changed_by n c.args.change q waiters.items e)) (rw c.awaited-exchange.ensures.exact (waits-its (item_at n waiters.items))) (rw (c.update.ensures, updated-at changed_by n c.args.change waiters.items) (waits-updated c.awaited-exchange.result c.args.change (item_at n waiters.items) (rw c.awaited-exchange.ensures.exact (waits-its (item_at n waiters.items))))) in
+    let stays = updated-elsewhere c.args.number c.args.change old c.update.new.self c.awaited-exchange.result c.ready_in-was.ensures.sound c.ready_in-is.ensures.sound c.update.ensures c.awaited-exchange.ensures.exact in
     rw (c.ready_in-was.ensures.exact, c.ready_in-is.ensures.exact) (ready-room old new c.ready_in-was.ensures.sound c.ready_in-is.ensures.sound c.awaited-exchange.result stays c.self.inside.ready c.self.invariant c.laws.ensures (ap (λ (t : Table Waiter). t.limit) c.update.ensures))
 
 pub invariant_of-self : goal.invariant_of-self
 invariant_of-self c =
-    let n = c.args.number in
-    let waiters = c.self.inside.waiters in
-    let old : Tables = record { exchanges = c.self.inside.exchanges; waiters = waiters } in
+    let old : Tables = record { exchanges = c.self.inside.exchanges; waiters = c.self.inside.waiters } in
     let new : Tables = record { exchanges = c.self.inside.exchanges; waiters = c.update.new.self } in
-    let stays = waiter-elsewhere n old c.update.new.self c.awaited-exchange.result c.ready_in-was.ensures.sound c.ready_in-is.ensures.sound (λ q e. rw c.update.ensures (updated-others changed_by n c.args.change q waiters.items e)) (rw c.awaited-exchange.ensures.exact (waits-its (item_at n waiters.items))) (rw (c.update.ensures, updated-at changed_by n c.args.change waiters.items) (waits-updated c.awaited-exchange.result c.args.change (item_at n waiters.items) (rw c.awaited-exchange.ensures.exact (waits-its (item_at n waiters.items))))) in
+    let stays = updated-elsewhere c.args.number c.args.change old c.update.new.self c.awaited-exchange.result c.ready_in-was.ensures.sound c.ready_in-is.ensures.sound c.update.ensures c.awaited-exchange.ensures.exact in
     let replaced = rw (c.ready_in-was.ensures.exact, c.ready_in-is.ensures.exact) at c.replace.ensures.replaced in
     ready-moved old new c.ready_in-was.ensures.sound c.ready_in-is.ensures.sound c.awaited-exchange.result stays c.self.inside.ready c.self.invariant c.replace.new.self replaced c.replace.ensures.limit (ap (λ (t : Table Waiter). t.limit) c.update.ensures)
