@@ -4,7 +4,7 @@ use Rattle.std.specs.Fmt.{decimal}
 use Rattle.std.specs.Str.{bytes_eq}
 use Rattle.coap_message.specs.Uint.{IsBytes}
 use Rattle.coap_uri.specs.Address.{IsIp}
-use Rattle.coap_model.specs.Events.{Event}
+use Rattle.coap_model.specs.Events.{Event, event_given}
 use Rattle.coap_model.specs.Events.Event.{arrival, tick}
 use Rattle.coap_model.specs.Runs.{Turn}
 use Rattle.coap_endpoint.specs.declared.endpoint.Endpoint.{Endpoint}
@@ -64,12 +64,8 @@ turn_of last line = do
   not_before last (turn_at now draw event)
 
 -- what was read, as the model sees it, with the bytes that were put into the buffer
-abbrev pub event_seen : Option Endpoint → List ℕ → Event
-event_seen None bytes = tick
-event_seen (Some from) bytes = arrival from bytes
-
 abbrev pub turn_seen : TurnRead → List ℕ → Turn
-turn_seen turn bytes = turn_at turn.now turn.draw (event_seen turn.from bytes)
+turn_seen turn bytes = turn_at turn.now turn.draw (event_given turn.from bytes)
 
 -- ---- as they are written
 

@@ -4,7 +4,7 @@ use Rattle.coap_core.specs.Steps.{CarriesOn, Does, entry_told, wants_memory}
 use Rattle.coap_message.specs.Datagram.{Datagram}
 use Rattle.coap_model.proofs.Running.{clock_after}
 use Rattle.coap_model.specs.Carries.{Carries}
-use Rattle.coap_model.specs.Events.{Event, IsEvent}
+use Rattle.coap_model.specs.Events.{Event, IsEvent, event_given}
 use Rattle.coap_model.specs.History.{Entry, grown_of}
 use Rattle.coap_model.specs.Runs.{Turn}
 use Rattle.coap_model.specs.Step.{step_of}
@@ -14,7 +14,6 @@ use Rattle.coap_model.specs.declared.report.Report.{Report}
 use Rattle.coap_endpoint.specs.declared.endpoint.Endpoint.{Endpoint}
 use Rattle.coap_watch.specs.Told.{Told}
 use Rattle.coap_port.specs.Driven.{DidWatched, HandsOver, datagram_of, is_arrival, wait_for}
-use Rattle.coap_watch.specs.Given.{event_given}
 use Rattle.coap_port.specs.Stats.{with_turn}
 use Rattle.coap_port.specs.declared.stats.Stats.{Stats}
 

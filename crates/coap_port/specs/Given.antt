@@ -1,7 +1,7 @@
 -- What a port gives.
 use Rattle.std.specs.Prelude.{◌≡◌, ◌≤◌, ◌^◌, ℕ, List}
 use Rattle.coap_model.specs.Runs as model
-use Rattle.coap_watch.specs.Given.{event_given}
+use Rattle.coap_model.specs.Events.{event_given}
 use Rattle.coap_port.specs.declared.port.Turn.{Turn}
 
 -- the turn, with the bytes that were put into the buffer

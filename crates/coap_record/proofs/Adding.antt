@@ -8,7 +8,7 @@ use Rattle.coap_lines.specs.Ends.{failed_by}
 use Rattle.coap_lines.specs.Turns.{IsReadAs, turn_line, turn_text}
 use Rattle.coap_lines.proofs.WrittenTurns.{read-again}
 use Rattle.coap_port.specs.Driven.{is_arrival}
-use Rattle.coap_watch.specs.Given.{event_given}
+use Rattle.coap_model.specs.Events.{event_given}
 use Rattle.coap_port.specs.Given.{IsOnward, given_by}
 use Rattle.coap_port.specs.declared.port.Turn.{Turn as Given}
 use Rattle.coap_record.specs.Recorder.{AddsTurn, AddsUnless, Gives, IsShort, Recorder, WritesIf, size_of, with_line}

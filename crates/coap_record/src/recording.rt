@@ -1,7 +1,7 @@
 //! A port whose turns are recorded.
 ghost use Rattle.std.specs.Prelude.{◌≡◌, ◌≤◌, ◌+◌, ◌&&◌, ℕ, List, false, nat_lt, not, length, IfOk};
 ghost use Rattle.coap_port.specs.Driven.{is_arrival};
-ghost use Rattle.coap_watch.specs.Given.{event_given};
+ghost use Rattle.coap_model.specs.Events.{event_given};
 ghost use Rattle.coap_port.specs.Given.{given_by};
 ghost use Rattle.coap_record.specs.Recorder as spec;
 

@@ -2,7 +2,7 @@
 ghost use Rattle.std.specs.Prelude.{◌≡◌, ◌≤◌, length};
 ghost use Rattle.coap_lines.specs.Room.{Adds, HasRoom, longest_turn};
 ghost use Rattle.coap_lines.specs.Turns.{IsSourced, turn_line};
-ghost use Rattle.coap_watch.specs.Given.{event_given};
+ghost use Rattle.coap_model.specs.Events.{event_given};
 ghost use Rattle.coap_port.specs.Given.{given_by};
 ghost use Rattle.coap_record.specs.Recorder.{size_of};
 

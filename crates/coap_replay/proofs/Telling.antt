@@ -5,14 +5,12 @@ use Rattle.std.specs.Result.{OnErr, is_err}
 use Rattle.coap_core.specs.Steps.{Does}
 use Rattle.coap_message.specs.Datagram.{Datagram}
 use Rattle.coap_endpoint.specs.declared.endpoint.Endpoint.{Endpoint}
-use Rattle.coap_model.specs.Events.{Event, arrival}
+use Rattle.coap_model.specs.Events.{Event}
 use Rattle.coap_model.specs.History.{grown_of}
 use Rattle.coap_model.specs.Step.{step_of}
 use Rattle.coap_model.specs.declared.report.Report.{Report}
 use Rattle.coap_model.specs.Runs.{Run, Taken, Turn, one_turn, step_taken}
 use Rattle.coap_model.specs.State.{Step, State}
-use Rattle.coap_lines.specs.Turns.{event_seen}
-use Rattle.coap_watch.specs.Given.{event_given}
 use Rattle.coap_watch.specs.Told as watch
 use Rattle.coap_replay.specs.Replays.{DoesTurn, line_for, run_at, taken, state_after}
 use Rattle.coap_replay.specs.Watched.{AreTold, DoesTold, IsTold, TellsTurn, told_in}
@@ -27,11 +25,6 @@ after-more w u ts = run-apart (one_turn (run_at w []) u) (run_at (step_taken w u
 -- what is told of a step
 abbrev pub told_of : ℕ → ℕ → Event → Report → List ℕ → State → watch.Told
 told_of now draw event report bytes w = record { turn = record { now = now; draw = draw; event = event }; report = Some report; bytes = bytes; went = true; state = w }
-
--- the event that is given is the one that the line encodes
-pub as-read : (from : Option Endpoint) (bytes same : List ℕ) → bytes ≡ same → event_given from bytes ≡ event_seen from same
-as-read None bytes same is = refl
-as-read (Some source) bytes same is = ap (arrival source) is
 
 -- what holds on an error holds if there is one
 pub err-holds : {T E P : Type 0} (r : Result T E) → is_err r ≡ true → OnErr r P → P

@@ -1,6 +1,6 @@
 //! The port over a UDP socket.
 ghost use Rattle.std.specs.Prelude.{◌≡◌, ◌≤◌, ◌<◌, ◌+◌, ◌^◌, None, IfOk, IsOk, OnErr, OnOk};
-ghost use Rattle.coap_watch.specs.Given.{event_given};
+ghost use Rattle.coap_model.specs.Events.{event_given};
 ghost use Rattle.coap_port.specs.Given.{IsOnward, given_by};
 ghost use Rattle.coap_udp.specs.Systems.{IsTo, read_of};
 ghost use Rattle.coap_udp.specs.Udp.{Arrives, EndsBy, IsRead, IsTimed, ReadsInto, is_of_ipv6, new_port, port_over};

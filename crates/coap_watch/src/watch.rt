@@ -1,9 +1,8 @@
 //! What is told of a turn, and to whom.
 ghost use Rattle.std.specs.Prelude.{◌≡◌, [], None, Some, false};
-ghost use Rattle.coap_model.specs.Events.{IsEvent};
+ghost use Rattle.coap_model.specs.Events.{event_given, IsEvent};
 ghost use Rattle.coap_model.specs.State.{State};
 ghost use Rattle.coap_core.specs.Events.{seen};
-ghost use Rattle.coap_watch.specs.Given.{event_given};
 ghost use Rattle.coap_watch.specs.Told.{told};
 
 use crate::laws;

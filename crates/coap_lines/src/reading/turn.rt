@@ -1,7 +1,8 @@
 //! Turns: an event with its moment and its draw, and the lines that encode one.
 ghost use Rattle.std.specs.Prelude.{◌≡◌, ◌≤◌, ◌/◌, Some, length};
 ghost use Rattle.coap_lines.specs.Answers.{Finds};
-ghost use Rattle.coap_lines.specs.Turns.{arrival_of, event_of, event_seen, turn_of, turn_seen};
+ghost use Rattle.coap_lines.specs.Turns.{arrival_of, event_of, turn_of, turn_seen};
+ghost use Rattle.coap_model.specs.Events.{event_given};
 
 use crate::reading::cutting::cut;
 use crate::reading::datagram::read_bytes;
@@ -25,7 +26,7 @@ pub struct Turn {
 #[tactic(auto, unfolding(crate::specs::Turns::arrival_of))]
 fn read_arrival(text: &[u8], into: &mut Datagram) -> Option<Endpoint>
     requires { length text.now / 2 ≤ into.old.room }
-    ensures read { Finds (λ from. event_seen (Some from)) (arrival_of text.now) result
+    ensures read { Finds (λ from. event_given (Some from)) (arrival_of text.now) result
         into.new.bytes }
     ensures room { into.new.room ≡ into.old.room }
 {
@@ -40,7 +41,7 @@ fn read_arrival(text: &[u8], into: &mut Datagram) -> Option<Endpoint>
 #[tactic(auto, unfolding(crate::specs::Turns::event_of))]
 fn read_event(text: &[u8], into: &mut Datagram) -> Option<Option<Endpoint>>
     requires { length text.now / 2 ≤ into.old.room }
-    ensures read { Finds event_seen (event_of text.now) result into.new.bytes }
+    ensures read { Finds event_given (event_of text.now) result into.new.bytes }
     ensures room { into.new.room ≡ into.old.room }
 {
     if text == b"tick".as_slice() {

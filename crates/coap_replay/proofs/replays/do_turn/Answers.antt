@@ -1,26 +1,27 @@
-use Rattle.std.proofs.Common.{◌∙◌, subst, sym}
+use Rattle.std.proofs.Common.{◌∙◌, ap, subst, sym}
 use Rattle.coap_core.specs.Events.{seen}
 use Rattle.coap_lines.specs.Turns.{turn_seen}
+use Rattle.coap_model.specs.Events.{event_given}
 use Rattle.coap_watch.specs.Told.{Told}
-use Rattle.coap_replay.proofs.Telling.{as-read, err-holds, failed-write, step-told}
+use Rattle.coap_replay.proofs.Telling.{err-holds, failed-write, step-told}
 use Rattle.coap_replay.proofs.replays.do_turn.Goals as goal
 
 pub returns-then-is_err-clause-told : goal.returns-then-is_err-clause-told
 returns-then-is_err-clause-told g c =
     let begun = c.begun-seen.ensures in
     step-told g.V.Watch.sees c.args.core.now c.step.new.self (turn_seen c.args.line.turn c.args.buffers.now.input.bytes) (seen c.begun-seen.result.event) c.in-Ok.report c.args.buffers.now.output c.step.new.out c.args.watcher.now c.see.new.self
-    (begun.event ∙ as-read c.args.line.turn.from _ _ c.bytes.ensures.bytes) c.in-Ok.ensures.exact
+    (begun.event ∙ ap (event_given c.args.line.turn.from) c.bytes.ensures.bytes) c.in-Ok.ensures.exact
     (rw (c.bytes-2.ensures.bytes, begun.now, begun.draw) at (subst (λ (u : Told). g.V.Watch.sees c.args.watcher.now u c.see.new.self) (c.done.ensures c.step.new.self) c.see.ensures))
 
 pub returns-clause-told : goal.returns-clause-told
 returns-clause-told g c =
     let begun = c.begun-seen.ensures in
     step-told g.V.Watch.sees c.args.core.now c.step.new.self (turn_seen c.args.line.turn c.args.buffers.now.input.bytes) (seen c.begun-seen.result.event) c.in-Ok.report c.args.buffers.now.output c.step.new.out c.args.watcher.now c.see.new.self
-    (begun.event ∙ as-read c.args.line.turn.from _ _ c.bytes.ensures.bytes) c.in-Ok.ensures.exact
+    (begun.event ∙ ap (event_given c.args.line.turn.from) c.bytes.ensures.bytes) c.in-Ok.ensures.exact
     (rw (c.bytes-2.ensures.bytes, begun.now, begun.draw) at (subst (λ (u : Told). g.V.Watch.sees c.args.watcher.now u c.see.new.self) (c.done.ensures c.step.new.self) c.see.ensures))
 
 pub returns-then-is_err-clause-does : goal.returns-then-is_err-clause-does
 returns-then-is_err-clause-does g c =
     failed-write c.args.core.now c.step.new.self (turn_seen c.args.line.turn c.args.buffers.now.input.bytes) (seen c.begun-seen.result.event) c.in-Ok.report c.args.buffers.now.output c.step.new.out _ _ c.args.line.number c.line_for.new.text.items
-    (c.begun-seen.ensures.event ∙ as-read c.args.line.turn.from _ _ c.bytes.ensures.bytes) c.in-Ok.ensures.exact c.line_for.ensures.line
+    (c.begun-seen.ensures.event ∙ ap (event_given c.args.line.turn.from) c.bytes.ensures.bytes) c.in-Ok.ensures.exact c.line_for.ensures.line
     (rw c.deref.ensures.value at (err-holds c.write_all.result (sym c.is_err.ensures.value ∙ c.if-is_err.true) c.write_all.ensures.front))
