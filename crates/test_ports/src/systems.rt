@@ -30,7 +30,6 @@ pub type Read = Result<(Seq<u8>, SocketAddr), ErrorKind>;
 /// What a system in memory answers to its calls, those of each kind in order. After the last of
 /// them nothing is there and nothing comes, all that is sent goes, the clock can't be read, and
 /// draws are 0.
-#[derive(Drop)]
 pub struct Script {
     pub reads: VecDeque<Read>,
     /// Whether a datagram is there after a wait.
@@ -39,6 +38,18 @@ pub struct Script {
     /// In milliseconds.
     pub moments: VecDeque<u64>,
     pub draws: VecDeque<u32>,
+}
+
+impl Drop for Script {
+    fn drop(self) {
+        let Script {
+            reads: _,
+            arrivals: _,
+            sends: _,
+            moments: _,
+            draws: _,
+        } = self;
+    }
 }
 
 impl Script {
@@ -61,11 +72,20 @@ impl Script {
 }
 
 /// A system that answers as its script says, and notes its calls.
-#[derive(Drop)]
 pub struct MemorySystem {
     alloc: Global,
     script: Script,
     calls: Seq<Call>,
+}
+
+impl Drop for MemorySystem {
+    fn drop(self) {
+        let MemorySystem {
+            alloc: _,
+            script: _,
+            calls: _,
+        } = self;
+    }
 }
 
 impl Model for MemorySystem {
