@@ -20,7 +20,6 @@ const BUCKET_ROOM: usize = 36;
 /// pairs have the same few keys; and they are searched only for a key whose bucket has pairs there.
 /// Only `new` allocates. A contract sees all pairs: those of the buckets, one after the other, and
 /// then the rest.
-#[derive(Drop)]
 pub struct HashedIndex {
     /// What spreads the keys over the buckets. It is odd, so that different keys stay different.
     factor: u64,
@@ -30,6 +29,18 @@ pub struct HashedIndex {
     rest: OrderedIndex,
     /// For each bucket, the number of pairs among the rest that belong to it.
     outside: Vec<usize>,
+}
+
+impl Drop for HashedIndex {
+    fn drop(self) {
+        let HashedIndex {
+            factor: _,
+            len: _,
+            buckets: _,
+            rest: _,
+            outside: _,
+        } = self;
+    }
 }
 
 impl Model for HashedIndex {

@@ -13,9 +13,14 @@ use std::marker::Model;
 const SPARE: usize = 16;
 
 /// Pairs of a key and a number, each at most once, in increasing order. Only `new` allocates.
-#[derive(Drop)]
 pub struct OrderedIndex {
     buffer: PairBuffer,
+}
+
+impl Drop for OrderedIndex {
+    fn drop(self) {
+        let OrderedIndex { buffer: _ } = self;
+    }
 }
 
 impl Model for OrderedIndex {
