@@ -11,7 +11,6 @@ use ordered_index::OrderedIndex;
 use std::alloc::Global;
 
 /// Numbers of waiters, by what they are looked up by. Room for all of them is allocated up front.
-#[derive(Drop)]
 pub(crate) struct WaiterIndex {
     /// Those that wait, by the exchange that they wait for.
     pub(crate) awaited: OrderedIndex,
@@ -19,6 +18,16 @@ pub(crate) struct WaiterIndex {
     pub(crate) ids: OrderedIndex,
     /// The same, by the end of the current timeout.
     pub(crate) ends: OrderedIndex,
+}
+
+impl Drop for WaiterIndex {
+    fn drop(self) {
+        let WaiterIndex {
+            awaited: _,
+            ids: _,
+            ends: _,
+        } = self;
+    }
 }
 
 /// What one waiter is looked up by.
