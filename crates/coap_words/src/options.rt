@@ -155,73 +155,102 @@ or else every 60 seconds [default: none]";
     by_name(alloc, "stats-file", "FILE", help)
 }
 
-/// The program without options.
-fn program<'a>(alloc: Global) -> Command<'a>
-    ensures { app_of result ≡ spec.program }
+/// The command line, while options are added to it.
+struct CommandLine<'a> {
+    command: Command<'a>,
+}
+
+impl<'a> Drop for CommandLine<'a> {
+    fn drop(self) {
+        let CommandLine { command: _ } = self;
+    }
+}
+
+/// The command line without options.
+fn program<'a>(alloc: Global) -> CommandLine<'a>
+    ensures { app_of result.command ≡ spec.program }
 {
-    Command::new(alloc, "coap-proxyd")
+    let command = Command::new(alloc, "coap-proxyd")
         .version(VERSION)
         .no_binary_name(true)
         .about("A CoAP proxy: reverse for the maps, forward under its own names (RFC 7252)")
-        .after_help(EXAMPLE)
+        .after_help(EXAMPLE);
+    CommandLine { command }
 }
 
-/// A command with one more option.
-fn with<'a>(command: Command<'a>, option: Arg<'a>) -> Result<Command<'a>, AllocError>
-    requires { (rule_of option).is_simple ≡ true }
-    ensures { IfOk result (λ more.
-        app_of more ≡ with_rule (app_of command.entry) (rule_of option.entry)) }
-{
-    command.arg(option)
+impl<'a> CommandLine<'a> {
+    /// The command for it.
+    fn into_command(self) -> Command<'a>
+        ensures { result ≡ self.entry.command }
+    {
+        let CommandLine { command } = self;
+        command
+    }
+
+    /// The command line with one more option.
+    fn with(self, option: Arg<'a>) -> Result<CommandLine<'a>, AllocError>
+        requires { (rule_of option).is_simple ≡ true }
+        ensures { IfOk result (λ more. app_of more.command
+            ≡ with_rule (app_of self.entry.command) (rule_of option.entry)) }
+    {
+        let CommandLine { command } = self;
+        let command = command.arg(option)?;
+        Ok(CommandLine { command })
+    }
+
+    /// The command line with the options for where it listens, and its own names.
+    fn with_endpoint(self, alloc: Global) -> Result<CommandLine<'a>, AllocError>
+        ensures { IfOk result (λ more. app_of more.command
+            ≡ spec.with_three (app_of self.entry.command) spec.address_rule spec.port_rule
+            spec.names_rule) }
+    {
+        self.with(address(alloc))?
+            .with(port(alloc))?
+            .with(names(alloc))
+    }
+
+    /// The command line with the options for where its routes and its events come from.
+    fn with_sources(self, alloc: Global) -> Result<CommandLine<'a>, AllocError>
+        ensures { IfOk result (λ more. app_of more.command
+            ≡ spec.with_three (app_of self.entry.command) spec.config_rule spec.map_rule
+            spec.replay_rule) }
+    {
+        self.with(config(alloc))?
+            .with(map(alloc))?
+            .with(replay(alloc))
+    }
+
+    /// The command line with the options for how it begins and ends.
+    fn with_numbers(self, alloc: Global) -> Result<CommandLine<'a>, AllocError>
+        ensures { IfOk result (λ more. app_of more.command
+            ≡ spec.with_three (app_of self.entry.command) spec.id_rule spec.salt_rule
+            spec.turns_rule) }
+    {
+        self.with(first_id(alloc))?
+            .with(salt(alloc))?
+            .with(turns(alloc))
+    }
+
+    /// The command line with the options for what is seen of its work.
+    fn with_observing(self, alloc: Global) -> Result<CommandLine<'a>, AllocError>
+        ensures { IfOk result (λ more. app_of more.command
+            ≡ spec.with_observing (app_of self.entry.command)) }
+    {
+        self.with(recording(alloc))?
+            .with(explain(alloc))?
+            .with(stats(alloc))?
+            .with(stats_file(alloc))
+    }
 }
 
-/// A command with the options for where it listens, and its own names.
-fn with_endpoint<'a>(alloc: Global, command: Command<'a>) -> Result<Command<'a>, AllocError>
-    ensures { IfOk result (λ more. app_of more
-        ≡ spec.with_three (app_of command.entry) spec.address_rule spec.port_rule spec.names_rule) }
-{
-    with(
-        with(with(command, address(alloc))?, port(alloc))?,
-        names(alloc),
-    )
-}
-
-/// A command with the options for where its routes and its events come from.
-fn with_sources<'a>(alloc: Global, command: Command<'a>) -> Result<Command<'a>, AllocError>
-    ensures { IfOk result (λ more. app_of more
-        ≡ spec.with_three (app_of command.entry) spec.config_rule spec.map_rule spec.replay_rule) }
-{
-    with(
-        with(with(command, config(alloc))?, map(alloc))?,
-        replay(alloc),
-    )
-}
-
-/// A command with the options for how it begins and ends.
-fn with_numbers<'a>(alloc: Global, command: Command<'a>) -> Result<Command<'a>, AllocError>
-    ensures { IfOk result (λ more. app_of more
-        ≡ spec.with_three (app_of command.entry) spec.id_rule spec.salt_rule spec.turns_rule) }
-{
-    with(
-        with(with(command, first_id(alloc))?, salt(alloc))?,
-        turns(alloc),
-    )
-}
-
-/// A command with the options for what is seen of its work.
-fn with_observing<'a>(alloc: Global, command: Command<'a>) -> Result<Command<'a>, AllocError>
-    ensures { IfOk result (λ more. app_of more ≡ spec.with_observing (app_of command.entry)) }
-{
-    let command = with(with(command, recording(alloc))?, explain(alloc))?;
-    with(with(command, stats(alloc))?, stats_file(alloc))
-}
-
-/// The program with all its options.
+/// The command line with all its options.
 pub(crate) fn command<'a>(alloc: Global) -> Result<Command<'a>, AllocError>
     ensures { IfOk result (λ command. app_of command ≡ spec.option_table) }
 {
-    let command = with_endpoint(alloc, program(alloc))?;
-    let command = with_sources(alloc, command)?;
-    let command = with_numbers(alloc, command)?;
-    with_observing(alloc, command)
+    let program = program(alloc)
+        .with_endpoint(alloc)?
+        .with_sources(alloc)?
+        .with_numbers(alloc)?
+        .with_observing(alloc)?;
+    Ok(program.into_command())
 }
