@@ -14,7 +14,7 @@ use Rattle.coap_message.specs.Message.{Message}
 use Rattle.coap_endpoint.specs.declared.endpoint.Endpoint.{Endpoint}
 use Rattle.coap_store.specs.declared.key.CacheKey.{CacheKey}
 use Rattle.coap_store.specs.declared.stored.Stored.{Stored}
-use Rattle.coap_store.specs.Entries.{Entry, entry_key, has_usable}
+use Rattle.coap_store.specs.Entries.{Entry, entry_key, has_usable, stored_for}
 use Rattle.coap_store.specs.Freshness.{is_usable}
 use Rattle.coap_store.specs.Lists.{of_key}
 use Rattle.coap_dedup.specs.declared.record.Record.{Record}
@@ -126,6 +126,14 @@ module _ (w : State) (now : ℕ) (client : Endpoint) (m : Message) where
         go : (o : Option Entry) → option_map_or (λ entry. is_usable now entry.1) o false ≡ false → on_entry w now client m key o ≡ on_miss w now client m key (option_map (λ entry. entry.1) o)
         go None e = refl
         go (Some entry) e = rw e refl
+
+    -- what is stored for it is shown, where it is usable and a reply can be sent
+    pub found : (s : Stored) → is_get m.code ≡ true → stored_for key w.store ≡ Some s → is_usable now s ≡ true → can_reply w now m.kind ≡ true → (on_key w now client m key).bytes ≡ (hits w now client m key s).bytes
+    found s get is usable reply = rw get (go (of_key entry_key key w.store) is)
+      where
+        go : (o : Option Entry) → option_map (λ entry. entry.1) o ≡ Some s → (on_entry w now client m key o).bytes ≡ (hits w now client m key s).bytes
+        go None e = absurd cc
+        go (Some entry) e = rw (ap (λ (o : Option Stored). option_map_or (λ stored. stored) o s) e, usable, reply) refl
 
   -- ---- requests that are new
 
