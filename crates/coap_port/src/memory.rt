@@ -32,7 +32,6 @@ pub struct Handed {
 /// and fails after the last; a call without a wait gets a tick at the last moment. A moment before
 /// the last one is raised to it, one beyond 2^62 is lowered to 2^62, and a draw above 1,000 to
 /// 1,000. The port keeps what it is handed, and can refuse one datagram.
-#[derive(Drop)]
 pub struct MemoryPort {
     alloc: Global,
     script: VecDeque<Scripted>,
@@ -40,6 +39,19 @@ pub struct MemoryPort {
     refused: Option<usize>,
     last: Moment,
     failures: u64,
+}
+
+impl Drop for MemoryPort {
+    fn drop(self) {
+        let MemoryPort {
+            alloc: _,
+            script: _,
+            handed: _,
+            refused: _,
+            last: _,
+            failures: _,
+        } = self;
+    }
 }
 
 impl Model for MemoryPort {

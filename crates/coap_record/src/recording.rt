@@ -40,13 +40,24 @@ fn is_silent(wait: u64, from: Option<Endpoint>) -> bool
 ///
 /// No turn fails because its line can't be written. What the writer doesn't take is lost then, and
 /// nothing more is recorded (`has_ended`).
-#[derive(Drop)]
 pub struct Recording<P, W> {
     port: P,
     output: Output<W>,
     buffer: Vec<u8>,
     ended: bool,
     idle: bool,
+}
+
+impl<P: Drop, W: Drop> Drop for Recording<P, W> {
+    fn drop(self) {
+        let Recording {
+            port: _,
+            output: _,
+            buffer: _,
+            ended: _,
+            idle: _,
+        } = self;
+    }
 }
 
 impl<P, W> Model for Recording<P, W> {

@@ -29,7 +29,6 @@ const ROOM_WAIT: u64 = 50;
 /// one call, or one call and what it needs. The socket is watched only while `await_arrival` waits,
 /// so that an arrival costs nothing more at other times; one that is there already is reported at
 /// once.
-#[derive(Drop)]
 pub struct Host<'a, R> {
     rt: &'a R,
     local: SocketAddr,
@@ -39,6 +38,21 @@ pub struct Host<'a, R> {
     events: Events<Global>,
     start: Instant,
     generator: Pcg32,
+}
+
+impl<'a, R> Drop for Host<'a, R> {
+    fn drop(self) {
+        let Host {
+            rt: _,
+            local: _,
+            socket: _,
+            watched: _,
+            arrivals: _,
+            events: _,
+            start: _,
+            generator: _,
+        } = self;
+    }
 }
 
 /// A generator that is seeded by the system.

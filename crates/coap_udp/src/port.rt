@@ -34,7 +34,6 @@ use std::time::Clock;
 /// to send waits for some, at most 50 ms, and is tried once more.
 ///
 /// An IPv6 socket uses IPv4-mapped addresses, `::ffff:a.b.c.d`, for IPv4 endpoints.
-#[derive(Drop)]
 pub struct UdpPort<S> {
     system: S,
     waiting: bool,
@@ -42,6 +41,19 @@ pub struct UdpPort<S> {
     silent: u64,
     last: Moment,
     failures: u64,
+}
+
+impl<S: Drop> Drop for UdpPort<S> {
+    fn drop(self) {
+        let UdpPort {
+            system: _,
+            waiting: _,
+            is_ipv6: _,
+            silent: _,
+            last: _,
+            failures: _,
+        } = self;
+    }
 }
 
 impl<S> Model for UdpPort<S> {
