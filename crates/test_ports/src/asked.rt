@@ -3,13 +3,13 @@ ghost use Rattle.std.specs.Prelude.{◌≡◌, ◌<◌, ◌^◌, OnOk};
 
 use crate::systems::{Call, MemorySystem, Read, Script};
 use coap_message::{Datagram, OutOfMemory, Seq};
-use coap_proxyd::{Port, PortFault};
+use coap_proxyd::{Port, PortFault, Turn};
 use coap_target::{Endpoint, Ip};
 use coap_udp::UdpPort;
 use std::alloc::{AllocError, Global};
+use std::collections::VecDeque;
 use std::io::ErrorKind;
 use std::net::{IpAddr, Ipv4Addr, SocketAddr};
-use std::process::Abort;
 use std::test::*;
 
 /// The room of the buffer for what is read, in bytes.
@@ -18,32 +18,45 @@ const ROOM: usize = 5;
 /// The port of a peer.
 const PEER: u16 = 40001;
 
+/// What a system answers to the first read: nothing is there, or these bytes, or they come once it
+/// waits, or it fails.
+#[derive(Clone, Copy)]
+enum First {
+    Nothing,
+    Found(&'static [u8]),
+    Late(&'static [u8]),
+    Fails(ErrorKind),
+}
+
 /// A read that gives these bytes.
 fn found(alloc: Global, bytes: &[u8]) -> Result<Read, OutOfMemory> {
     let from = SocketAddr::new(IpAddr::V4(Ipv4Addr::from_octets([127, 0, 0, 1])), PEER);
     Ok(Ok((Seq::from_slice(alloc, bytes)?, from)))
 }
 
-/// A system whose clock shows 9 ms, and which draws 1,500, a draw of 499.
-fn system(alloc: Global) -> Result<Script, OutOfMemory> {
+/// The reads that a system answers so.
+fn reads(alloc: Global, first: First) -> Result<VecDeque<Read>, OutOfMemory> {
+    let mut reads = VecDeque::new(alloc);
+    match first {
+        First::Nothing => {}
+        First::Found(bytes) => reads.push_back(found(alloc, bytes)?)?,
+        First::Late(bytes) => {
+            reads.push_back(Err(ErrorKind::WouldBlock))?;
+            reads.push_back(found(alloc, bytes)?)?;
+        }
+        First::Fails(kind) => reads.push_back(Err(kind))?,
+    }
+    Ok(reads)
+}
+
+/// A system that answers the first read so, whose clock shows 9 ms and which draws 1,500, a draw of
+/// 499.
+fn system(alloc: Global, first: First) -> Result<Script, OutOfMemory> {
     let mut script = Script::new(alloc);
+    script.reads = reads(alloc, first)?;
+    script.arrivals.push_back(matches!(first, First::Late(_)))?;
     script.moments.push_back(9)?;
     script.draws.push_back(1500)?;
-    Ok(script)
-}
-
-/// Such a system that answers the first read with this.
-fn reading(alloc: Global, read: Read) -> Result<Script, OutOfMemory> {
-    let mut script = system(alloc)?;
-    script.reads.push_back(read)?;
-    Ok(script)
-}
-
-/// Such a system for which these bytes come once it waits.
-fn late(alloc: Global, bytes: &[u8]) -> Result<Script, OutOfMemory> {
-    let mut script = reading(alloc, Err(ErrorKind::WouldBlock))?;
-    script.arrivals.push_back(true)?;
-    script.reads.push_back(found(alloc, bytes)?)?;
     Ok(script)
 }
 
@@ -64,102 +77,125 @@ fn shown(alloc: Global, calls: &[Call]) -> Result<String, AllocError> {
     Ok(out)
 }
 
-/// Takes the first turn of a port with this wait, and checks its moment, its draw, what was read,
-/// and what the port asked of its system.
-fn check(
-    rt: &impl Abort,
-    alloc: Global,
-    (script, wait): (Script, u64),
-    expected: (u64, u16, &str),
-    calls: &str,
-) -> Result<(), Fail> {
-    let mut port = UdpPort::over(MemorySystem::new(alloc, script), false);
+/// The first turn of a port over a system, with this wait: the turn, what was read, and what the
+/// port asked of the system, in words.
+fn first_turn(alloc: Global, script: Script, wait: u64) -> Result<(Turn, Datagram, String), Fail> {
     let mut into = Datagram::new(alloc, ROOM)?;
+    let mut port = UdpPort::over(MemorySystem::new(alloc, script), false);
     let turn = port.next(wait, &mut into)?;
-    assert_eq!(rt;
-        (turn.now, turn.draw, into.bytes()),
-        (expected.0, expected.1, expected.2.as_bytes())
-    );
-    assert_eq!(rt; turn.from.is_none(), expected.2.is_empty());
     let asked = shown(alloc, port.system().calls())?;
-    assert_eq!(rt; asked.as_str(), calls);
-    Ok(())
+    Ok((turn, into, asked))
 }
+
+/// First turns: what the first read is answered, the wait, what is read, and what the port asks
+/// for.
+const TURNS: [(First, u64, &str, &str); 9] = [
+    // without a wait nothing is read
+    (First::Nothing, 0, "", "clock, draw; "),
+    // nothing comes
+    (First::Nothing, 1000, "", "read 5, wait 996, clock, draw; "),
+    (
+        First::Nothing,
+        2,
+        "",
+        "not waiting, read 5, wait 2, clock, draw; ",
+    ),
+    // from eight milliseconds on the read itself waits, for the first four of them
+    (
+        First::Nothing,
+        7,
+        "",
+        "not waiting, read 5, wait 7, clock, draw; ",
+    ),
+    (First::Nothing, 8, "", "read 5, wait 4, clock, draw; "),
+    (
+        First::Late(b"abc"),
+        1000,
+        "abc",
+        "read 5, wait 996, read 5, clock, draw; ",
+    ),
+    (
+        First::Fails(ErrorKind::Interrupted),
+        1000,
+        "",
+        "read 5, clock, draw; ",
+    ),
+    // as many bytes as there is room for, and one more
+    (
+        First::Found(b"defgh"),
+        1000,
+        "defgh",
+        "read 5, clock, draw; ",
+    ),
+    (
+        First::Found(b"defghi"),
+        1000,
+        "defgh",
+        "read 5, clock, draw; ",
+    ),
+];
 
 #[test]
 fn a_turn_asks_for_what_it_needs(rt: HostRuntime) -> Result<(), Fail> {
     let alloc = rt.alloc();
-    let nothing = (9, 499, "");
-    let read = "read 5, clock, draw; ";
-    // without a wait nothing is read; then nothing comes
-    check(&rt, alloc, (system(alloc)?, 0), nothing, "clock, draw; ")?;
-    let waits = "read 5, wait 996, clock, draw; ";
-    check(&rt, alloc, (system(alloc)?, 1000), nothing, waits)?;
-    let looks = "not waiting, read 5, wait 2, clock, draw; ";
-    check(&rt, alloc, (system(alloc)?, 2), nothing, looks)?;
-    // from eight milliseconds on the read itself waits, for the first four of them
-    let still_looks = "not waiting, read 5, wait 7, clock, draw; ";
-    check(&rt, alloc, (system(alloc)?, 7), nothing, still_looks)?;
-    let just_waits = "read 5, wait 4, clock, draw; ";
-    check(&rt, alloc, (system(alloc)?, 8), nothing, just_waits)?;
-    let again = "read 5, wait 996, read 5, clock, draw; ";
-    check(
-        &rt,
-        alloc,
-        (late(alloc, b"abc")?, 1000),
-        (9, 499, "abc"),
-        again,
-    )?;
-    let interrupted = reading(alloc, Err(ErrorKind::Interrupted))?;
-    check(&rt, alloc, (interrupted, 1000), nothing, read)?;
-    // as many bytes as there is room for, and one more
-    for bytes in [b"defgh".as_slice(), b"defghi".as_slice()] {
-        let script = reading(alloc, found(alloc, bytes)?)?;
-        check(&rt, alloc, (script, 1000), (9, 499, "defgh"), read)?;
+    for (first, wait, read, calls) in TURNS {
+        let (turn, into, asked) = first_turn(alloc, system(alloc, first)?, wait)?;
+        assert_eq!(rt;
+            (turn.now, turn.draw, into.bytes()),
+            (9, 499, read.as_bytes())
+        );
+        assert_eq!(rt; turn.from.is_none(), read.is_empty());
+        assert_eq!(rt; asked.as_str(), calls);
     }
-    // the clock can't be read
-    check(
-        &rt,
-        alloc,
-        (Script::new(alloc), 0),
-        (0, 0, ""),
-        "clock, draw; ",
-    )?;
+    Ok(())
+}
+
+#[test]
+fn a_clock_that_cannot_be_read_shows_nothing(rt: HostRuntime) -> Result<(), Fail> {
+    let alloc = rt.alloc();
+    let (turn, into, asked) = first_turn(alloc, Script::new(alloc), 0)?;
+    assert_eq!(rt; (turn.now, turn.draw, into.bytes()), (0, 0, b"".as_slice()));
+    assert!(rt; turn.from.is_none());
+    assert_eq!(rt; asked.as_str(), "clock, draw; ");
     Ok(())
 }
 
 /// Sends three bytes over a port that doesn't wait, whose system answers sends like this. Returns
-/// whether they went, and checks what the port asked for.
-fn sends(
-    rt: &impl Abort,
-    alloc: Global,
-    answers: &[Result<(), ErrorKind>],
-    calls: &str,
-) -> Result<bool, Fail> {
+/// whether they went, and what the port asked for.
+fn sends(alloc: Global, answers: &[Result<(), ErrorKind>]) -> Result<(bool, String), Fail> {
     let mut script = Script::new(alloc);
     for answer in answers {
         script.sends.push_back(*answer)?;
     }
-    let mut port = UdpPort::over(MemorySystem::new(alloc, script), false);
     let mut into = Datagram::new(alloc, ROOM)?;
+    let mut port = UdpPort::over(MemorySystem::new(alloc, script), false);
     port.next(1, &mut into)?;
     let ip = Ip::V4([127, 0, 0, 1]);
     let went = port.send(Endpoint { ip, port: PEER }, b"abc");
-    let asked = shown(alloc, port.system().calls())?;
-    assert_eq!(rt; asked.as_str(), calls);
-    Ok(went)
+    Ok((went, shown(alloc, port.system().calls())?))
 }
+
+/// A send that finds no room.
+const FULL: Result<(), ErrorKind> = Err(ErrorKind::WouldBlock);
+
+/// What a port asks for that sends once, and one that sends twice.
+const ONCE: &str = "not waiting, read 5, clock, draw; send 3 to 40001, ";
+
+const TWICE: &str = "not waiting, read 5, clock, draw; send 3 to 40001, waiting, send 3 to 40001, ";
 
 #[test]
 fn a_send_without_room_is_tried_once_more(rt: HostRuntime) -> Result<(), Fail> {
     let alloc = rt.alloc();
-    let full = Err(ErrorKind::WouldBlock);
-    let once = "not waiting, read 5, clock, draw; send 3 to 40001, ";
-    assert!(rt; sends(&rt, alloc, &[], once)?);
-    assert!(rt; !sends(&rt, alloc, &[Err(ErrorKind::HostUnreachable)], once)?);
-    let twice = "not waiting, read 5, clock, draw; send 3 to 40001, waiting, send 3 to 40001, ";
-    assert!(rt; sends(&rt, alloc, &[full], twice)?);
-    assert!(rt; !sends(&rt, alloc, &[full, full], twice)?);
+    let unreachable = [Err(ErrorKind::HostUnreachable)];
+    for (answers, expected, calls) in [
+        ([].as_slice(), true, ONCE),
+        (unreachable.as_slice(), false, ONCE),
+        ([FULL].as_slice(), true, TWICE),
+        ([FULL, FULL].as_slice(), false, TWICE),
+    ] {
+        let (went, asked) = sends(alloc, answers)?;
+        assert_eq!(rt; (went, asked.as_str()), (expected, calls));
+    }
     Ok(())
 }
 
@@ -174,17 +210,23 @@ fn look<P: Port>(port: &mut P, into: &mut Datagram, turns: u64) -> Result<(), Po
     Ok(())
 }
 
+/// What a port asks for in so many silent turns, each with a wait of one millisecond.
+fn asked_in(alloc: Global, turns: u64) -> Result<String, Fail> {
+    let mut into = Datagram::new(alloc, ROOM)?;
+    let mut port = UdpPort::over(MemorySystem::new(alloc, Script::new(alloc)), false);
+    look(&mut port, &mut into, turns)?;
+    Ok(shown(alloc, port.system().calls())?)
+}
+
 #[test]
 fn the_33rd_silent_turn_waits(rt: HostRuntime) -> Result<(), Fail> {
     let alloc = rt.alloc();
-    let mut port = UdpPort::over(MemorySystem::new(alloc, Script::new(alloc)), false);
-    let mut into = Datagram::new(alloc, ROOM)?;
-    look(&mut port, &mut into, 32)?;
-    let asked = shown(alloc, port.system().calls())?;
-    assert!(rt; !asked.as_str().contains("wait "));
-    look(&mut port, &mut into, 1)?;
-    let asked = shown(alloc, port.system().calls())?;
-    assert!(rt; asked.as_str().ends_with("read 5, wait 1, clock, draw; "));
+    assert!(rt; !asked_in(alloc, 32)?.as_str().contains("wait "));
+    assert!(rt;
+        asked_in(alloc, 33)?
+            .as_str()
+            .ends_with("read 5, wait 1, clock, draw; ")
+    );
     Ok(())
 }
 
@@ -240,9 +282,9 @@ const ENDING: [ErrorKind; 32] = [
 
 /// Whether a port whose first read fails gives a tick, and doesn't end.
 fn goes_on(alloc: Global, kind: ErrorKind) -> Result<bool, Fail> {
-    let script = reading(alloc, Err(kind))?;
-    let mut port = UdpPort::over(MemorySystem::new(alloc, script), false);
+    let script = system(alloc, First::Fails(kind))?;
     let mut into = Datagram::new(alloc, ROOM)?;
+    let mut port = UdpPort::over(MemorySystem::new(alloc, script), false);
     match port.next(1000, &mut into) {
         Ok(turn) => Ok(turn.from.is_none()),
         Err(PortFault) => Ok(false),

@@ -1,17 +1,17 @@
 //! Datagrams that are as long as the limit, or longer. All of them begin with a request, so one that
 //! was cut would be taken for another request.
-ghost use Rattle.std.specs.Prelude.{◌≡◌, IfOk};
+ghost use Rattle.std.specs.Prelude.{◌≡◌, ◌<◌, ◌^◌, IfOk};
 
-use crate::loopback::{drive_for, peer};
+use crate::loopback::{LOCALHOST, address_seen, drive_for, peer};
 use crate::ports::drive_on;
 use coap_cache::ListStore;
 use coap_core::{Core, LimitValues, Limits};
 use coap_message::{OutOfMemory, Seq};
 use coap_proxyd::{Handed, MemoryPort, Port, Scripted};
-use coap_target::{Endpoint, Ip, Routes};
+use coap_target::{Endpoint, Routes};
 use coap_udp::UdpPort;
 use std::alloc::{AllocError, Global};
-use std::net::UdpSocket;
+use std::net::{IpAddr, Ipv4Addr, SocketAddr, UdpSocket};
 use std::process::Abort;
 use std::test::*;
 
@@ -29,9 +29,6 @@ const RESET: &[u8] = b"\x70\x00\x12\x34";
 /// The request that is sent on for it, up to its payload.
 const SENT_ON: [u8; 15] = *b"\x48\x02\x00\x01\0\0\0\0\0\0\0\x01\xB1t\xFF";
 
-/// An address of this host.
-const LOCALHOST: Ip = Ip::V4([127, 0, 0, 1]);
-
 /// That request in a datagram of `length` bytes.
 fn request(alloc: Global, length: usize) -> Result<Vec<u8>, AllocError> {
     let mut bytes = Vec::new(alloc);
@@ -42,16 +39,20 @@ fn request(alloc: Global, length: usize) -> Result<Vec<u8>, AllocError> {
     Ok(bytes)
 }
 
-/// A core with this limit that maps `/temp` to `/t` at an origin server. So what it sends on is
-/// shorter than what it reads.
-fn core_to(alloc: Global, origin: &str) -> Result<Core<ListStore>, Fail> {
+/// Routes that map `/temp` to `/t` at an origin server.
+fn routes_to(alloc: Global, origin: SocketAddr) -> Result<Routes, Fail> {
+    let prefix = String::from_str(alloc, "/temp")?;
+    let target = format!(in alloc; "coap://{origin}/t")?;
+    Ok(Routes::new(alloc, &[], &[], &[(prefix, target)], None)?)
+}
+
+/// A core with this limit that maps `/temp` so. So what it sends on is shorter than what it reads.
+fn core_to(alloc: Global, origin: SocketAddr) -> Result<Core<ListStore>, Fail> {
     let limits = Limits::new(LimitValues {
         datagram: LIMIT as u64,
         ..LimitValues::default()
     })?;
-    let prefix = String::from_str(alloc, "/temp")?;
-    let target = format!(in alloc; "coap://{origin}/t")?;
-    let routes = Routes::new(alloc, &[], &[], &[(prefix, target)], None)?;
+    let routes = routes_to(alloc, origin)?;
     Ok(Core::new(alloc, (), limits, routes, 1, 0)?)
 }
 
@@ -94,7 +95,8 @@ fn check(
     (length, turns): (usize, u64),
     expected: &str,
 ) -> Result<(), Fail> {
-    let mut core = core_to(alloc, "127.0.0.1:5690")?;
+    let origin = SocketAddr::new(IpAddr::V4(Ipv4Addr::from_octets([127, 0, 0, 1])), 5690);
+    let mut core = core_to(alloc, origin)?;
     let bytes = request(alloc, length)?;
     let mut port = port(alloc, &bytes)?;
     drive_on(rt, alloc, &mut core, &mut port, turns)?;
@@ -124,28 +126,44 @@ fn check_got(rt: &impl Abort, peer: &UdpSocket, expected: &[u8]) -> Result<(), F
     Ok(())
 }
 
+/// What a client sends to the address of a proxy: the length of a datagram, in bytes, then for how
+/// many turns the core is driven, each of which sends one datagram, and what the client gets.
+type Sent = (usize, u64, &'static [u8]);
+
+/// Datagrams that are too long, and one that isn't.
+const SENT: [Sent; 3] = [
+    (200, 1, RESET),
+    (LIMIT + 1, 1, RESET),
+    (LIMIT, 2, ACKNOWLEDGEMENT),
+];
+
+/// Sends these to a proxy at this address, and checks what the client gets.
+fn check_sent<P: Port>(
+    rt: &impl Abort,
+    core: &mut Core<ListStore>,
+    port: &mut P,
+    client: &UdpSocket,
+    at: (Global, SocketAddr),
+) -> Result<(), Fail>
+    requires { P.failures port.old < 2 ^ 63 }
+{
+    let (alloc, proxy) = at;
+    for (length, turns, expected) in SENT {
+        client.send_to(&request(alloc, length)?, proxy)?;
+        assert_eq!(rt; drive_for(rt, alloc, core, port, turns)?.sent, turns);
+        check_got(rt, client, expected)?;
+    }
+    Ok(())
+}
+
 #[test]
 fn no_datagram_over_a_socket_is_cut(rt: HostRuntime) -> Result<(), Fail> {
-    let alloc = rt.alloc();
-    let ip = LOCALHOST;
-    let mut port = UdpPort::bind(&rt, alloc, Endpoint { ip, port: 0 })?;
+    let (alloc, ip) = (rt.alloc(), LOCALHOST);
     let (client, origin) = (peer(&rt, "127.0.0.1:0")?, peer(&rt, "127.0.0.1:0")?);
-    let address = format!(in alloc; "{}", origin.local_addr()?)?;
-    let mut core = core_to(alloc, address.as_str())?;
-    // the client learns the address of the proxy
-    let to = client.local_addr()?.port();
-    assert!(rt; port.send(Endpoint { ip, port: to }, b"?"));
-    let (_, proxy) = client.recv_from(&mut [0; 1])?;
-
-    client.send_to(&request(alloc, 200)?, proxy)?;
-    assert_eq!(rt; drive_for(&rt, alloc, &mut core, &mut port, 1)?.sent, 1);
-    check_got(&rt, &client, RESET)?;
-    client.send_to(&request(alloc, LIMIT + 1)?, proxy)?;
-    assert_eq!(rt; drive_for(&rt, alloc, &mut core, &mut port, 1)?.sent, 1);
-    check_got(&rt, &client, RESET)?;
-    client.send_to(&request(alloc, LIMIT)?, proxy)?;
-    assert_eq!(rt; drive_for(&rt, alloc, &mut core, &mut port, 2)?.sent, 2);
-    check_got(&rt, &client, ACKNOWLEDGEMENT)?;
+    let mut core = core_to(alloc, origin.local_addr()?)?;
+    let mut port = UdpPort::bind(&rt, alloc, Endpoint { ip, port: 0 })?;
+    let proxy = address_seen(&rt, ip, &mut port, &client)?;
+    check_sent(&rt, &mut core, &mut port, &client, (alloc, proxy))?;
     // the payload is whole
     let mut sent_on = [b'x'; 125];
     sent_on[..15].copy_from_slice(&SENT_ON);

@@ -7,11 +7,14 @@ use coap_proxyd::{DriveError, Port, Stats, drive};
 use coap_target::{Endpoint, Ip, Routes};
 use coap_udp::UdpPort;
 use std::alloc::Global;
-use std::net::{Net, UdpSocket};
+use std::net::{Net, SocketAddr, UdpSocket};
 use std::process::Abort;
 use std::random::RandomSource;
 use std::test::*;
 use std::time::{Clock, Duration};
+
+/// An address of this host.
+pub(crate) const LOCALHOST: Ip = Ip::V4([127, 0, 0, 1]);
 
 /// A GET of `t` by a client, and what the origin server is sent for it.
 const GET: &[u8] = b"\x50\x01\x00\x07\xB1t";
@@ -21,12 +24,18 @@ const SENT_ON: &[u8] = b"\x48\x01\x00\x01\x00\x00\x00\x00\x00\x00\x00\x01\xB4tem
 /// Its answer, which may be stored for ten seconds.
 const ANSWER: &[u8] = b"\x68\x45\x00\x01\x00\x00\x00\x00\x00\x00\x00\x01\xD1\x01\x0A\xFF21";
 
-/// A core that maps `t` to `temp` at this origin server.
-fn core_to(alloc: Global, origin: &str) -> Result<Core<ListStore>, Fail> {
+/// Routes that map `t` to `temp` at the origin server with this socket.
+fn routes_to(alloc: Global, origin: &UdpSocket) -> Result<Routes, Fail> {
+    let address = origin.local_addr()?;
+    let prefix = String::from_str(alloc, "/t")?;
+    let target = format!(in alloc; "coap://{address}/temp")?;
+    Ok(Routes::new(alloc, &[], &[], &[(prefix, target)], None)?)
+}
+
+/// A core that maps `t` so, with the default limits.
+fn core_to(alloc: Global, origin: &UdpSocket) -> Result<Core<ListStore>, Fail> {
     let limits = Limits::new(LimitValues::default())?;
-    let prefix = format!(in alloc; "/t")?;
-    let target = format!(in alloc; "coap://{origin}/temp")?;
-    let routes = Routes::new(alloc, &[], &[], &[(prefix, target)], None)?;
+    let routes = routes_to(alloc, origin)?;
     Ok(Core::new(alloc, (), limits, routes, 1, 0)?)
 }
 
@@ -53,6 +62,57 @@ pub(crate) fn drive_for<P: Port>(
     drive(alloc, core, port, turns)
 }
 
+/// The address of a port, as a peer sees it that is sent one byte.
+pub(crate) fn address_seen<P: Port>(
+    rt: &impl Abort,
+    ip: Ip,
+    port: &mut P,
+    peer: &UdpSocket,
+) -> Result<SocketAddr, Fail>
+    ensures { P.failures port.new ≡ P.failures port.old }
+{
+    let to = peer.local_addr()?.port();
+    assert!(rt; port.send(Endpoint { ip, port: to }, b"?"));
+    let (_, from) = peer.recv_from(&mut [0; 1])?;
+    Ok(from)
+}
+
+/// Checks what a client got: the answer, with what is left of its Max-Age, or none of it.
+fn check_answer(rt: &impl Abort, bytes: &[u8]) {
+    if let [head @ .., left, marker, first, second] = bytes {
+        assert_eq!(rt; head, b"\x50\x45\x00\x02\xD1\x01".as_slice());
+        assert!(rt; *left <= 10);
+        assert_eq!(rt; [*marker, *first, *second].as_slice(), b"\xFF21".as_slice());
+    } else {
+        assert!(rt; false);
+    }
+}
+
+/// A client of a proxy at this address asks for what an origin server has.
+fn check_asked<P: Port>(
+    rt: &impl Abort,
+    core: &mut Core<ListStore>,
+    port: &mut P,
+    peers: (&UdpSocket, &UdpSocket),
+    at: (Global, SocketAddr),
+) -> Result<(), Fail>
+    requires { P.failures port.old < 2 ^ 63 }
+{
+    let ((client, origin), (alloc, proxy)) = (peers, at);
+    let mut bytes = [0; 64];
+    client.send_to(GET, proxy)?;
+    // a datagram comes, and what it leads to is sent
+    assert_eq!(rt; drive_for(rt, alloc, core, port, 2)?.sent, 1);
+    let (count, from) = origin.recv_from(&mut bytes)?;
+    assert_eq!(rt; &bytes[..count], SENT_ON);
+    origin.send_to(ANSWER, from)?;
+    assert_eq!(rt; drive_for(rt, alloc, core, port, 2)?.sent, 1);
+    let (count, from) = client.recv_from(&mut bytes)?;
+    assert!(rt; from == proxy);
+    check_answer(rt, &bytes[..count]);
+    Ok(())
+}
+
 /// Has a client ask for what an origin server at the same address has.
 fn check(
     rt: &(impl Abort + Net + Clock + RandomSource),
@@ -60,45 +120,17 @@ fn check(
     ip: Ip,
     address: &str,
 ) -> Result<(), Fail> {
-    let mut port = UdpPort::bind(rt, alloc, Endpoint { ip, port: 0 })?;
     let (client, origin) = (peer(rt, address)?, peer(rt, address)?);
-    let mut core = core_to(
-        alloc,
-        format!(in alloc; "{}", origin.local_addr()?)?.as_str(),
-    )?;
-    let mut bytes = [0; 64];
-    // the client learns the address of the proxy
-    let to = client.local_addr()?.port();
-    assert!(rt; port.send(Endpoint { ip, port: to }, b"?"));
-    let (_, proxy) = client.recv_from(&mut bytes)?;
-
-    client.send_to(GET, proxy)?;
-    // a datagram comes, and what it leads to is sent
-    assert_eq!(rt; drive_for(rt, alloc, &mut core, &mut port, 2)?.sent, 1);
-    let (count, from) = origin.recv_from(&mut bytes)?;
-    assert_eq!(rt; &bytes[..count], SENT_ON);
-    origin.send_to(ANSWER, from)?;
-    assert_eq!(rt; drive_for(rt, alloc, &mut core, &mut port, 2)?.sent, 1);
-    let (count, from) = client.recv_from(&mut bytes)?;
-    assert!(rt; from == proxy);
-    assert_eq!(rt;
-        &bytes[..count.min(6)],
-        b"\x50\x45\x00\x02\xD1\x01".as_slice()
-    );
-    // what is left of its Max-Age, or none of it
-    let left = bytes[..count].get(6).ok_or("no Max-Age")?;
-    assert!(rt; *left <= 10);
-    assert_eq!(rt;
-        bytes[..count].get(7..).ok_or("no payload")?,
-        b"\xFF21".as_slice()
-    );
-    Ok(())
+    let mut core = core_to(alloc, &origin)?;
+    let mut port = UdpPort::bind(rt, alloc, Endpoint { ip, port: 0 })?;
+    let proxy = address_seen(rt, ip, &mut port, &client)?;
+    check_asked(rt, &mut core, &mut port, (&client, &origin), (alloc, proxy))
 }
 
 #[test]
 fn a_client_is_answered_over_sockets(rt: HostRuntime) -> Result<(), Fail> {
     let alloc = rt.alloc();
-    check(&rt, alloc, Ip::V4([127, 0, 0, 1]), "127.0.0.1:0")?;
+    check(&rt, alloc, LOCALHOST, "127.0.0.1:0")?;
     let loopback = [0, 0, 0, 0, 0, 0, 0, 0, 0, 0, 0, 0, 0, 0, 0, 1];
     check(&rt, alloc, Ip::V6(loopback), "[::1]:0")
 }

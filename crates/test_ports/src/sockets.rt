@@ -1,11 +1,12 @@
 //! A port over a socket.
 ghost use Rattle.std.specs.Prelude.{◌≡◌, ◌<◌, ◌^◌, OnOk};
 
+use crate::loopback::{LOCALHOST, address_seen, peer};
 use coap_message::Datagram;
 use coap_proxyd::{Port, PortFault};
-use coap_target::{Endpoint, Ip};
+use coap_target::Endpoint;
 use coap_udp::UdpPort;
-use std::net::UdpSocket;
+use std::net::{Net, UdpSocket};
 use std::process::Abort;
 use std::test::*;
 use std::time::{Clock, Duration, Instant};
@@ -31,7 +32,7 @@ fn check<P: Port>(
 
 /// An endpoint of the loopback network.
 fn at(port: u16) -> Endpoint {
-    let ip = Ip::V4([127, 0, 0, 1]);
+    let ip = LOCALHOST;
     Endpoint { ip, port }
 }
 
@@ -61,23 +62,30 @@ fn three_draws<P: Port>(port: &mut P, into: &mut Datagram) -> Result<(u16, u16, 
     Ok((first.draw, second.draw, third.draw))
 }
 
-#[test]
-fn datagrams_come_and_go_over_a_socket(rt: HostRuntime) -> Result<(), Fail> {
-    let mut port = UdpPort::bind(&rt, rt.alloc(), at(0))?;
-    let peer = UdpSocket::bind(&rt, "127.0.0.1:0")?;
-    peer.set_read_timeout(Some(Duration::from_secs(5)))?;
+/// A peer is sent a datagram, and sends one that is longer than the buffer has room for.
+fn come_and_go<P: Port>(
+    rt: &impl Abort,
+    port: &mut P,
+    into: &mut Datagram,
+    peer: &UdpSocket,
+) -> Result<(), Fail>
+    requires { P.failures port.old < 2 ^ 63 }
+{
     let to = at(peer.local_addr()?.port());
     assert!(rt; port.send(to, b"abc"));
     let mut bytes = [0; 8];
     let (count, from) = peer.recv_from(&mut bytes)?;
     assert_eq!(rt; &bytes[..count], b"abc".as_slice());
     peer.send_to(b"defghij", from)?;
-    let mut into = Datagram::new(rt.alloc(), 5)?;
     // without a wait nothing is read; then as much as there is room for
-    check(&rt, &mut port, &mut into, 0, (None, ""))?;
-    check(&rt, &mut port, &mut into, 1000, (Some(to), "defgh"))?;
-    check(&rt, &mut port, &mut into, 1, (None, ""))?;
-    check(&rt, &mut port, &mut into, 20, (None, ""))?;
+    for (wait, expected) in [
+        (0, (None, "")),
+        (1000, (Some(to), "defgh")),
+        (1, (None, "")),
+        (20, (None, "")),
+    ] {
+        check(rt, port, into, wait, expected)?;
+    }
     // it was sent once
     peer.set_read_timeout(Some(Duration::from_millis(20)))?;
     assert!(rt; peer.recv_from(&mut bytes).is_err());
@@ -85,43 +93,74 @@ fn datagrams_come_and_go_over_a_socket(rt: HostRuntime) -> Result<(), Fail> {
 }
 
 #[test]
-fn the_address_is_the_one_that_was_asked_for(rt: HostRuntime) -> Result<(), Fail> {
-    let peer = UdpSocket::bind(&rt, "127.0.0.1:0")?;
-    peer.set_read_timeout(Some(Duration::from_secs(5)))?;
-    let probe = UdpSocket::bind(&rt, "127.0.0.1:0")?;
-    let free = probe.local_addr()?.port();
-    drop(probe);
-    let mut port = UdpPort::bind(&rt, rt.alloc(), at(free))?;
-    assert!(rt; port.send(at(peer.local_addr()?.port()), b"abc"));
-    let mut bytes = [0; 8];
-    let (_, from) = peer.recv_from(&mut bytes)?;
-    assert_eq!(rt; from.port(), free);
-    // what goes to another address of this host doesn't come
-    peer.send_to(b"no", ("127.0.0.2", free))?;
+fn datagrams_come_and_go_over_a_socket(rt: HostRuntime) -> Result<(), Fail> {
+    let peer = peer(&rt, "127.0.0.1:0")?;
     let mut into = Datagram::new(rt.alloc(), 5)?;
-    check(&rt, &mut port, &mut into, 50, (None, ""))?;
-    Ok(())
+    let mut port = UdpPort::bind(&rt, rt.alloc(), at(0))?;
+    come_and_go(&rt, &mut port, &mut into, &peer)
+}
+
+/// A port of the loopback network that is free.
+fn free_port(rt: &impl Net) -> Result<u16, Fail> {
+    let probe = UdpSocket::bind(rt, "127.0.0.1:0")?;
+    Ok(probe.local_addr()?.port())
+}
+
+/// A peer sees the address of a port, and what it sends to another address of this host doesn't
+/// come.
+fn check_address<P: Port>(
+    rt: &impl Abort,
+    port: &mut P,
+    into: &mut Datagram,
+    peer: &UdpSocket,
+    expected: u16,
+) -> Result<(), Fail>
+    requires { P.failures port.old < 2 ^ 63 }
+{
+    let from = address_seen(rt, LOCALHOST, port, peer)?;
+    assert_eq!(rt; from.port(), expected);
+    peer.send_to(b"no", ("127.0.0.2", expected))?;
+    Ok(check(rt, port, into, 50, (None, ""))?)
+}
+
+#[test]
+fn the_address_is_the_one_that_was_asked_for(rt: HostRuntime) -> Result<(), Fail> {
+    let free = free_port(&rt)?;
+    let peer = peer(&rt, "127.0.0.1:0")?;
+    let mut into = Datagram::new(rt.alloc(), 5)?;
+    let mut port = UdpPort::bind(&rt, rt.alloc(), at(free))?;
+    check_address(&rt, &mut port, &mut into, &peer, free)
+}
+
+/// How much later the second of three such turns comes than the first, and the shortest of the times
+/// that they took: a busy host may hold up some of them.
+fn timed_thrice<P: Port>(
+    rt: &(impl Abort + Clock),
+    port: &mut P,
+    into: &mut Datagram,
+) -> Result<(u64, u128), Fail>
+    requires { P.failures port.old < 2 ^ 63 }
+{
+    let (first, took) = timed(rt, port, into)?;
+    let (second, again) = timed(rt, port, into)?;
+    let (_, once_more) = timed(rt, port, into)?;
+    Ok((second.saturating_sub(first), took.min(again).min(once_more)))
 }
 
 #[test]
 fn waits_are_as_long_as_asked_for_and_the_clock_moves(rt: HostRuntime) -> Result<(), Fail> {
-    let mut port = UdpPort::bind(&rt, rt.alloc(), at(0))?;
     let mut into = Datagram::new(rt.alloc(), 5)?;
-    let (first, took) = timed(&rt, &mut port, &mut into)?;
-    let (second, again) = timed(&rt, &mut port, &mut into)?;
-    let (_, once_more) = timed(&rt, &mut port, &mut into)?;
-    // a busy host may hold up some of them
-    let shortest = took.min(again).min(once_more);
+    let mut port = UdpPort::bind(&rt, rt.alloc(), at(0))?;
+    let (between, shortest) = timed_thrice(&rt, &mut port, &mut into)?;
     assert!(rt; (20..30).contains(&shortest));
-    let between = second.saturating_sub(first);
     assert!(rt; (19..2000).contains(&between));
     Ok(())
 }
 
 #[test]
 fn draws_are_not_all_the_same(rt: HostRuntime) -> Result<(), Fail> {
-    let mut port = UdpPort::bind(&rt, rt.alloc(), at(0))?;
     let mut into = Datagram::new(rt.alloc(), 5)?;
+    let mut port = UdpPort::bind(&rt, rt.alloc(), at(0))?;
     let (first, second, third) = three_draws(&mut port, &mut into)?;
     assert!(rt; first != second || second != third);
     Ok(())
@@ -129,13 +168,12 @@ fn draws_are_not_all_the_same(rt: HostRuntime) -> Result<(), Fail> {
 
 #[test]
 fn a_peer_that_is_gone_ends_nothing(rt: HostRuntime) -> Result<(), Fail> {
-    let mut port = UdpPort::bind(&rt, rt.alloc(), at(0))?;
-    let probe = UdpSocket::bind(&rt, "127.0.0.1:0")?;
-    let gone = at(probe.local_addr()?.port());
-    drop(probe);
-    assert!(rt; port.send(gone, b"abc"));
+    let gone = at(free_port(&rt)?);
     let mut into = Datagram::new(rt.alloc(), 5)?;
-    check(&rt, &mut port, &mut into, 20, (None, ""))?;
-    check(&rt, &mut port, &mut into, 1, (None, ""))?;
+    let mut port = UdpPort::bind(&rt, rt.alloc(), at(0))?;
+    assert!(rt; port.send(gone, b"abc"));
+    for wait in [20, 1] {
+        check(&rt, &mut port, &mut into, wait, (None, ""))?;
+    }
     Ok(())
 }
