@@ -1,6 +1,6 @@
 //! Datagrams that are as long as the limit, or longer. All of them begin with a request, so one that
 //! was cut would be taken for another request.
-ghost use Rattle.std.specs.Prelude.{◌≡◌, ◌<◌, ◌^◌, IfOk};
+ghost use Rattle.std.specs.Prelude.{◌≡◌, ◌<◌, ◌^◌, IfOk, OnOk};
 
 use crate::loopback::{LOCALHOST, address_seen, drive_for, peer};
 use crate::ports::drive_on;
@@ -126,34 +126,52 @@ fn check_got(rt: &impl Abort, peer: &UdpSocket, expected: &[u8]) -> Result<(), F
     Ok(())
 }
 
-/// What a client sends to the address of a proxy: the length of a datagram, in bytes, then for how
-/// many turns the core is driven, each of which sends one datagram, and what the client gets.
+/// A client, and the address of the proxy that it asks.
+#[derive(Clone, Copy)]
+struct Client<'a> {
+    alloc: Global,
+    socket: &'a UdpSocket,
+    proxy: SocketAddr,
+}
+
+/// The length of the datagram that a client sends, in bytes, then how many turns the core does, each
+/// of which sends one datagram, and what the client gets.
 type Sent = (usize, u64, &'static [u8]);
 
-/// Datagrams that are too long, and one that isn't.
-const SENT: [Sent; 3] = [
-    (200, 1, RESET),
-    (LIMIT + 1, 1, RESET),
-    (LIMIT, 2, ACKNOWLEDGEMENT),
-];
-
-/// Sends these to a proxy at this address, and checks what the client gets.
+/// Checks what a client gets for a datagram.
 fn check_sent<P: Port>(
     rt: &impl Abort,
     core: &mut Core<ListStore>,
     port: &mut P,
-    client: &UdpSocket,
-    at: (Global, SocketAddr),
+    client: Client<'_>,
+    sent: Sent,
+) -> Result<(), Fail>
+    requires { P.failures port.old < 2 ^ 63 }
+    ensures { OnOk result (P.failures port.new ≡ P.failures port.old) }
+{
+    let Client {
+        alloc,
+        socket,
+        proxy,
+    } = client;
+    let (length, turns, expected) = sent;
+    socket.send_to(&request(alloc, length)?, proxy)?;
+    assert_eq!(rt; drive_for(rt, alloc, core, port, turns)?.sent, turns);
+    check_got(rt, socket, expected)
+}
+
+/// Checks what a client gets for datagrams that are too long, and for one that isn't.
+fn check_lengths<P: Port>(
+    rt: &impl Abort,
+    core: &mut Core<ListStore>,
+    port: &mut P,
+    client: Client<'_>,
 ) -> Result<(), Fail>
     requires { P.failures port.old < 2 ^ 63 }
 {
-    let (alloc, proxy) = at;
-    for (length, turns, expected) in SENT {
-        client.send_to(&request(alloc, length)?, proxy)?;
-        assert_eq!(rt; drive_for(rt, alloc, core, port, turns)?.sent, turns);
-        check_got(rt, client, expected)?;
-    }
-    Ok(())
+    check_sent(rt, core, port, client, (200, 1, RESET))?;
+    check_sent(rt, core, port, client, (LIMIT + 1, 1, RESET))?;
+    check_sent(rt, core, port, client, (LIMIT, 2, ACKNOWLEDGEMENT))
 }
 
 #[test]
@@ -162,8 +180,12 @@ fn no_datagram_over_a_socket_is_cut(rt: HostRuntime) -> Result<(), Fail> {
     let (client, origin) = (peer(&rt, "127.0.0.1:0")?, peer(&rt, "127.0.0.1:0")?);
     let mut core = core_to(alloc, origin.local_addr()?)?;
     let mut port = UdpPort::bind(&rt, alloc, Endpoint { ip, port: 0 })?;
-    let proxy = address_seen(&rt, ip, &mut port, &client)?;
-    check_sent(&rt, &mut core, &mut port, &client, (alloc, proxy))?;
+    let client = Client {
+        alloc,
+        socket: &client,
+        proxy: address_seen(&rt, ip, &mut port, &client)?,
+    };
+    check_lengths(&rt, &mut core, &mut port, client)?;
     // the payload is whole
     let mut sent_on = [b'x'; 125];
     sent_on[..15].copy_from_slice(&SENT_ON);
