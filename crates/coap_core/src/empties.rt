@@ -2,7 +2,7 @@
 //! answer (RFC 7252, 4.2 and 4.3).
 ghost use Rattle.std.specs.Prelude.{◌≡◌, true, is_some};
 ghost use Rattle.coap_exchange.specs.Table.{item_at};
-ghost use Rattle.coap_forward.specs.Messages.{is_bare, is_rst};
+ghost use Rattle.coap_forward.specs.Messages.{is_bare};
 ghost use Rattle.coap_model.specs.Empties.{acknowledges, closes, on_client, on_exchange, on_empty};
 ghost use Rattle.coap_model.specs.History.{grown_of};
 ghost use Rattle.coap_core.specs.Arrivals.{of_arrival, of_grown};

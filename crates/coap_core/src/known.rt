@@ -1,6 +1,6 @@
 //! Messages that came before, and what is sent at once for those that are new (RFC 7252, 4.2, 4.3
 //! and 4.5).
-ghost use Rattle.std.specs.Prelude.{◌≡◌, ◌≤◌, true, length, Some, is_some, IfOk, IfSome, OnOk, OnErr};
+ghost use Rattle.std.specs.Prelude.{◌≡◌, ◌≤◌, length, Some, is_some, IfOk, IfSome, OnOk, OnErr};
 ghost use Rattle.coap_message.specs.Datagram.{holding};
 ghost use Rattle.coap_message.specs.Spelling.{spelling};
 ghost use Rattle.coap_message.specs.declared.message.Head.{Head};

@@ -1,5 +1,5 @@
 //! What a request asks for: its target, before anything of it is kept, and its cache key.
-ghost use Rattle.std.specs.Prelude.{◌≡◌, IfOk, OnOk, is_some};
+ghost use Rattle.std.specs.Prelude.{◌≡◌, OnOk, is_some};
 ghost use Rattle.coap_option.specs.Selection.{tags_of};
 ghost use Rattle.coap_model.specs.Keys.{request_key};
 ghost use Rattle.coap_core.specs.Forms.{seen};

@@ -16,7 +16,7 @@ ghost use Rattle.coap_model.specs.Requests.{lacks_id, refuses, overloads, next_t
 ghost use Rattle.coap_model.specs.State.{can_reply, later, remembers, takes_up};
 ghost use Rattle.coap_core.specs.Arrivals.{of_arrival};
 ghost use Rattle.coap_core.specs.Forms.{seen};
-ghost use Rattle.coap_core.specs.Steps.{Does, IsDone, CanGoOn, CanRemember, CanAsk, CanReplyTo, CanStep, IsAsked, IsForwardable, IsMissed, held_for, joinable_step, missed_step, needing_step, opening_step, verdict_seen, wants_memory};
+ghost use Rattle.coap_core.specs.Steps.{IsDone, CanGoOn, CanRemember, CanAsk, CanReplyTo, CanStep, IsAsked, IsForwardable, IsMissed, held_for, joinable_step, missed_step, needing_step, opening_step, verdict_seen, wants_memory};
 ghost use Rattle.coap_core.specs.Storing.{taken_up_bytes};
 ghost use Rattle.coap_core.specs.declared.requests.Verdict.TheVariants as verdicts;
 

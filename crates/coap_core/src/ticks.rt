@@ -1,5 +1,5 @@
 //! The step of a tick: what is due is done, one item at a time (RFC 7252, 4.2 and 4.7).
-ghost use Rattle.std.specs.Prelude.{◌≡◌, ◌≤◌, ◌<◌, ◌^◌, true, false, nat_le, length, is_some, option_map, IfOk, IfSome, OnOk, OnErr};
+ghost use Rattle.std.specs.Prelude.{◌≡◌, ◌≤◌, ◌<◌, ◌^◌, true, false, nat_le, length, is_some, option_map, IfSome, OnOk, OnErr};
 ghost use Rattle.coap_exchange.specs.Exchanges.{deadline, is_done, is_queued, IsDue};
 ghost use Rattle.coap_exchange.specs.Table.{item_at};
 ghost use Rattle.coap_message.specs.Datagram.{holding};

@@ -72,10 +72,6 @@ found-at first index rs k m apart are few number =
     let here : (m + (2 ^ 64 - first)) % 2 ^ 64 ≡ i = omega arith in
     ap (slice_get rs) here ∙ at
 
--- an index with the same numbers serves as well
-pub AreNumbered-kept : (first : ℕ) (old new : Index) (rs : List Record) → ((k : Key) → get same_key new k ≡ get same_key old k) → AreNumbered first old rs → AreNumbered first new rs
-AreNumbered-kept first old new rs same are = record { origin = are.origin; is_first = are.is_first; numbered = λ k. same k ∙ are.numbered k }
-
 -- one more record gets the next number
 pub AreNumbered-push : (first : ℕ) (index new : Index) (rs : List Record) (x : Record) (next : ℕ) → AreNumbered first index rs → next ≡ (first + length rs) % 2 ^ 64 → ((k : Key) → get same_key new k ≡ cond (same_key (key_of x) k) (Some next) (get same_key index k)) → AreNumbered first new (rs ++ x ∷ [])
 AreNumbered-push first index new rs x next are is_next puts = record {

@@ -1,9 +1,9 @@
 -- How many items pass a test, and what holds of all, as items come, change and go.
-use Rattle.std.proofs.Common.{◌≡◌, ℕ, ◌+◌, ◌≤◌, List, [], ◌∷◌, ◌++◌, length, Bool, true, false, cond, eqb, Option, Some, None, refl, sym, arith}
+use Rattle.std.proofs.Common.{◌≡◌, ℕ, ◌+◌, ◌≤◌, List, [], ◌∷◌, ◌++◌, length, Bool, true, false, cond, eqb, Some, refl, sym, arith}
 use Rattle.std.specs.Prelude.{not, IfSome}
 use Rattle.std.specs.List.{AllByRecursion}
 use Rattle.std.proofs.lemmas.Bool.{eqb-true, eqb-false, eq-eqb, ne_eqb}
-use Rattle.coap_exchange.specs.Table.{Numbered, Table, IsRising, IsTable, item_at, without, changed_at, all_changed, count, passes}
+use Rattle.coap_exchange.specs.Table.{Numbered, IsRising, item_at, without, changed_at, all_changed, count, passes}
 use Rattle.coap_exchange.proofs.Changes.{changed_at-below}
 use Rattle.coap_exchange.proofs.Tables.{none-below}
 

@@ -6,7 +6,7 @@ use Rattle.std.proofs.lemmas.Bool.{eqb-true, eqb-false, eq-eqb, ne_eqb}
 use Rattle.coap_exchange.specs.declared.exchange.Exchange.{Exchange}
 use Rattle.coap_exchange.specs.declared.index.Index.{Index}
 use Rattle.coap_exchange.specs.Index.{got_of, id_of, opening_of, end_of, queue_of, cache_key_of, target_of, key_at, keys_at, AreIndexed, CanRekey, CanRekeyAll, HasRekeyed, HaveRekeyed, IsIndexOf}
-use Rattle.ordered_index.specs.Ordered.{OrderedIndex, empty_index, is_in, is_key, one_of}
+use Rattle.ordered_index.specs.Ordered.{OrderedIndex, is_in, is_key, one_of}
 use Rattle.coap_exchange.specs.Table.{Numbered, Table, IsRising, IsTable, item_at, admitted_to, without, withdrawn_at, withdrawn, changed_at, count, passes}
 use Rattle.coap_exchange.proofs.Counts.{one_if, count-length, count-push, count-moved, count-without}
 use Rattle.coap_exchange.proofs.Tables.{without-gone, without-others}

@@ -22,7 +22,7 @@ use Rattle.coap_exchange.specs.SendQueue.{head_at, head_in, endpoint_in, noted, 
 use Rattle.coap_exchange.proofs.Apart.{apart-fewer, rising-apart}
 use Rattle.coap_exchange.proofs.Counts.{count-all_changed}
 use Rattle.coap_exchange.proofs.Dues.{IsDueIn, first_due-is}
-use Rattle.coap_exchange.proofs.Heads.{IsAt, head-is, head-there, heads-moved, heads-same, replaced-fewer, replaced-free, replaced-there, that-same}
+use Rattle.coap_exchange.proofs.Heads.{IsAt, head-is, head-there, heads-moved, heads-same, replaced-fewer, replaced-free, that-same}
 use Rattle.coap_exchange.proofs.Indexing.{Moves, changed-at, moves-admitted, push-at}
 use Rattle.coap_exchange.proofs.EndpointCounting.{queued-taint, sent-taint}
 use Rattle.coap_exchange.proofs.Sooner.{same_first, sooner_left}

@@ -14,14 +14,13 @@ use Rattle.coap_endpoint.specs.declared.target.Target.{Target}
 use Rattle.coap_exchange.specs.declared.exchange.ExchangeState.{ExchangeState}
 use Rattle.coap_exchange.specs.declared.exchange.ExchangeState.TheVariants.{Queued, Sent, Acked, Done}
 use Rattle.coap_exchange.specs.declared.exchange.Sending.{Sending}
-use Rattle.coap_exchange.specs.declared.timer.Timer.{Timer}
 use Rattle.coap_exchange.specs.Exchanges.{acked, answer_in_state, answer_of, fired_exchange, is_changed_with, is_queued, is_queued_state, is_sent, is_sent_state, sent, tainted_by}
 use Rattle.coap_exchange.specs.Index.{got_of, key_at, IsIndexOf}
 use Rattle.coap_exchange.specs.WaiterIndex.{answered_of}
 use Rattle.coap_exchange.specs.Ready.{ready_at, ready_in, ready_of, AreReady, Tables}
 use Rattle.ordered_index.specs.Ordered.{Pair, OrderedIndex, is_in, is_key, is_pair, is_some_pair, one_of, AreRising, IsLeast, IsNextOf, IsReplaced}
 use Rattle.coap_exchange.specs.Table.{Numbered, Table, IsRising, IsTable, item_at, admitted_to, all_changed, changed_at, first_that, passes, withdrawn, withdrawn_at}
-use Rattle.coap_exchange.specs.Waiters.{awaited_by, delivered, exchange_of, fired_state, fired_waiter, moment_of, waits_for, waits_in_state}
+use Rattle.coap_exchange.specs.Waiters.{awaited_by, exchange_of, fired_state, fired_waiter, moment_of, waits_for, waits_in_state}
 use Rattle.coap_exchange.proofs.Apart.{AreApart, apart-fewer, rising-apart}
 use Rattle.coap_exchange.proofs.Answering.{answered-waits, waits-answered}
 use Rattle.coap_exchange.proofs.Dues.{IsDueIn, first_due-is}

@@ -1,6 +1,5 @@
 -- One item of a table changes or goes: what follows for the table, and for what is kept beside it.
-use Rattle.std.proofs.Common.{◌≡◌, ℕ, ◌+◌, ◌-◌, Bool, true, false, eqb, List, Option, Some, None, refl, sym, ap, ◌∙◌, arith}
-use Rattle.std.specs.Prelude.{IfSome}
+use Rattle.std.proofs.Common.{◌≡◌, ℕ, ◌+◌, ◌-◌, Bool, false, eqb, List, Option, Some, None, refl, ap, arith}
 use Rattle.coap_endpoint.specs.declared.endpoint.Endpoint.{Endpoint}
 use Rattle.coap_exchange.specs.declared.exchange.Exchange.{Exchange}
 use Rattle.coap_exchange.specs.declared.exchange.Change.{Change}
@@ -10,7 +9,7 @@ use Rattle.coap_exchange.specs.Exchanges.{changed_by, is_queued, is_sent_to, Are
 use Rattle.coap_exchange.specs.SendQueue.{endpoint_in}
 use Rattle.coap_exchange.specs.Table.{Numbered, Table, IsTable, count, item_at, passes}
 use Rattle.coap_exchange.specs.Updates.{leaver, updated, updated_at, Allows}
-use Rattle.coap_exchange.proofs.ByClient.{client-after, of_clients-changed, of_clients-without, whose, within-changed, within-without}
+use Rattle.coap_exchange.proofs.ByClient.{of_clients-changed, of_clients-without, whose, within-changed, within-without}
 use Rattle.coap_exchange.proofs.Changes.{changed_at-is}
 use Rattle.coap_exchange.proofs.Counts.{one_if}
 use Rattle.coap_exchange.proofs.Heads.{IsAt}

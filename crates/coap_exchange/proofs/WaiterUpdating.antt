@@ -1,7 +1,6 @@
 -- One waiter changes or goes: what follows for what is kept beside the table.
-use Rattle.std.proofs.Common.{◌≡◌, ℕ, ◌+◌, ◌^◌, ◌≤◌, List, Bool, true, false, Option, Some, None, refl, sym, ap, ◌∙◌, arith}
+use Rattle.std.proofs.Common.{◌≡◌, ℕ, ◌+◌, List, false, Option, Some, None, refl, ap, ◌∙◌, arith}
 use Rattle.std.specs.Prelude.{IfSome}
-use Rattle.std.specs.Option.{option_map}
 use Rattle.ordered_index.specs.Ordered.{Pair}
 use Rattle.coap_exchange.specs.declared.waiter.Waiter.{Waiter}
 use Rattle.coap_exchange.specs.declared.waiter.WaiterChange.{WaiterChange}
@@ -10,9 +9,9 @@ use Rattle.coap_exchange.specs.declared.waiter.WaiterState.{WaiterState}
 use Rattle.coap_exchange.specs.declared.waiter.WaiterState.TheVariants.{Waiting, Delivering}
 use Rattle.coap_exchange.specs.Ready.{Tables}
 use Rattle.coap_exchange.specs.Table.{Numbered, Table, IsTable, count, item_at, passes}
-use Rattle.coap_exchange.specs.Tally.{AreTallied, AreWaiters}
+use Rattle.coap_exchange.specs.Tally.{AreWaiters}
 use Rattle.coap_exchange.specs.Updates.{updated, updated_at, Allows}
-use Rattle.coap_exchange.specs.Waiters.{awaited_by, changed_by, exchange_of, fired_state, fired_waiter, is_waiting, is_waiting_state, AreShort, CanChange, CanUpdate, HasEnded, IsDue}
+use Rattle.coap_exchange.specs.Waiters.{awaited_by, changed_by, exchange_of, fired_state, is_waiting, is_waiting_state, AreShort, CanChange, CanUpdate, HasEnded}
 use Rattle.coap_exchange.proofs.Counts.{one_if}
 use Rattle.coap_exchange.proofs.Readying.{AreElsewhere, WaitsAt, waiter-elsewhere, waits-its}
 use Rattle.coap_exchange.proofs.Updating.{moves-updated, updated-at, updated-others}

@@ -1,5 +1,5 @@
 //! Whose turn it is to be sent.
-ghost use Rattle.std.specs.Prelude.{◌≡◌, ◌+◌, ◌<◌, ◌≤◌, [], true, length, IfOk, IfSome, OnOk, OnErr};
+ghost use Rattle.std.specs.Prelude.{◌≡◌, ◌<◌, [], true, IfOk};
 ghost use Rattle.std.specs.Option.{option_copied};
 ghost use Rattle.coap_exchange.specs.Index.{AreIndexed};
 ghost use Rattle.coap_exchange.specs.Endpoints.{AreCounted};

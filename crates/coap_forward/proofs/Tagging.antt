@@ -10,8 +10,7 @@ use Rattle.coap_message.specs.declared.code.TheConstants.Code.{GET}
 use Rattle.coap_message.specs.declared.options.Opt.{Opt}
 use Rattle.coap_message.specs.Options.{option_of}
 use Rattle.coap_message.specs.Message.{Message}
-use Rattle.coap_message.specs.Spelling.{spelling, more_length, options_length}
-use Rattle.coap_message.proofs.Spellings.{spelling-length}
+use Rattle.coap_message.specs.Spelling.{more_length, options_length}
 use Rattle.coap_option.specs.declared.side.Side.{Side}
 use Rattle.coap_option.specs.declared.side.Side.TheVariants.{Request, Response}
 use Rattle.coap_option.specs.Places.{PlacedOption, places}
@@ -26,7 +25,7 @@ use Rattle.coap_store.specs.Showing.{is_content}
 use Rattle.coap_forward.specs.Forms.{is_used_up, goes_on, put_in, merged, target_options, tagged, forwarded, form_fits, tag_if_fits, tag_to_send, tag_for}
 use Rattle.coap_forward.specs.Gaps.{given}
 use Rattle.coap_forward.specs.Messages.{is_get}
-use Rattle.coap_forward.proofs.Forms.{All-target, IsTag, IsShortTag, filter-put_in, in_key, sent-screened}
+use Rattle.coap_forward.proofs.Forms.{All-target, IsTag, filter-put_in, in_key, sent-screened}
 use Rattle.coap_forward.proofs.Values.{counts, values-placed}
 
 -- ---- tags are recognised
@@ -144,15 +143,6 @@ module _ (o p : Opt) (differ : eqb p.number o.number ≡ false) where
 target-untagged : (t : Target) → AllByRecursion (λ o. eqb o.number 4 ≡ false) (target_options t)
 target-untagged t = All-target (λ n. eqb n 4 ≡ false) refl refl refl refl refl t
 
--- so the tag may be put in last
-pub merged-tagged : (t : Target) (tag : Option (List ℕ)) (others : List Opt) → merged (target_options t) (tagged tag others) ≡ tagged tag (merged (target_options t) others)
-merged-tagged t None others = refl
-merged-tagged t (Some v) others = go (target_options t) (target-untagged t)
-  where
-    go : (os : List Opt) → AllByRecursion (λ o. eqb o.number 4 ≡ false) os → merged os (put_in (option_of 4 v) others) ≡ put_in (option_of 4 v) (merged os others)
-    go [] differ = refl
-    go (o ∷ os) differ = ap (put_in o) (go os differ.1) ∙ put_in-swap (option_of 4 v) o differ.0 (merged os others)
-
 -- ---- the key
 
 -- it has no part in the key of a GET
@@ -233,9 +223,3 @@ put-length v short before (p ∷ ps) le = go (leb 4 p.number) refl (λ low. put-
         → options_length before (cond b (option_of 4 v ∷ p ∷ ps) (p ∷ put_in (option_of 4 v) ps)) ≤ options_length before (p ∷ ps) + 9
     go true e rest = omega (arith, none-more (4 - before) (omega arith), none-more (length v) (omega arith), more-less (p.number - 4) (p.number - before) (omega arith))
     go false e rest = let low = leb-false 4 p.number e in omega (arith, rest (omega arith))
-
--- so the request that is sent on is at most nine bytes longer with the tag
-pub length-tagged : (token : List ℕ) (t : Target) (tag : Option (List ℕ)) (m : Message) (id : ℕ) → IsShortTag tag → length (spelling (forwarded token t tag m id)) ≤ length (spelling (forwarded token t None m id)) + 9
-length-tagged token t None m id short = omega arith
-length-tagged token t (Some v) m id short =
-    omega (arith, spelling-length (forwarded token t (Some v) m id), spelling-length (forwarded token t None m id), ap (options_length 0) (merged-tagged t (Some v) (sent_on m)), put-length v short 0 (merged (target_options t) (sent_on m)) (omega arith))

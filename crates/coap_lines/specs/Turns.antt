@@ -7,7 +7,6 @@ use Rattle.coap_uri.specs.Address.{IsIp}
 use Rattle.coap_model.specs.Events.{Event, event_given}
 use Rattle.coap_model.specs.Events.Event.{arrival, tick}
 use Rattle.coap_model.specs.Runs.{Turn}
-use Rattle.coap_endpoint.specs.declared.endpoint.Endpoint.{Endpoint}
 use Rattle.coap_lines.specs.declared.reading.turn.Turn.{Turn as TurnRead}
 use Rattle.coap_message.specs.Reading.{◌>>=◌}
 use Rattle.coap_lines.specs.Texts.{cut, has, line_feed, space}

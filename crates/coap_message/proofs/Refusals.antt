@@ -120,13 +120,6 @@ version_only bytes = (version_is bytes, λ p. is_version bytes p.0 p.1)
 
 -- ---- and those of a decoder
 
--- a decoder that refuses as reading does is right
-pub Decodes-err : (refused : DecodeError) (bytes : List ℕ) → read_message bytes ≡ Err refused → Decodes (Err refused) (read_message bytes)
-Decodes-err errors.Short bytes e = e
-Decodes-err errors.Version bytes e = e
-Decodes-err errors.Format bytes e = e
-Decodes-err errors.OutOfMemory bytes e = absurd (never_memory bytes e)
-
 -- what is read is some message
 is_ok : (r : Result Message DecodeError) → IsOk r → (m : Message) × (r ≡ Ok m)
 is_ok (Ok m) h = (m, refl)

@@ -1,8 +1,8 @@
 -- Options from a number on, the values of those of one number, and runs of them that are spelled as pieces are.
-use Rattle.std.proofs.Common.{◌≡◌, ◌==◌, ℕ, ◌+◌, ◌/◌, ◌%◌, ◌<◌, ◌≤◌, false, ltb, Some, None, List, [], ◌∷◌, ◌++◌, length, map, take, drop, refl, sym, ap, subst, ◌∙◌, append_assoc, arith, eq-eqb, inl, inr}
+use Rattle.std.proofs.Common.{◌≡◌, ◌==◌, ℕ, ◌+◌, ◌/◌, ◌%◌, ◌<◌, ◌≤◌, false, ltb, Some, None, List, [], ◌∷◌, ◌++◌, length, map, refl, sym, ap, subst, ◌∙◌, append_assoc, arith, eq-eqb, inl, inr}
 use Rattle.std.specs.List.{AllByRecursion}
 use Rattle.std.proofs.lemmas.Bool.{cases_lt, lt-ltb, le-ltb, ne_eqb}
-use Rattle.std.proofs.lemmas.List.{append-nil, length-append, length-take, take-append-drop, take_at, drop_at}
+use Rattle.std.proofs.lemmas.List.{append-nil, length-append, take_at, drop_at}
 use Rattle.coap_message.specs.declared.options.Opt.{Opt}
 use Rattle.coap_message.specs.Options.{AreOptions, from_number, last_number, option_of, values_of}
 use Rattle.coap_message.specs.Pieces.{length_spelling, pieces_of, pieces_spelling, SpellPieces}
@@ -138,16 +138,6 @@ run-options n bytes front rest small run s =
     let read = run-read n (pieces_of front) rest small run.short (subst (SpellOptions n) parts s) in
     (ap (λ (l : List ℕ). values_of n (options_of n l)) parts ∙ ap (values_of n) read.0 ∙ values-pieces n (pieces_of front) (options_of n rest), read.1)
 
--- a value after its length is one of a run
-pub short-piece : (bytes behind : List ℕ) (len : ℕ) → bytes ≡ len ∷ behind → len < 13 → len ≤ length behind → ShortPiece bytes (drop len behind)
-short-piece bytes behind len parts short within =
-    let same : length (take len behind) ≡ len = omega (arith, length-take len behind) in
-    record {
-      piece = take len behind;
-      short = omega arith;
-      parts = parts ∙ ap (λ (l : List ℕ). len ∷ l) (sym (take-append-drop len behind)) ∙ ap (λ (k : ℕ). k ∷ (take len behind ++ drop len behind)) (sym same);
-    }
-
 -- what was passed is a run
 pub record IsRun (bytes rest : List ℕ) : Type 0 where
   pub front : List ℕ
@@ -176,14 +166,6 @@ IsRun-step bytes rest behind one is =
         short = subst (AllByRecursion (λ p. length p < 13)) (sym more.read) (All-both (pieces_of is.front) (pieces_of (length one.piece ∷ one.piece)) is.run.short (subst (AllByRecursion (λ p. length p < 13)) (sym alone) (one.short, tt)));
       };
     }
-
--- a run and what stands after it, cut apart
-pub run-cut : (bytes rest : List ℕ) (k : ℕ) → IsRun bytes rest → k + length rest ≡ length bytes → ShortRun bytes (take k bytes) (drop k bytes)
-run-cut bytes rest k is count =
-    let len : length is.front ≡ k = omega (arith, ap length is.run.parts, length-append is.front rest) in
-    let front : take k bytes ≡ is.front = ap (take k) is.run.parts ∙ take_at is.front rest k len in
-    let behind : drop k bytes ≡ rest = ap (drop k) is.run.parts ∙ drop_at is.front rest k len in
-    rw (front, behind) is.run
 
 -- ---- values that are added to a list
 

@@ -1,8 +1,8 @@
 //! Reading a message from bytes (RFC 7252, 3).
-ghost use Rattle.std.specs.Prelude.{◌≡◌, ◌≢◌, ◌<◌, ◌≤◌, IfSome, IsSome, IfOk, Some, length, option_map, ◌↔◌, MatchResult, Ok, Err};
+ghost use Rattle.std.specs.Prelude.{◌≡◌, ◌≢◌, ◌<◌, ◌≤◌, IfSome, IfOk, Some, length, option_map, ◌↔◌, MatchResult, Ok, Err};
 ghost use Rattle.coap_message.specs.Message.{Message};
 ghost use Rattle.coap_message.specs.Spelling.{Spells, SpellsNone, IsVersionOne};
-ghost use Rattle.coap_message.specs.Reading.{extended, option_at, option_behind, option_cut, begins_option, payload_at, options_at, body_at, body_behind, read_message, header_at, head_at, Decodes};
+ghost use Rattle.coap_message.specs.Reading.{extended, option_at, option_behind, option_cut, begins_option, payload_at, body_at, body_behind, read_message, header_at, head_at, Decodes};
 ghost use Rattle.coap_message.specs.Parsing.{parsed, body_of};
 
 use crate::code::Code;

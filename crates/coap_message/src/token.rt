@@ -1,5 +1,5 @@
 //! Tokens (RFC 7252, 5.3.1).
-ghost use Rattle.std.specs.Prelude.{◌≡◌, ◌≤◌, ◌++◌, [], replicate, length, ◌-◌};
+ghost use Rattle.std.specs.Prelude.{◌≡◌, ◌≤◌, [], length, ◌-◌};
 
 use std::marker::Model;
 

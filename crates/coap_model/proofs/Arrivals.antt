@@ -1,5 +1,5 @@
 -- An event brings at most one message.
-use Rattle.std.proofs.Common.{◌≡◌, ℕ, false, List, Option, Some, refl, sym, ap, ◌∙◌}
+use Rattle.std.proofs.Common.{◌≡◌, ℕ, false, List, Option, Some, sym, ap, ◌∙◌}
 use Rattle.std.proofs.lemmas.Option.{same_Some}
 use Rattle.coap_message.specs.declared.kind.Kind.{Kind}
 use Rattle.coap_message.specs.declared.message.Head.{Head}
@@ -11,17 +11,12 @@ use Rattle.coap_model.specs.Events.{Event, arrival, tick}
 use Rattle.std.specs.Option.{option_map_or}
 use Rattle.coap_model.specs.Setting.{Setting}
 use Rattle.coap_forward.specs.Messages.{is_con}
-use Rattle.coap_model.specs.Justified.{Comes}
 use Rattle.coap_model.specs.History.{Brings, comes_con, IsRequestOf}
-use Rattle.coap_model.proofs.Places.{arrival-same, one-brought}
+use Rattle.coap_model.proofs.Places.{arrival-same}
 
 -- an arrival isn't a tick
 pub no_tick : {A : Type 0} {event : Event} {source : Endpoint} {bytes : List ℕ} → event ≡ arrival source bytes → event ≡ tick → A
 no_tick came ticked = absurd (let e = sym came ∙ ticked in cc)
-
--- two messages of the same event have the same type
-pub one_kind : {event : Event} {most : ℕ} {a b : Endpoint} {m n : Message} → Brings most a m event → Brings most b n event → m.kind ≡ n.kind
-one_kind p q = ap (λ (k : Message). k.kind) (one-brought p q).1
 
 -- a message has the type of its head
 pub head_kind : {event : Event} {most : ℕ} {a b : Endpoint} {m : Message} {head : Head} {ys : List ℕ} → Brings most a m event → event ≡ arrival b ys → head_at ys ≡ Some head → m.kind ≡ head.kind
@@ -34,10 +29,6 @@ head_kind {a = a} {b = b} {m = m} {head = head} {ys = ys} p came is =
 -- so it has no other type
 pub kinds : {A : Type 0} {m n k l : Kind} → m ≡ n → m ≡ k → n ≡ l → (k ≡ l → ⊥) → A
 kinds same m_is n_is other = absurd (other (sym m_is ∙ same ∙ n_is))
-
--- a request is remembered
-pub request_comes : {setting : Setting} {client : Endpoint} {m : Message} {event : Event} → IsRequestOf setting client m event → Comes setting client m event
-request_comes {m = m} r = record { brings = r.brings; recorded = rw (r.kind, r.method) refl }
 
 -- a request is Confirmable if its datagram is
 pub request_con : {setting : Setting} {client : Endpoint} {m : Message} {event : Event} → IsRequestOf setting client m event → comes_con event ≡ is_con m.kind

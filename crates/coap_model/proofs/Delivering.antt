@@ -40,7 +40,7 @@ use Rattle.coap_model.specs.Ticks.{item_due, if_due, without_idle, given_to, tel
 use Rattle.coap_model.specs.Schedules.{IsSchedule, sends_by}
 use Rattle.coap_model.specs.History.{Entry, serves, moves, Deed, Place, IsPlaceOf, Never, admits_one, ends, Ends, Serves, is_con_datagram}
 use Rattle.coap_model.specs.Standing as stages
-use Rattle.coap_model.specs.Standing.{Standing, Open, awaited, standing_in, open_in}
+use Rattle.coap_model.specs.Standing.{awaited, standing_in}
 use Rattle.coap_model.specs.Due.{IsToServe}
 use Rattle.coap_model.specs.Justified.{EndsWith, verdict_on}
 use Rattle.coap_model.specs.Runs.{entry_of}

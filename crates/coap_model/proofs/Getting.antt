@@ -1,9 +1,8 @@
 -- When an answer arrives, and as what the proxy's own answer is sent.
 use Rattle.std.proofs.Common.{◌≡◌, ℕ, ◌≤◌, Bool, true, false, cond, List, length, Option, Some, None, refl, arith}
 use Rattle.coap_message.specs.Message.{Message}
-use Rattle.coap_message.specs.Spelling.{IsMessage, spelling}
+use Rattle.coap_message.specs.Spelling.{IsMessage}
 use Rattle.coap_message.specs.declared.code.TheConstants.Code.{GATEWAY_TIMEOUT}
-use Rattle.coap_message.proofs.Spellings.{spelling-length}
 use Rattle.std.specs.Prelude.{◌&&◌, not}
 use Rattle.coap_forward.specs.Messages.{is_rst}
 use Rattle.coap_forward.specs.Answers.{fits, validates, taken_of, is_passed_on, bad_gateway, own_answer, origin_answer, answer_if_fits, validated, gateway_timeout, answer_of, shown}
@@ -35,7 +34,3 @@ got-is most now to_get copy m = go (not (is_rst m.kind) && is_passed_on most to_
 -- a 5.04 as it is sent is a message
 pub timeout-is : (now got id : ℕ) (token : List ℕ) (tags : List (List ℕ)) → length token ≤ 8 → IsMessage (shown now (own_answer got gateway_timeout) id token tags)
 timeout-is now got id token tags short = own_reply-is GATEWAY_TIMEOUT _ id token (λ e. absurd (omega arith)) tt short
-
--- and it fits a datagram
-pub timeout-fits : (now got id longest : ℕ) (token : List ℕ) (tags : List (List ℕ)) → length token ≤ 8 → 128 ≤ longest → length (spelling (shown now (own_answer got gateway_timeout) id token tags)) ≤ longest
-timeout-fits now got id longest token tags short wide = omega (arith, wide, short, spelling-length (shown now (own_answer got gateway_timeout) id token tags))

@@ -6,7 +6,7 @@ use Rattle.coap_endpoint.specs.declared.endpoint.Endpoint.{Endpoint}
 use Rattle.coap_model.specs.Setting.{Setting}
 use Rattle.coap_model.specs.Events.{Event}
 use Rattle.coap_model.specs.History.{Act, Deed, Place, IsPlaceOf, IsInOrder, last_of, ids_given, comes_con, Brings, Sends, Gives}
-use Rattle.coap_model.specs.Justified.{Closes, IsMeant, to_acknowledge, to_reset, to_close, IsMeantAlone}
+use Rattle.coap_model.specs.Justified.{Closes, IsMeant, to_acknowledge, to_reset, to_close}
 use Rattle.coap_model.specs.MessageIds.{IdsDiffer}
 use Rattle.coap_model.proofs.Places.{one-brought}
 use Rattle.coap_model.proofs.Moments.{not-later}
@@ -91,7 +91,3 @@ one-meant setting past now event a b differ ordered onward j k = sym p.act_is �
         (λ (earlier : p.place.deed.entry.now < q.place.deed.entry.now). differ p.place q.place q.message.id p.is_there q.is_there gives_p q.gives (omega (arith, earlier)) (let soon = p.soon in omega (arith, soon, q_now, onward)))
         (λ (later : q.place.deed.entry.now ≤ p.place.deed.entry.now). sym (differ q.place p.place q.message.id q.is_there p.is_there q.gives gives_p later (let soon = q.soon in omega (arith, soon, p_now, onward))))
         (cases_lt p.place.deed.entry.now q.place.deed.entry.now)
-
--- so it is meant for this act alone
-pub meant-alone : (setting : Setting) (past : List Deed) (d : Deed) → IdsDiffer past → IsInOrder past → last_of past ≤ d.entry.now → IsMeant setting past d.entry.now d.entry.event d.act → IsMeantAlone setting past d
-meant-alone setting past d differ ordered onward this other meant = one-meant setting past d.entry.now d.entry.event other d.act differ ordered onward meant this

@@ -9,20 +9,13 @@ use Rattle.coap_message.specs.Message.{Message}
 use Rattle.coap_message.specs.Spelling.{IsMessage, spelling, more_length}
 use Rattle.coap_message.specs.Uint.{uint_spelling}
 use Rattle.coap_message.proofs.Spellings.{spelling-length}
-use Rattle.coap_forward.specs.Messages.{is_con, is_non, brings_requests, own_reply, busy_reply, at_once, reply_id}
+use Rattle.coap_forward.specs.Messages.{is_con, brings_requests, own_reply, busy_reply, at_once, reply_id}
 use Rattle.coap_model.specs.State.{State, has_ids, can_reply}
 use Rattle.coap_model.proofs.Spelled.{length-uint_spelling}
 
 -- the immediate form of a message is a message
 pub at_once-is : (m reply : Message) → IsMessage reply → IsMessage (at_once m reply)
 at_once-is m reply is = record { token = is.token; options = is.options; bare = record { token = is.bare.token; options = is.bare.options; payload = is.bare.payload } }
-
--- what tests as Non-confirmable is Non-confirmable
-pub non_is : (k : Kind) → is_non k ≡ true → k ≡ Non
-non_is Con e = absurd cc
-non_is Non e = refl
-non_is Ack e = absurd cc
-non_is Rst e = absurd cc
 
 -- ---- lengths
 

@@ -2,7 +2,6 @@
 -- exchange, as long as no id is reused.
 use Rattle.std.proofs.Common.{◌≡◌, ⊎_elim, ℕ, ◌+◌, ◌-◌, ◌<◌, ◌≤◌, Bool, true, false, ltb, List, [], ◌∷◌, Option, Some, None, refl, sym, ap, ◌∙◌, subst, arith}
 use Rattle.std.specs.Prelude.{◌==◌, find, option_map}
-use Rattle.std.specs.List.{AllByRecursion}
 use Rattle.std.proofs.lemmas.Bool.{eqb-true, eq-eqb, ltb-true, lt-ltb, cases_lt, and_parts, and_from}
 use Rattle.std.proofs.lemmas.Option.{same_Some}
 use Rattle.coap_message.specs.Message.{Message}
@@ -27,10 +26,9 @@ use Rattle.coap_model.specs.Setting.{Setting}
 use Rattle.coap_model.specs.State.{State}
 use Rattle.coap_model.specs.History.{Entry, moves, Deed, Place, IsPlaceOf, Never, comes_con, ids_given, last_of, Sends, Asks}
 use Rattle.coap_model.specs.Schedules.{same_act, is_sending, oldest, sends_for, sends_by}
-use Rattle.coap_model.specs.Justified.{IsForwarding, IsToSendAgain, request_again, answer_again, IsDelivery, IsUnsettled, JustifiedBy, AllJustified}
+use Rattle.coap_model.specs.Justified.{IsForwarding, IsToSendAgain, request_again, answer_again, IsDelivery, JustifiedBy, AllJustified}
 use Rattle.coap_model.specs.MessageIds.{GivesId}
-use Rattle.coap_model.specs.Carries.{stage_at, IsTimer, WasAsked, WasSent, IsInFlight, IsState, IsExchangeOf, Bears}
-use Rattle.coap_model.proofs.Acting.{stage-is}
+use Rattle.coap_model.specs.Carries.{IsTimer, WasAsked, WasSent, IsInFlight, IsState, IsExchangeOf, Bears}
 use Rattle.coap_model.proofs.Frames.{same_act-self, same_act-true, sends-grow}
 use Rattle.coap_model.proofs.Giving.{ids-differ}
 use Rattle.coap_model.proofs.Lists.{Has, Has-holds, find-holds}
@@ -218,16 +216,6 @@ one-sent-as w history c at to id now since x y f g s t = one-sent w history c no
 
 -- ---- the search for it
 
--- the exchange that is found was sent with the id
-pub found-as : (P : Numbered Exchange → Type 0) (at : Endpoint) (id now n : ℕ) (xs : List (Numbered Exchange)) → AllByRecursion P xs → first_that (was_sent_as at id now) xs ≡ Some n → (x : Numbered Exchange) × P x × (x.0 ≡ n) × WasSentAs at id now x.1
-found-as P at id now n xs all e = go (find (λ (x : Numbered Exchange). was_sent_as at id now x.1) xs) refl e
-  where
-    go : (o : Option (Numbered Exchange)) → find (λ (x : Numbered Exchange). was_sent_as at id now x.1) xs ≡ o → option_map (λ (x : Numbered Exchange). x.0) o ≡ Some n → (x : Numbered Exchange) × P x × (x.0 ≡ n) × WasSentAs at id now x.1
-    go None is f = absurd cc
-    go (Some x) is f =
-        let h = find-holds P (λ (y : Numbered Exchange). was_sent_as at id now y.1) xs x all is in
-        (x, h.0, same_Some x.0 n f, sent-as at id now x.1 h.1)
-
 -- and an exchange that was sent with the id is the one that is found
 pub as-found : (w : State) (history : List Deed) → Bears history w → (at : Endpoint) (id now : ℕ) → last_of history ≤ now → (x : Numbered Exchange) → Has x w.exchanges → WasSentAs at id now x.1 → first_that (was_sent_as at id now) w.exchanges ≡ Some x.0
 as-found w history c at id now since x there s = go (find (λ (y : Numbered Exchange). was_sent_as at id now y.1) w.exchanges) refl
@@ -261,12 +249,3 @@ asked-as w history c now x flight p at asks soon =
       same_Some s.to t.to (sym s.sent ∙ ap (λ (o : Place). o.deed.entry.report.send) same ∙ t.sent),
       one_message r.deed.entry.bytes s.message t.message (subst (λ (o : Place). Spells o.deed.entry.bytes s.message) same s.spells) t.spells,
     )
-
--- one that was sent with the id, and neither acknowledged nor answered, is unsettled in the history
-pub as-unsettled : (w : State) (history : List Deed) → Bears history w → (at : Endpoint) (id now : ℕ) (x : Numbered Exchange) → Has x w.exchanges → x.1.state ≡ Sent → (s : WasSentAs at id now x.1) (a : WasAsked w.setting history x.0 x.1.key x.1.form s.sending) → IsUnsettled history now x.0 a.asking
-as-unsettled w history c at id now x there is s a =
-    record {
-      to = x.1.key.target.at;
-      stage = stage-is w history c x there ∙ ap (λ (t : ExchangeState). Some (stage_at x.1.key.target.at t)) is;
-      soon = let began = started-asking c.past a in let soon = s.named.soon in omega (arith, began, soon);
-    }

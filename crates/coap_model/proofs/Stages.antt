@@ -268,12 +268,6 @@ queued-unsent setting history x all stage =
     let h = stage-holds (HasCome setting.salt history) x queued history (all-come setting history all) stage in
     subst (λ (n : ℕ). Never (Sends setting.salt n) history) h.number (h.holds.unsent h.stage_is)
 
--- one that isn't done hasn't ended
-pub stage-unended : (setting : Setting) (history : List Deed) (x : ℕ) (stage : Stage) → AllJustified setting history → stage_of x history ≡ Some stage → stage ≢ done → Never (Ends x) history
-stage-unended setting history x stage all is not =
-    let h = stage-holds (HasCome setting.salt history) x stage history (all-come setting history all) is in
-    subst (λ (n : ℕ). Never (Ends n) history) h.number (h.holds.unended (λ e. not (sym h.stage_is ∙ e)))
-
 -- the request of one that waits for an acknowledgement was sent to the endpoint of its stage
 pub stage-sent : (setting : Setting) (history : List Deed) (x : ℕ) (to : Endpoint) → AllJustified setting history → stage_of x history ≡ Some (sent to) → WasSentTo setting.salt history x to
 stage-sent setting history x to all is =

@@ -1,6 +1,6 @@
 //! Runs and values computed on the definitions: public functions that do nothing, whose contracts
 //! state the results.
-ghost use Rattle.std.specs.Prelude.{◌≡◌, true, [], ◌∷◌, ◌++◌, Some, None, false, ◌+◌, ◌-◌, length};
+ghost use Rattle.std.specs.Prelude.{◌≡◌, true, [], ◌∷◌, ◌++◌, Some, None, false, ◌+◌, length};
 ghost use Rattle.coap_message.specs.declared.kind.Kind.TheVariants.{Non, Ack, Con};
 ghost use Rattle.coap_message.specs.Spelling.{spelling, with_id};
 ghost use Rattle.coap_limits.specs.Limits.{default_limits};

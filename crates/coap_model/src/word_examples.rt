@@ -1,6 +1,6 @@
 //! Examples of the promise in short: for each of its words a history that breaks this word, and is
 //! right except for that. Public functions that do nothing, whose contracts are the examples.
-ghost use Rattle.std.specs.Prelude.{◌≡◌, ◌∷◌, ◌+◌, ℕ, [], Some, None, true, List};
+ghost use Rattle.std.specs.Prelude.{◌≡◌, ◌∷◌, ◌+◌, [], Some, None, true};
 ghost use Rattle.coap_message.specs.Message.{Message};
 ghost use Rattle.coap_option.specs.Selection.{tags_of};
 ghost use Rattle.coap_limits.specs.Limits.{default_limits};
@@ -8,10 +8,10 @@ ghost use Rattle.coap_store.specs.Freshness.{is_fresh};
 ghost use Rattle.coap_forward.specs.Answers.{is_passed_on};
 ghost use Rattle.coap_store.specs.Renewing.{renewed};
 ghost use Rattle.coap_forward.specs.Answers.{taken_of};
-ghost use Rattle.coap_model.specs.declared.report.Outcome.TheVariants.{Acked, GaveUp, Delivered, Ignored, Resent};
+ghost use Rattle.coap_model.specs.declared.report.Outcome.TheVariants.{Acked, GaveUp, Resent};
 ghost use Rattle.coap_model.specs.Cached.{IsFetched, IsObtained, entry_of_cached};
 ghost use Rattle.coap_model.specs.CacheExamples.{asked_past, asks_again, first_entry, get_for};
-ghost use Rattle.coap_model.specs.Examples.{answered_by, client, answer, from, proxy, get_t, tick_at, first_answer};
+ghost use Rattle.coap_model.specs.Examples.{client, proxy};
 ghost use Rattle.coap_model.specs.Forged.{setting, asked, opened, opened_con, in_con, right, past, past_con};
 ghost use Rattle.coap_model.specs.ForgedHits.{reply};
 ghost use Rattle.coap_model.specs.FormExamples.{after};

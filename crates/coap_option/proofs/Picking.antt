@@ -1,5 +1,5 @@
 -- The options of a message for which, in their places, a test holds, one after the other.
-use Rattle.std.proofs.Common.{Result, Ok, Err, OnErr, ◌≡◌, ℕ, ◌+◌, ◌-◌, ◌^◌, ◌<◌, ◌≤◌, ◌==◌, cond, Bool, true, false, Option, Some, None, option_map, List, [], ◌∷◌, ◌++◌, length, find, filter, map, refl, sym, subst, ap, ◌∙◌, append_assoc, arith, ◌⊎◌, inl, inr}
+use Rattle.std.proofs.Common.{Result, Ok, Err, OnErr, ◌≡◌, ℕ, ◌+◌, ◌-◌, ◌<◌, ◌≤◌, cond, Bool, true, false, Option, Some, None, option_map, List, [], ◌∷◌, ◌++◌, length, find, filter, map, refl, sym, subst, ap, ◌∙◌, append_assoc, arith, ◌⊎◌, inl, inr}
 use Rattle.std.specs.Prelude.{MatchOption}
 use Rattle.coap_message.specs.declared.options.Opt.{Opt}
 use Rattle.coap_message.specs.Options.{AreOptions, from_number, last_number}
@@ -11,20 +11,6 @@ use Rattle.coap_option.specs.Passing.{HoldsWithin, IsAt, before_of, picked_after
 use Rattle.coap_option.specs.Places.{PlacedOption}
 use Rattle.coap_option.specs.Selection.{selected}
 use Rattle.coap_option.proofs.Passing.{places-after}
-
--- after one more option, the rest are still in order and few enough
-pub IsAt-step : (left rest : List Opt) (x : Opt) (run : Run) (before : ℕ) → left ≡ x ∷ rest → before ≡ before_of run x → IsAt left run → IsAt rest (record { number = x.number; count = before + 1 })
-IsAt-step left rest x run before next counted at =
-    let are = subst (AreOptions run.number) next at.in_order in
-    record { in_order = are.3; within = fits (x.number == run.number) run.count before (length rest) counted (omega (arith, at.within, ap length next)) }
-  where
-    fits : (same : Bool) (count before more : ℕ) → before ≡ cond same count 0 → count + (more + 1) < 2 ^ 64 → before + 1 + more < 2 ^ 64
-    fits true count before more e lt = omega arith
-    fits false count before more e lt = omega arith
-
--- the next option can be counted
-pub countable : (left rest : List Opt) (x : Opt) (run : Run) → left ≡ x ∷ rest → IsAt left run → run.count < 2 ^ 64 - 1
-countable left rest x run next at = omega (arith, at.within, ap length next)
 
 -- An option comes next, and the code's result of the test is `answer`.
 module _ (test : PlacedOption → Bool) (left rest : List Opt) (x : Opt) (run : Run) (before : ℕ) (answer : Bool) (next : left ≡ x ∷ rest) (counted : before ≡ before_of run x) (answers : answer ≡ test (record { option = x; before = before })) where

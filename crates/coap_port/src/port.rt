@@ -20,7 +20,7 @@ pub struct Turn {
 /// port in memory states it exactly, a socket can't. It holds its last moment (`clock`, in
 /// milliseconds, 0 at first) and how often `next` failed (`failures`).
 pub trait Port {
-    ghost use Rattle.std.specs.Prelude.{◌≡◌, ◌≤◌, ◌<◌, ◌+◌, ◌^◌, ℕ, List, Bool, None, IfOk, IsOk, OnOk, OnErr};
+    ghost use Rattle.std.specs.Prelude.{◌≡◌, ◌<◌, ◌+◌, ◌^◌, ℕ, List, Bool, None, IfOk, IsOk, OnOk, OnErr};
     ghost use Rattle.coap_model.specs.Runs.{Turn};
     ghost use Rattle.coap_endpoint.specs.declared.endpoint.Endpoint.{Endpoint};
     ghost use Rattle.coap_port.specs.Given.{IsOnward, given_by};

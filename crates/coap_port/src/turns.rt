@@ -1,5 +1,5 @@
 //! What a drive over a port holds, and one turn of it.
-ghost use Rattle.std.specs.Prelude.{◌≡◌, ◌≤◌, ◌<◌, ◌+◌, ◌^◌, [], None, Some, false, IfOk, OnErr, is_some, length, option_map};
+ghost use Rattle.std.specs.Prelude.{◌≡◌, ◌≤◌, ◌<◌, ◌+◌, ◌^◌, None, Some, false, IfOk, OnErr, is_some, option_map};
 ghost use Rattle.coap_port.specs.Driven as spec;
 ghost use Rattle.coap_port.specs.Stats.{AreWithin, no_stats, with_turn};
 

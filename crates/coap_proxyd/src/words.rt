@@ -1,7 +1,6 @@
 //! What the words of the program ask for, before a configuration is read.
-ghost use Rattle.std.specs.Prelude.{◌≡◌, map, option_map, string_bytes};
+ghost use Rattle.std.specs.Prelude.{◌≡◌, map, string_bytes};
 ghost use Rattle.coap_uri.specs.Answer.{Says};
-ghost use Rattle.coap_words.specs.ProxyOption.{bytes_of};
 ghost use Rattle.coap_proxyd.specs.Words as spec;
 ghost use Rattle.coap_proxyd.specs.declared.fault.Fault.TheVariants as faults;
 

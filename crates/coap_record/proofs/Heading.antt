@@ -82,12 +82,6 @@ one-more start config out out' text line rest is split added short =
       short = is.short ∙ ap is_one_long lines ∙ long-more before after short;
     }
 
--- one of the lines is too long
-pub one-long : (start config out text line : List ℕ) (rest : Option (List ℕ)) → IsAdded start config out (Some text) → slice_split (λ b. b == 10) text ≡ line ∷ parts_left 10 rest
-    → is_one_long (line_before line rest) ≡ true → is_one_long (lines_of config) ≡ true
-one-long start config out text line rest is split long =
-    is.short ∙ ap is_one_long (lines-split text line rest split) ∙ long-first (line_before line rest) (left_lines rest) long
-
 -- the first line, by its parts
 pub first-made : (out a b c d version : List ℕ) (start : Start) (words : List (List ℕ)) → a ≡ out ++ codes "# coap-proxyd " → b ≡ a ++ word_shown version → c ≡ b ++ start_shown start → d ≡ c ++ words_shown words
     → d ≡ out ++ first_line version start words

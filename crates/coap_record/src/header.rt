@@ -1,10 +1,8 @@
 //! How a recording begins: comments that say how its run was started.
 ghost use Rattle.std.specs.Prelude.{◌≡◌, ◌<◌, ◌^◌, ◌++◌, ◌∷◌, [], map, string_bytes, true, false, IfOk, OnOk, Err};
-ghost use Rattle.std.specs.Fmt.{decimal};
 ghost use Rattle.std.specs.List.{flat_map, list_any};
 ghost use Rattle.std.specs.Option.{option_copied};
-ghost use Rattle.coap_lines.specs.Lines.{ended, is_too_long, lines_of};
-ghost use Rattle.coap_lines.specs.Texts.{line_feed};
+ghost use Rattle.coap_lines.specs.Lines.{is_too_long, lines_of};
 ghost use Rattle.coap_record.specs.Header as spec;
 ghost use Rattle.coap_record.specs.Replayable.{AreSkipped};
 ghost use Rattle.coap_record.specs.declared.error.HeaderError.TheVariants as errors;

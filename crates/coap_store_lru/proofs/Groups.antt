@@ -1,10 +1,9 @@
 -- The keys with a target in the group of its digest are those of the entries for the target, each
 -- once.
-use Rattle.std.proofs.Common.{◌≡◌, ◌≢◌, ℕ, nat_eq, eq-eqb, Result, Ok, Err, OnOk, OnErr, ◌&&◌, ◌||◌, Bool, true, false, cond, not, List, [], ◌∷◌, Option, Some, None, map, filter, length, count_by, refl, sym, ap, subst, ◌∙◌}
+use Rattle.std.proofs.Common.{◌≡◌, ◌≢◌, ℕ, nat_eq, eq-eqb, ◌&&◌, ◌||◌, Bool, true, false, cond, not, List, [], ◌∷◌, Option, Some, None, map, filter, length, count_by, refl, sym, ap, subst, ◌∙◌}
 use Rattle.std.specs.Cmp.{IsEquivalence}
 use Rattle.std.specs.HashMap.{get}
 use Rattle.std.specs.List.{list_all, list_any, IsDistinct, AllByRecursion}
-use Rattle.std.specs.Map.{lookup}
 use Rattle.std.specs.Option.{option_map_or}
 use Rattle.std.specs.Set.{is_member}
 use Rattle.std.proofs.lemmas.Bool.{and_parts, and_from, eqb-true, or_right}
@@ -144,20 +143,10 @@ pub taken_out : (p b : Bool) → cond p false b ≡ (not p && b)
 taken_out true b = refl
 taken_out false b = refl
 
--- what follows from either result holds
-pub by_result : {T E P Q G : Type 0} (r : Result T E) → OnOk r P → OnErr r Q → (P → G) → (Q → G) → G
-by_result (Ok x) ok err f g = f ok
-by_result (Err e) ok err f g = g err
-
 -- a list that contains a key isn't empty
 pub some-keys : (ks : List CacheKey) (k : CacheKey) → list_any (same_key k) ks ≡ true → length ks ≢ 0
 some-keys [] k is = absurd cc
 some-keys (x ∷ ks) k is = λ none. absurd cc
-
--- an empty one contains no key
-pub no-keys : (ks : List CacheKey) → length ks ≡ 0 → (k : CacheKey) → list_any (same_key k) ks ≡ false
-no-keys [] none k = refl
-no-keys (x ∷ ks) none k = absurd cc
 
 -- and with more keys it still isn't empty
 pub still-keys : (ks more : List CacheKey) (added : CacheKey → Bool) → ((k : CacheKey) → list_any (same_key k) more ≡ (added k || list_any (same_key k) ks)) → length ks ≢ 0 → length more ≢ 0
@@ -251,14 +240,6 @@ one_of target key of k = go (same_key k key) refl
     go : (b : Bool) → same_key k key ≡ b → (is_of target k && b) ≡ b
     go true same = rw (same_key-only k key same, of) refl
     go false e = and_none (is_of target k)
-
--- the same groups are found at each digest
-pub same_groups : {H J S : Type 0} (groups new : Groups H J S) → new.entries ≡ groups.entries → (e : ℕ) → get nat_eq new e ≡ get nat_eq groups e
-same_groups groups new same e = ap (λ (es : List (ℕ × Group _ _)). lookup (nat_eq e) es) same
-
--- and each still contains a key
-pub filled-along : {H J S : Type 0} (groups new : Groups H J S) → new.entries ≡ groups.entries → AreFilled groups → AreFilled new
-filled-along groups new same filled e held is = filled e held (sym (same_groups groups new same e) ∙ is)
 
 -- One group is changed or removed.
 module _ {H J S : Type 0} (groups new : Groups H J S) (at : ℕ) (others : (e : ℕ) → nat_eq at e ≡ false → get nat_eq new e ≡ get nat_eq groups e) where

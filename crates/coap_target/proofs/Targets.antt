@@ -1,12 +1,9 @@
 -- The target that a map gives is a target.
-use Rattle.std.proofs.Common.{◌≡◌, ℕ, suc, zero, Bool, true, false, cond, List, [], ◌∷◌, length, drop, nat_lt, Option, Some, None, option_map, refl, subst}
+use Rattle.std.proofs.Common.{◌≡◌, ℕ, suc, zero, Bool, true, false, cond, List, [], ◌∷◌, length, drop, nat_lt, Option, Some, None, refl, subst}
 use Rattle.std.specs.List.{AllByRecursion}
-use Rattle.coap_message.specs.Message.{Message}
-use Rattle.coap_endpoint.specs.declared.target.Target.{Target}
 use Rattle.coap_target.specs.declared.map.Map.{Map}
-use Rattle.coap_target.specs.declared.routes.Routes.{Routes}
 use Rattle.coap_endpoint.specs.Target.{IsShort, IsTarget}
-use Rattle.coap_target.specs.Routes.{begins, longer, map_of, mapped, path_of, query_of, mapped_target, AreRoutes}
+use Rattle.coap_target.specs.Routes.{begins, longer, map_of, mapped}
 use Rattle.coap_endpoint.proofs.Lists.{All-append}
 
 -- what holds for each item holds for each after the first `n`
@@ -38,14 +35,3 @@ mapped-is path query m is of_path of_query = record {
   path = All-append IsShort m.origin.path (drop (length m.prefix) path) is.path (All-drop IsShort (length m.prefix) path of_path);
   query = of_query;
 }
-
--- the target of a request whose segments and parts are short enough
-pub target-is : (routes : Routes) (m : Message) (t : Target) → AreRoutes routes → AllByRecursion IsShort (path_of m) → AllByRecursion IsShort (query_of m) → mapped_target routes m ≡ Some t → IsTarget t
-unfolding mapped_target
-target-is routes m t are path query e = go (map_of routes.maps (path_of m)) refl e
-  where
-    go : (o : Option Map) → map_of routes.maps (path_of m) ≡ o → option_map (mapped (path_of m) (query_of m)) o ≡ Some t → IsTarget t
-    go None found f = absurd cc
-    go (Some n) found f =
-        let same : mapped (path_of m) (query_of m) n ≡ t = cc in
-        subst IsTarget same (mapped-is (path_of m) (query_of m) n (All-map_of (λ k. IsTarget k.origin) routes.maps (path_of m) n are found) path query)

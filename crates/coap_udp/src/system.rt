@@ -8,7 +8,7 @@ use std::net::SocketAddr;
 /// memory states it exactly, the operating system can't. Each call leads from one state to the next,
 /// so that what a port does is said by which calls it makes, and in which order.
 pub trait System {
-    ghost use Rattle.std.specs.Prelude.{◌≡◌, ◌≤◌, ◌^◌, ⊤, ℕ, Bool, List, Option, Result, length, IfOk, IfSome};
+    ghost use Rattle.std.specs.Prelude.{◌≤◌, ◌^◌, ⊤, ℕ, Bool, List, Option, Result, length, IfOk, IfSome};
     ghost use Rattle.std.specs.Counts.{IsPrefixLen};
     ghost use Rattle.std.specs.declared.io.ErrorKind.{ErrorKind};
     ghost use Rattle.std.specs.declared.net.socket_addr.SocketAddr.{SocketAddr};

@@ -1,7 +1,5 @@
 //! The configuration of the proxy, a TOML file.
 ghost use Rattle.std.specs.Prelude.{◌≡◌, Some, None, option_map};
-ghost use Rattle.std.specs.Str.{is_utf8};
-ghost use Rattle.toml.specs.Data.{get_member};
 ghost use Rattle.toml.specs.View.{table_view, view};
 ghost use Rattle.coap_uri.specs.Answer.{Answers, Says};
 ghost use Rattle.coap_words.specs.Config as spec;

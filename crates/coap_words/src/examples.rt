@@ -6,7 +6,7 @@ ghost use Rattle.coap_target.specs.declared.error.RouteError.TheVariants as rout
 ghost use Rattle.coap_endpoint.specs.declared.endpoint.Ip.TheVariants.{V4};
 ghost use Rattle.toml.specs.Data.{integer, string};
 ghost use Rattle.toml.specs.Parse.{parse_document};
-ghost use Rattle.coap_words.specs.Config.{for_a_client, holding, limits_in, routes_checked, sending, table_said};
+ghost use Rattle.coap_words.specs.Config.{for_a_client, holding, routes_checked, sending, table_said};
 ghost use Rattle.coap_limits.specs.Limits.{all_limits, default_limits, limits_per_client, without_client_limits};
 ghost use Rattle.coap_words.specs.Examples.{greatest, least, list, nothing, nothing_2, number, said_limits, said_limits_2, said_maps, said_with, table_of, tree, version_1, version_2};
 ghost use Rattle.coap_words.specs.LocalAddress.{local_address_of};

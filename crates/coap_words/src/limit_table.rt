@@ -1,6 +1,5 @@
 //! The limits in a configuration.
 ghost use Rattle.std.specs.Prelude.{◌≡◌, option_map};
-ghost use Rattle.toml.specs.Data.{get_member};
 ghost use Rattle.toml.specs.View.{table_view, view};
 ghost use Rattle.coap_uri.specs.Answer.{Answers};
 ghost use Rattle.coap_words.specs.Config as spec;

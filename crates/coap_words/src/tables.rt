@@ -3,7 +3,7 @@ ghost use Rattle.std.specs.Prelude.{◌≡◌, ◌⊎◌, IfOk, not, option_map}
 ghost use Rattle.std.specs.Option.{option_copied};
 ghost use Rattle.toml.specs.Data.{get_member};
 ghost use Rattle.toml.specs.View.{table_view, view};
-ghost use Rattle.coap_uri.specs.Answer.{Answers, Says};
+ghost use Rattle.coap_uri.specs.Answer.{Answers};
 ghost use Rattle.coap_words.specs.Config as spec;
 ghost use Rattle.coap_words.specs.Tree.{first_key};
 ghost use Rattle.coap_words.specs.declared.config_error.ConfigError.TheVariants as errors;

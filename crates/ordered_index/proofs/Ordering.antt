@@ -36,10 +36,6 @@ back_if_other a b e f = grind (arith, nat_tests)
 pub pair_itself : (a : Pair) → is_pair a a ≡ true
 pair_itself a = grind (arith, nat_tests)
 
--- equality goes both ways
-pair_back : (a b : Pair) → is_pair a b ≡ true → is_pair b a ≡ true
-pair_back a b e = grind (arith, nat_tests)
-
 -- two numbers
 abbrev pair : ℕ → ℕ → Pair
 pair p n = (p, n)

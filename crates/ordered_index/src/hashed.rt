@@ -1,5 +1,5 @@
 //! Indexes that are split by key, which nobody asks for their first pair.
-ghost use Rattle.std.specs.Prelude.{◌≡◌, ◌+◌, ◌<◌, ◌≤◌, ◌||◌, ◌&&◌, ◌^◌, [], length, if◌then◌else◌, true, false, not, None, IfOk};
+ghost use Rattle.std.specs.Prelude.{◌≡◌, ◌+◌, ◌<◌, ◌≤◌, ◌||◌, ◌&&◌, [], length, if◌then◌else◌, true, false, not, None, IfOk};
 ghost use Rattle.std.specs.List.{AllByRecursion};
 ghost use Rattle.ordered_index.specs.Hashed.{bucket_of, lower, pairs_of, AreBuckets};
 ghost use Rattle.ordered_index.specs.Ordered.{empty_index, is_in, is_pair, one_of, IsNextOf, IsKeyIn, IsRekeyed, Pair};
@@ -44,7 +44,7 @@ impl Drop for HashedIndex {
 }
 
 impl Model for HashedIndex {
-    ghost use Rattle.std.specs.Prelude.{◌≡◌, ◌<◌, ◌++◌, length, vec_len};
+    ghost use Rattle.std.specs.Prelude.{◌≡◌, ◌<◌, ◌++◌, length};
     ghost use Rattle.ordered_index.specs.Hashed.{bucket_of, pairs_of, AreApart, AreBuckets, AreCounts};
     ghost use Rattle.ordered_index.specs.Ordered.{OrderedIndex};
 

@@ -2,7 +2,7 @@
 //! without a scan.
 ghost use Rattle.std.specs.Prelude.{◌≡◌, ◌+◌, ◌==◌, ◌<◌, ◌≤◌, ◌||◌, ◌&&◌, ℕ, Bool, count_by, length, nat_le, if◌then◌else◌, take, drop, true, false, not, None, Some, IfOk, IfNone, IfSome};
 ghost use Rattle.std.specs.List.{slice_get, AllByRecursion};
-ghost use Rattle.ordered_index.specs.Ordered.{empty_index, is_before, is_in, is_key, is_left, is_pair, many_of, one_if, one_of, AreRising, is_some_pair, IsFirstAfter, IsLeast, IsNextOf, IsKeyIn, IsRekeyed, IsReplaced, Pair};
+ghost use Rattle.ordered_index.specs.Ordered.{empty_index, is_before, is_in, is_key, is_left, is_pair, many_of, one_if, one_of, AreRising, IsFirstAfter, IsLeast, IsNextOf, IsKeyIn, IsRekeyed, IsReplaced, Pair};
 
 use crate::order::is_before;
 use crate::pair_buffer::PairBuffer;

@@ -1,5 +1,5 @@
 //! Keys, stored responses and stores, computed with the definitions of `coap_store`.
-ghost use Rattle.std.specs.Prelude.{◌≡◌, ◌∷◌, ◌++◌, [], true, false, None, Some, codes, filter, map, replicate, count_by};
+ghost use Rattle.std.specs.Prelude.{◌≡◌, ◌∷◌, ◌++◌, [], true, false, None, Some, codes, filter, replicate, count_by};
 ghost use Rattle.std.specs.List.{range_with_len};
 ghost use Rattle.coap_message.specs.Options.{option_of};
 ghost use Rattle.coap_store.specs.Entries.{entry_key, entry_size, is_for, marked};

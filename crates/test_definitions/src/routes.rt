@@ -7,7 +7,7 @@ ghost use Rattle.coap_target.specs.declared.error.TargetError.{TargetError};
 ghost use Rattle.coap_uri.specs.declared.error.UriError.TheVariants.{Bad, Scheme};
 ghost use Rattle.coap_uri.specs.declared.uri.HostPart.TheVariants.{Name};
 ghost use Rattle.coap_uri.specs.Address.{bracketed_uri, inner_of, ipv4_of, is_address_byte};
-ghost use Rattle.test_definitions.specs.Routes.{at, at_known_address, beyond, everything, get, known, named, next, numbered, numbered_6, numbered_target, other, own, plain_url, sensor, temperature, uri, with_maps, with_next, without_names};
+ghost use Rattle.test_definitions.specs.Routes.{at, at_known_address, beyond, everything, get, known, named, numbered, numbered_6, numbered_target, other, own, plain_url, sensor, temperature, uri, with_maps, with_next, without_names};
 ghost use Rattle.coap_target.specs.Request.{by_uri, of_uri, request_target, resolved};
 ghost use Rattle.coap_target.specs.RouteTexts.{are_few, hosts_of, is_name, is_name_byte, origin_at, prefix_of, without_query};
 ghost use Rattle.coap_uri.specs.Uri.{are_short, host_text, is_port, is_short, name_or, path_parts, query_parts, uri_read};

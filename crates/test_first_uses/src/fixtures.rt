@@ -1,5 +1,5 @@
 //! What several first uses need.
-ghost use Rattle.std.specs.Prelude.{◌≡◌, IfOk};
+ghost use Rattle.std.specs.Prelude.{IfOk};
 ghost use Rattle.coap_endpoint.specs.Target.{IsTarget};
 
 use coap_cache::{CacheKey, Stored};

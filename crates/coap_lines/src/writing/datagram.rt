@@ -1,6 +1,6 @@
 //! The bytes of a datagram as they are written.
-ghost use Rattle.std.specs.Prelude.{◌≡◌, ◌<◌, ◌+◌, ◌*◌, ◌/◌, ◌%◌, ◌∷◌, [], length, slice_index};
-ghost use Rattle.hex.specs.Hex.{encode_upper, upper_digits};
+ghost use Rattle.std.specs.Prelude.{◌≡◌, ◌<◌, ◌+◌, ◌*◌, ◌/◌, ◌%◌, length};
+ghost use Rattle.hex.specs.Hex.{encode_upper};
 ghost use Rattle.coap_lines.specs.Datagrams.{hex_text};
 ghost use Rattle.coap_lines.specs.Room.{Adds, HasRoom};
 

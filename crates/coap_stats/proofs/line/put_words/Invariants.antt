@@ -1,5 +1,4 @@
 use Rattle.std.proofs.Common.{◌≡◌, ◌++◌, map, take}
-use Rattle.std.specs.List.{flat_map}
 use Rattle.coap_stats.specs.Line as spec
 use Rattle.coap_stats.proofs.line.put_words.Given as goal
 

@@ -2,7 +2,6 @@ use Rattle.std.proofs.Common.{inr, ok_or, Option, sym, ap, ◌∙◌}
 use Rattle.coap_endpoint.specs.declared.target.Target.{Target}
 use Rattle.coap_target.specs.declared.error.TargetError.TheVariants.{NotFound}
 use Rattle.coap_core.proofs.Uris.{no-uri}
-use Rattle.coap_core.proofs.state.State.target_of.Goals.{After-self}
 use Rattle.coap_core.proofs.state.State.target_of.Goals as goal
 
 pub returns-then-says_uri-clause-sound : goal.returns-then-says_uri-clause-sound

@@ -3,7 +3,6 @@ use Rattle.coap_message.specs.Options.{option_of}
 use Rattle.coap_message.specs.SpelledOptions.{options_of}
 use Rattle.coap_message.proofs.OptionSpellings.{pushed}
 use Rattle.coap_message.proofs.option_list.OptionList.push.Goals as goal
-use Rattle.coap_message.proofs.option_list.OptionList.push.Goals.{After-add_option}
 
 pub invariant_of-self-2 : goal.invariant_of-self-2
 invariant_of-self-2 c =
