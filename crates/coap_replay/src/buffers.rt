@@ -8,7 +8,6 @@ use std::alloc::Global;
 
 /// What a replay reads into and writes from. It is allocated before the first line, so that no line
 /// is in want of memory.
-#[derive(Drop)]
 pub(crate) struct Buffers {
     /// The line that was read.
     pub(crate) line: Vec<u8>,
@@ -18,6 +17,17 @@ pub(crate) struct Buffers {
     pub(crate) output: Datagram,
     /// The line of that datagram.
     pub(crate) text: Vec<u8>,
+}
+
+impl Drop for Buffers {
+    fn drop(self) {
+        let Buffers {
+            line: _,
+            input: _,
+            output: _,
+            text: _,
+        } = self;
+    }
 }
 
 impl Buffers {

@@ -211,6 +211,6 @@ pub fn replay_watched<R: BufRead, W: Write, S: Store + Drop, V: Watch>(
             }
         }
     }
-    // Not reached: the line after 2^62 is a bad event.
-    Err(ReplayError::Read)
+    // the line after 2^62 is a bad event
+    unreachable!()
 }

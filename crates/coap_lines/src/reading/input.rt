@@ -10,7 +10,7 @@ ghost use Rattle.coap_lines.specs.declared.reading.cutting.Piece.TheVariants.{Fe
 use crate::failing::Noted;
 use crate::reading::cutting::Piece;
 use std::io;
-use std::io::{BufRead, ErrorKind};
+use std::io::BufRead;
 use std::marker::Model;
 
 /// The greatest length of a line in bytes, without its line feed.
@@ -137,8 +137,8 @@ fn read_piece<R: BufRead>(reader: &mut Noted<R>, line: &mut Vec<u8>) -> io::Resu
             Piece::Last => return Ok(Piece::Last),
         }
     }
-    // Not reached: each piece has a byte, and 16,385 bytes end the loop.
-    Err(io::Error::from(ErrorKind::Other))
+    // each piece has a byte, and 16,385 bytes end the loop
+    unreachable!()
 }
 
 /// Whether a line is skipped: it is empty, or a comment, which begins with `#`.

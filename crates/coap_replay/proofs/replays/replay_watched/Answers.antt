@@ -75,8 +75,8 @@ loop-read-preserved g c =
     ]
 
 -- no input has so many lines
-pub returns : goal.returns
-returns g c = absurd (omega (arith, c.loop-read.invariant.lines, c.loop-read.auto.read-end, c.loop-read-test.false))
+pub unreachable-requires : goal.unreachable-requires
+unreachable-requires g c = omega (arith, c.loop-read.invariant.lines, c.loop-read.auto.read-end, c.loop-read-test.false)
 
 -- nothing is to be done
 pub returns-then-turns-eq0 : goal.returns-then-turns-eq0
