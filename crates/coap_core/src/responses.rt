@@ -7,7 +7,6 @@ ghost use Rattle.coap_forward.specs.Messages.{is_con};
 ghost use Rattle.coap_forward.specs.Changes.{changed_by};
 ghost use Rattle.coap_model.specs.Answers.{answer_for, asked_of, may_store, with_changed};
 ghost use Rattle.coap_model.specs.Responses.{is_in_flight, was_sent_with, has_id, awaiting, on_response};
-ghost use Rattle.coap_exchange.specs.Table.{item_at};
 ghost use Rattle.coap_model.specs.History.{grown_of};
 ghost use Rattle.coap_core.specs.Arrivals.{of_arrival, of_grown};
 ghost use Rattle.coap_core.specs.Storing.{IsKept, answering_at, awaited_step, confirmable_step, separate_step, if_storable, targets_in, taken_up, taken_up_bytes, taken_up_to};
@@ -83,12 +82,20 @@ fn may_store(exchange: &Exchange, answer: &Answer) -> bool
 }
 
 /// What a response changes.
-#[derive(Drop)]
 pub(crate) struct Changed {
     /// The target of its request.
     target: Target,
     /// The target that the Location options of a 2.01 name.
     created: Option<Target>,
+}
+
+impl Drop for Changed {
+    fn drop(self) {
+        let Changed {
+            target: _,
+            created: _,
+        } = self;
+    }
 }
 
 /// What a response to a request for this target changes, if anything.
