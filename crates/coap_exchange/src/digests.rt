@@ -1,9 +1,8 @@
 //! Digests, by which exchanges are found.
-ghost use Rattle.std.specs.Prelude.{◌≡◌, IfOk};
+ghost use Rattle.std.specs.Prelude.{◌≡◌};
 ghost use Rattle.coap_exchange.specs.Digests.{digest_of_endpoint, digest_of_target, digests_of};
 
 use coap_endpoint::{Endpoint, Ip, Target};
-use coap_message::OutOfMemory;
 use coap_store::CacheKey;
 use std::hash::{DefaultHasher, Hash, Hasher};
 use std::marker::Model;
@@ -74,16 +73,6 @@ impl<'k> HashedKey<'k> {
         ensures exact { result.now ≡ self.now }
     {
         self.key
-    }
-
-    /// A copy of the key, with no spare capacity.
-    ///
-    /// # Errors
-    /// Out of memory.
-    pub fn copied(&self) -> Result<CacheKey, OutOfMemory>
-        ensures exact { IfOk result (λ copy. copy ≡ self.now) }
-    {
-        self.key.copied()
     }
 
     /// Its digests.

@@ -130,7 +130,7 @@ impl Opening<'_> {
     pub(crate) fn opened(self) -> Result<Exchange, OutOfMemory>
         ensures exact { IfOk result (λ exchange. exchange ≡ opened self.entry) }
     {
-        let copied = self.key.copied()?;
+        let copied = self.key.key().copied()?;
         let Opening {
             client,
             key: _,

@@ -1,16 +1,17 @@
 //! Tables of exchanges: which are admitted, sent, answered and closed, and which is due.
-ghost use Rattle.std.specs.Prelude.{◌≡◌, ◌+◌, ◌-◌, ◌<◌, ◌≤◌, ◌^◌, ◌↔◌, ◌&&◌, length, if◌then◌else◌, true, false, None, nat_eq, OnOk, OnErr, IfOk, IfErr, IfSome, IfNone};
+ghost use Rattle.std.specs.Prelude.{◌≡◌, ◌≢◌, ◌+◌, ◌-◌, ◌<◌, ◌≤◌, ◌^◌, ◌↔◌, ◌&&◌, length, if◌then◌else◌, true, false, None, nat_eq, OnOk, OnErr, IfOk, IfErr, IfSome, IfNone};
 ghost use Rattle.std.specs.Map.{set_value};
 ghost use Rattle.std.specs.Option.{option_copied, option_map};
 ghost use Rattle.indexmap.specs.IndexMap.{get};
 ghost use Rattle.coap_endpoint.specs.declared.endpoint.Endpoint.{Endpoint};
 ghost use Rattle.coap_exchange.specs.Answered.{IsFirstGot, IsNextGot};
+ghost use Rattle.coap_exchange.specs.declared.exchange.ExchangeState.TheVariants.{Queued};
 ghost use Rattle.coap_exchange.specs.declared.table.AdmitError.TheVariants.{ClientFull, Full};
 ghost use Rattle.coap_exchange.specs.Clients.{count_of, AreWithin};
 ghost use Rattle.coap_exchange.specs.Due.{due_row, first_due};
-ghost use Rattle.coap_exchange.specs.Exchanges.{acked, answer_in, answered, changed_by, due_among, fire_at, fired_exchange, is_acked, is_done, is_joinable, is_opened_by, is_queued, is_sent, is_sent_to, opened, sent, tainted_by, was_sent_as, AreTimely, CanChange, CanUpdate, IsDue};
+ghost use Rattle.coap_exchange.specs.Exchanges.{acked, answer_in, answered, changed_by, due_among, fire_at, fired_exchange, is_done, is_joinable, is_opened_by, is_queued, is_sent, is_sent_to, opened, sent, tainted_by, was_sent_as, CanChange, CanUpdate, IsDue};
 ghost use Rattle.coap_exchange.specs.Index.{keys_at, turn_among, AreIndexed};
-ghost use Rattle.coap_exchange.specs.Endpoints.{is_queued_to, is_with, one_if_at, open_in, queued_in, sent_in, AreCounted, IsRecounted};
+ghost use Rattle.coap_exchange.specs.Endpoints.{is_queued_to, is_with, open_in, queued_in, sent_in, AreCounted, IsRecounted};
 ghost use Rattle.coap_exchange.specs.Table.{empty_table, item_at, admitted_to, without, withdrawn, changed_at, all_changed, count, first_that, passes, IsTable};
 ghost use Rattle.coap_exchange.specs.SendQueue.{IsSendQueue};
 ghost use Rattle.coap_exchange.specs.Updates.{leaver, updated, updated_at, Allows};
@@ -33,7 +34,8 @@ use coap_store::{Answer, CacheKey};
 use std::alloc::Global;
 use std::marker::Model;
 
-/// Exchanges in order of number. A contract sees the table. Only `new` and `admit` allocate.
+/// Exchanges in order of number. A contract sees the table. Only `new`, `seeded` and `admit`
+/// allocate.
 pub struct Exchanges {
     table: Table<IndexedExchange>,
     /// The number of exchanges that are still to be sent.
@@ -62,7 +64,6 @@ impl Drop for Exchanges {
 }
 
 impl Model for Exchanges {
-    ghost use Rattle.std.specs.Prelude.{◌≡◌};
     ghost use Rattle.coap_exchange.specs.declared.exchange.Exchange.{Exchange};
     ghost use Rattle.coap_exchange.specs.Clients.{AreOfClients, AreWithin};
     ghost use Rattle.coap_exchange.specs.Exchanges.{AreExchanges, is_opened_by};
@@ -272,12 +273,35 @@ impl Exchanges {
         if self.table.is_full() {
             return Err(AdmitError::Full);
         }
-        let (opener, now) = (Peer::new(opening.client), opening.now);
+        let opener = Peer::new(opening.client);
         if count_of(&self.clients, opener) == self.table.per_client() {
             return Err(AdmitError::ClientFull);
         }
         let listed = IndexedExchange::opened(opening, opener)?;
-        let at = listed.peer();
+        self.list(listed)
+    }
+
+    /// Lists an exchange that was just opened after the others, and returns its number. There is
+    /// room for it, and for one more of its client.
+    ///
+    /// # Errors
+    /// `OutOfMemory`. The table is unchanged then.
+    fn list(&mut self, listed: IndexedExchange) -> Result<ExchangeNumber, AdmitError>
+        requires numbers { self.old.admitted < 2 ^ 64 - 1 }
+        requires state { listed.state ≡ Queued }
+        requires sending { listed.sending ≡ None }
+        requires now { listed.admitted ≤ 2 ^ 62 }
+        requires room { length self.old.items < self.old.limit }
+        requires client_room { count (is_opened_by listed.client) self.old.items
+            < self.old.per_client }
+        ensures number { IfOk result (λ number. number ≡ self.old.admitted + 1) }
+        ensures ok { OnOk result (self.new ≡ admitted_to listed self.old) }
+        ensures memory { IfErr result (λ error. (error ≢ Full) × (error ≢ ClientFull)) }
+        ensures err { OnErr result (self.new ≡ self.old) }
+    {
+        let (opener, at) = (listed.client(), listed.peer());
+        let now = listed.exchange().admitted;
+        self.table.laws();
         self.send_queue.heads.laws();
         self.endpoints.laws();
         self.clients.laws();

@@ -84,6 +84,7 @@ impl Sought<'_> {
 }
 
 /// Two empty indexes with room for `limit` pairs. Which keys meet in them depends on `seed`.
+// What is made before has to be dropped wherever memory runs out: with pairs those are fewer places.
 fn two_indexes(
     alloc: Global,
     limit: usize,
@@ -270,7 +271,7 @@ fn cache_key_of(listed: &IndexedExchange) -> Option<u64>
 {
     let exchange = listed.exchange();
     if exchange.is_get && !exchange.tainted && exchange.answer().is_none() {
-        Some(listed.key())
+        Some(listed.key_digest())
     } else {
         None
     }
@@ -281,7 +282,7 @@ fn target_of(listed: &IndexedExchange) -> Option<u64>
 {
     let exchange = listed.exchange();
     if !exchange.tainted && (exchange.is_sent() || exchange.is_acked()) {
-        Some(listed.target())
+        Some(listed.target_digest())
     } else {
         None
     }

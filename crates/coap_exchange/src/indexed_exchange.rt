@@ -72,7 +72,7 @@ impl IndexedExchange {
         self.client
     }
 
-    /// Its endpoint.
+    /// The endpoint that its request is sent to.
     pub(crate) fn peer(&self) -> Peer
         ensures exact { result ≡ self.now.key.target.at }
     {
@@ -88,14 +88,14 @@ impl IndexedExchange {
     }
 
     /// The digest of its cache key.
-    pub(crate) fn key(&self) -> u64
+    pub(crate) fn key_digest(&self) -> u64
         ensures exact { result ≡ digest_of_key self.now.key }
     {
         self.digests.key
     }
 
     /// The digest of its target.
-    pub(crate) fn target(&self) -> u64
+    pub(crate) fn target_digest(&self) -> u64
         ensures exact { result ≡ digest_of_target self.now.key.target }
     {
         self.digests.target

@@ -1,6 +1,6 @@
 //! Tables of waiters: who waits for which exchange, which are being sent a response, and which is
 //! due.
-ghost use Rattle.std.specs.Prelude.{◌≡◌, ◌+◌, ◌-◌, ◌<◌, ◌≤◌, ◌^◌, ◌==◌, ◌↔◌, ℕ, length, if◌then◌else◌, true, false, nat_eq, OnOk, OnErr, IfOk, IfErr, IfSome, IfNone};
+ghost use Rattle.std.specs.Prelude.{◌≡◌, ◌+◌, ◌-◌, ◌<◌, ◌≤◌, ◌^◌, ◌==◌, ◌↔◌, length, if◌then◌else◌, true, false, nat_eq, OnOk, OnErr, IfOk, IfErr, IfSome, IfNone};
 ghost use Rattle.std.specs.Map.{set_value};
 ghost use Rattle.std.specs.Option.{option_copied, option_map};
 ghost use Rattle.indexmap.specs.IndexMap.{get};
@@ -9,7 +9,6 @@ ghost use Rattle.coap_exchange.specs.Answered.{due_at};
 ghost use Rattle.coap_endpoint.specs.declared.endpoint.Endpoint.{Endpoint};
 ghost use Rattle.coap_exchange.specs.Clients.{count_of, AreWithin};
 ghost use Rattle.coap_exchange.specs.Due.{due_row, first_due};
-ghost use Rattle.coap_exchange.specs.Endpoints.{one_if_at};
 ghost use Rattle.coap_exchange.specs.WaiterIndex.{answered_of, end_of, waiter_keys_at};
 ghost use Rattle.coap_exchange.specs.Table.{empty_table, item_at, admitted_to, without, withdrawn, changed_at, count, first_that, passes, IsTable};
 ghost use Rattle.coap_exchange.specs.Waiters.{awaited_by, changed_by, delivered, due_after, fire_at, fired_waiter, is_of, is_waiting, joined, waits_for, was_sent_as, CanChange, CanUpdate, IsDue};
@@ -30,7 +29,8 @@ use coap_message::{Moment, OutOfMemory, Seq};
 use std::alloc::Global;
 use std::marker::Model;
 
-/// Waiters in order of number. A contract sees the table. Only `new` and `admit` allocate.
+/// Waiters in order of number. A contract sees the table. Only `new`, `seeded` and `admit`
+/// allocate.
 pub struct Waiters {
     table: Table<Waiter>,
     /// The number of waiters that wait for an exchange.

@@ -1,0 +1,145 @@
+use Rattle.std.proofs.Common.{◌≡◌, ◌∙◌, ◌+◌, ◌<◌, Some, true, false, length, arith, refl}
+use Rattle.coap_exchange.specs.declared.exchange.Exchange.{Exchange}
+use Rattle.coap_exchange.specs.Exchanges.{is_opened_by, is_queued, is_sent}
+use Rattle.coap_exchange.specs.Table.{admitted_to, count}
+use Rattle.coap_exchange.specs.Endpoints.{is_with}
+use Rattle.coap_exchange.proofs.ByClient.{of_clients-push, of_clients-undone, within-push}
+use Rattle.coap_exchange.proofs.Counts.{count-length}
+use Rattle.coap_exchange.proofs.Indexing.{can-pass-as, have-passed-as, moves-admitted}
+use Rattle.coap_exchange.proofs.EndpointCounting.{counted-push, counted-undone, one-itself, queued-less, sent-less}
+use Rattle.coap_exchange.proofs.Fewer.{few-entries}
+use Rattle.coap_exchange.proofs.Heads.{head-among}
+use Rattle.coap_exchange.proofs.Ordering.{admitted-free, heads-room, one-most, send_queue-more}
+use Rattle.coap_exchange.proofs.Tables.{admitted-is, item_at-fresh, item_at-last}
+use Rattle.coap_exchange.proofs.Timely.{exchanges-push}
+use Rattle.coap_exchange.proofs.exchanges.Exchanges.list.Goals as goal
+
+pub open_one-requires-clause-all : goal.open_one-requires-clause-all
+open_one-requires-clause-all c =
+    let room = rw (← c.self.view_is) at c.requires.room in
+    omega (arith, room, count-length (is_with c.peer-at.result) c.self.inside.table.items, c.self.invariant.1.all c.peer-at.result, c.laws.ensures.fits)
+
+pub open_one-requires-clause-queued : goal.open_one-requires-clause-queued
+open_one-requires-clause-queued c =
+    let room = rw (← c.self.view_is) at c.requires.room in
+    omega (arith, room, queued-less c.self.inside.endpoints c.self.inside.table.items c.peer-at.result c.self.invariant.1, count-length (is_with c.peer-at.result) c.self.inside.table.items, c.self.invariant.1.all c.peer-at.result, c.laws.ensures.fits)
+
+pub enter-requires-clause-few : goal.enter-requires-clause-few
+enter-requires-clause-few c =
+    let room = rw (← c.self.view_is) at c.requires.room in
+    omega (arith, room, count-length (is_opened_by c.client-opener.result) c.self.inside.table.items, c.self.invariant.4 c.client-opener.result, c.laws.ensures.fits)
+
+pub open_one-requires-clause-room : goal.open_one-requires-clause-room
+open_one-requires-clause-room c =
+    let room = rw (← c.self.view_is) at c.requires.room in
+    let few = few-entries (λ (x : Exchange). x.key.target.at) c.self.inside.endpoints c.self.inside.table.items c.laws-3.ensures.sound c.laws-3.ensures.distinct c.laws-3.ensures.some c.self.invariant.1.all in
+    omega (arith, room, few, c.self.invariant.6.for_endpoints)
+
+pub enter-requires-clause-room : goal.enter-requires-clause-room
+enter-requires-clause-room c =
+    let room = rw (← c.self.view_is) at c.requires.room in
+    let few = few-entries (λ (x : Exchange). x.client) c.self.inside.clients c.self.inside.table.items c.laws-4.ensures.sound c.laws-4.ensures.distinct c.laws-4.ensures.some c.self.invariant.4 in
+    omega (arith, room, few, c.self.invariant.6.for_clients)
+
+pub overflow_add-self : goal.overflow_add-self
+overflow_add-self c = omega (arith, count-length is_queued c.self.inside.table.items, c.self.invariant.0.queued, c.in-Ok.ensures.room, c.in-Ok.ensures.fits)
+
+pub rekey-requires : goal.rekey-requires
+rekey-requires c =
+    let is = c.laws.ensures.sound in
+    let t = c.self.inside.table in
+    let x = c.args.listed in
+    let room : length t.items < t.limit = rw (← c.self.view_is) at c.requires.room in
+    rw (c.keys_in-was.ensures.exact, c.keys_of-is.ensures.exact, c.in-Ok.ensures.number)
+    (can-pass-as (t.admitted + 1) t.limit t.items (admitted_to x t).items c.self.inside.index (moves-admitted t x is) c.self.invariant.2 _ _ (item_at-fresh t is) (item_at-last t.admitted (t.admitted + 1) t.items x (omega arith) is.below) (admitted-is t x is room).within)
+
+pub head_of-next-requires-clause-indexed : goal.head_of-next-requires-clause-indexed
+head_of-next-requires-clause-indexed c =
+    let is = c.laws.ensures.sound in
+    let t = c.self.inside.table in
+    let x : Exchange = c.args.listed in
+    let room : length t.items < t.limit = rw (← c.self.view_is) at c.requires.room in
+    let passed = rw (c.keys_in-was.ensures.exact, c.keys_of-is.ensures.exact, c.in-Ok.ensures.number) at c.rekey.ensures.exact in
+    rw c.in-Ok.ensures.ok (have-passed-as (t.admitted + 1) t.limit t.items (admitted_to x t).items c.self.inside.index (moves-admitted t x is) c.self.invariant.2 _ _ (item_at-fresh t is) (item_at-last t.admitted (t.admitted + 1) t.items x (omega arith) is.below) c.rekey.new.self passed (admitted-is t x is room).rising)
+
+pub head_of-next-requires-clause-counted : goal.head_of-next-requires-clause-counted
+head_of-next-requires-clause-counted c =
+    let t = c.self.inside.table in
+    let waits : is_queued c.args.listed ≡ true = rw c.requires.state refl in
+    let unsent : is_sent c.args.listed ≡ false = rw c.requires.state refl in
+    rw c.in-Ok.ensures.ok (counted-push t.items c.self.inside.endpoints c.open_one.new.endpoints _ _ unsent waits c.self.invariant.1 (rw c.peer-at.ensures.exact at c.open_one.ensures.all) c.open_one.ensures.sent (rw c.peer-at.ensures.exact at c.open_one.ensures.queued))
+
+pub replace-requires-clause-free : goal.replace-requires-clause-free
+replace-requires-clause-free c =
+    let is = c.laws.ensures.sound in
+    let t = c.self.inside.table in
+    let room : length t.items < t.limit = rw (← c.self.view_is) at c.requires.room in
+    rw (c.head_of-head.ensures.exact, c.head_of-next.ensures.exact, c.peer-at.ensures.exact, c.in-Ok.ensures.ok)
+    (admitted-free t _ is room c.self.inside.send_queue c.self.invariant.3 (heads-room t c.self.inside.send_queue is room c.self.invariant.3 c.laws-2.ensures c.self.invariant.6.for_heads))
+
+pub replace-requires-clause-room : goal.replace-requires-clause-room
+replace-requires-clause-room c =
+    let t = c.self.inside.table in
+    let room : length t.items < t.limit = rw (← c.self.view_is) at c.requires.room in
+    let lt = heads-room t c.self.inside.send_queue c.laws.ensures.sound room c.self.invariant.3 c.laws-2.ensures c.self.invariant.6.for_heads in
+    let one = one-most c.head_of-next.result in
+    omega arith
+
+pub invariant_of-self : goal.invariant_of-self
+invariant_of-self c =
+    let is = c.laws.ensures.sound in
+    let t = c.self.inside.table in
+    let x : Exchange = c.args.listed in
+    let room : length t.items < t.limit = rw (← c.self.view_is) at c.requires.room in
+    let own_room : count (is_opened_by c.args.listed.client) t.items < t.per_client = rw (← c.self.view_is) at c.requires.client_room in
+    let passed = rw (c.keys_in-was.ensures.exact, c.keys_of-is.ensures.exact, c.in-Ok.ensures.number) at c.rekey.ensures.exact in
+    let len = rw (c.head_of-head.ensures.exact, c.head_of-next.ensures.exact, c.peer-at.ensures.exact, c.in-Ok.ensures.ok) at c.replace.ensures.length in
+    let replaced = rw (c.head_of-head.ensures.exact, c.head_of-next.ensures.exact, c.peer-at.ensures.exact, c.in-Ok.ensures.ok) at c.replace.ensures.replaced in
+    let waits : is_queued c.args.listed ≡ true = rw c.requires.state refl in
+    let unsent : is_sent c.args.listed ≡ false = rw c.requires.state refl in
+    rw (c.in-Ok.ensures.ok, c.note.ensures.exact, c.exchange.ensures.exact) (
+      exchanges-push t.items c.self.inside.queued _ waits c.requires.now c.requires.sending c.self.invariant.0,
+      counted-push t.items c.self.inside.endpoints c.open_one.new.endpoints _ _ unsent waits c.self.invariant.1 (rw c.peer-at.ensures.exact at c.open_one.ensures.all) c.open_one.ensures.sent (rw c.peer-at.ensures.exact at c.open_one.ensures.queued),
+      have-passed-as (t.admitted + 1) t.limit t.items (admitted_to x t).items c.self.inside.index (moves-admitted t x is) c.self.invariant.2 _ _ (item_at-fresh t is) (item_at-last t.admitted (t.admitted + 1) t.items x (omega arith) is.below) c.rekey.new.self passed (admitted-is t x is room).rising,
+      send_queue-more t _ is room c.self.inside.send_queue c.self.invariant.3 (heads-room t c.self.inside.send_queue is room c.self.invariant.3 c.laws-2.ensures c.self.invariant.6.for_heads) c.replace.new.self c.replace.ensures.limit len replaced,
+      of_clients-push (λ (x : Exchange). x.client) t.items c.self.inside.clients c.enter.new.clients (t.admitted + 1) x (rw c.client-opener.ensures.exact at c.enter.ensures.exact) c.self.invariant.4,
+      within-push (λ (x : Exchange). x.client) t x own_room c.self.invariant.5,
+      record { for_heads = c.replace.ensures.limit ∙ c.self.invariant.6.for_heads; for_endpoints = c.open_one.ensures.limit ∙ c.self.invariant.6.for_endpoints; for_clients = c.enter.ensures.limit ∙ c.self.invariant.6.for_clients },
+    )
+
+pub close_one-requires-clause-all : goal.close_one-requires-clause-all
+close_one-requires-clause-all c =
+    let more = c.open_one.ensures.all c.peer-at.result in
+    let one = one-itself c.peer-at.result in
+    omega (arith, more, one)
+
+pub close_one-requires-clause-sent : goal.close_one-requires-clause-sent
+close_one-requires-clause-sent c =
+    let more = c.open_one.ensures.all c.peer-at.result in
+    let one = one-itself c.peer-at.result in
+    let same = c.open_one.ensures.sent c.peer-at.result in
+    omega (arith, more, one, same, sent-less c.self.inside.endpoints c.self.inside.table.items c.peer-at.result c.self.invariant.1)
+
+pub close_one-requires-clause-queued : goal.close_one-requires-clause-queued
+close_one-requires-clause-queued c =
+    let all = c.open_one.ensures.all c.peer-at.result in
+    let queued = c.open_one.ensures.queued c.peer-at.result in
+    let one = one-itself c.peer-at.result in
+    omega (arith, all, queued, one, queued-less c.self.inside.endpoints c.self.inside.table.items c.peer-at.result c.self.invariant.1)
+
+pub replace-requires-clause-there : goal.replace-requires-clause-there
+replace-requires-clause-there c = rw c.head_of-head.ensures.exact (head-among c.self.inside.table.items c.self.inside.send_queue.heads c.self.invariant.3.heads (Some c.peer-at.result))
+
+pub invariant_of-self-in-Err : goal.invariant_of-self-in-Err
+invariant_of-self-in-Err c =
+    let t = c.self.inside.table in
+    let same = c.in-Err.ensures.err in
+    rw same (
+      c.self.invariant.0,
+      counted-undone t.items c.self.inside.endpoints c.open_one.new.endpoints c.close_one.new.endpoints c.peer-at.result c.self.invariant.1 c.open_one.ensures.all c.open_one.ensures.sent c.open_one.ensures.queued c.close_one.ensures.all c.close_one.ensures.sent c.close_one.ensures.queued,
+      c.self.invariant.2,
+      c.self.invariant.3,
+      of_clients-undone (λ (x : Exchange). x.client) t.items c.self.inside.clients c.enter.new.clients c.depart.new.clients c.client-opener.result c.enter.ensures.exact c.depart.ensures.exact c.self.invariant.4,
+      c.self.invariant.5,
+      record { for_heads = c.self.invariant.6.for_heads; for_endpoints = c.close_one.ensures.limit ∙ c.open_one.ensures.limit ∙ c.self.invariant.6.for_endpoints; for_clients = c.depart.ensures.limit ∙ c.enter.ensures.limit ∙ c.self.invariant.6.for_clients },
+    )
