@@ -1,4 +1,4 @@
-use Rattle.std.proofs.Common.{◌-◌, ◌∙◌, Some, None, ap, arith, sym}
+use Rattle.std.proofs.Common.{◌-◌, ◌∙◌, Some, None, ap, arith, rules, sym}
 use Rattle.coap_exchange.specs.Slots.{found}
 use Rattle.coap_exchange.specs.Endpoints.{open_of, queued_in, queued_of, sent_in, sent_of}
 use Rattle.coap_exchange.proofs.Counts.{one_if}
@@ -36,3 +36,6 @@ pub returns-else-counts-eq1-clause-queued : goal.returns-else-counts-eq1-clause-
 returns-else-counts-eq1-clause-queued c = λ e.
     put-less queued_of (λ q. found q c.args.endpoints.now.items) (λ q. found q c.set.new.self.items) c.args.at (Some (record { all = c.counts_at-counts.result.all - 1; sent = c.lowered-sent.result; queued = c.lowered-queued.result })) (one_if c.args.was.queued) c.set.ensures.exact (let exact = c.lowered-queued.ensures.exact in let queued = c.counts_at-counts.ensures.queued in omega arith) e
     ∙ ap (λ n. queued_in c.args.endpoints.now e - n) (sym (one_if_at-split c.args.was.queued c.args.at e))
+
+pub remove-requires : goal.remove-requires
+remove-requires c = search rules

@@ -1,4 +1,4 @@
-use Rattle.std.proofs.Common.{◌≤◌, ◌^◌, length, sym, arith}
+use Rattle.std.proofs.Common.{◌≤◌, ◌^◌, length, rules, sym, arith}
 use Rattle.std.proofs.Math.Nat.{pow-le-pow_right}
 use Rattle.coap_message.specs.OptRef.{seen}
 use Rattle.coap_option.specs.Places.{places}
@@ -13,3 +13,6 @@ overflow_cast-result c =
     let short : length c.in-Some.option.value.now ≤ 4 = length-first_max_age (places c.lent.result) (seen c.in-Some.option) (sym c.in-Some.ensures) in
     let most : 256 ^ length c.in-Some.option.value.now ≤ 256 ^ 4 = pow-le-pow_right {n = 256} (omega arith) {i = length c.in-Some.option.value.now} {j = 4} short in
     omega (arith, c.uint.ensures.below, most)
+
+pub returns-in-None : goal.returns-in-None
+returns-in-None c = search rules

@@ -1,4 +1,4 @@
-use Rattle.std.proofs.Common.{◌≡◌, ◌<◌, false, sym, refl, arith}
+use Rattle.std.proofs.Common.{◌≡◌, ◌<◌, false, rules, sym, refl, arith}
 use Rattle.std.specs.Prelude.{◌==◌, ◌||◌}
 use Rattle.std.proofs.lemmas.Bool.{ne_eqb}
 use Rattle.coap_message.specs.declared.options.Opt.{Opt}
@@ -11,3 +11,6 @@ neither o below = rw (ne_eqb o.number 35 (λ e. omega arith), ne_eqb o.number 39
 
 pub loop-option-init : goal.loop-option-init
 loop-option-init c = rw (c.into_iter-option-iterator.ensures.into_iter_gives, c.iter_from-option-items.ensures.list) (sym (any-from (λ (o : Opt). (o.number == 35) || (o.number == 39)) 35 c.args.options.now neither))
+
+pub loop-option-preserved : goal.loop-option-preserved
+loop-option-preserved c = search rules

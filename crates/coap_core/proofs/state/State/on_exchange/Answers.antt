@@ -1,4 +1,4 @@
-use Rattle.std.proofs.Common.{◌≡◌, ◌≤◌, ◌∙◌, Some, length, refl, sym, subst}
+use Rattle.std.proofs.Common.{◌≡◌, ◌≤◌, ◌∙◌, Some, length, refl, rules, sym, subst}
 use Rattle.std.proofs.lemmas.Option.{same_Some}
 use Rattle.coap_exchange.specs.Table.{item_at}
 use Rattle.coap_model.specs.State.{Step}
@@ -62,3 +62,6 @@ returns-in-Sent g c =
     let k = (goal.at.returns-in-Sent g c).In-Some in
     subst (λ (s : Step). Does s c.on_request_timeout.result c.args.out.now c.on_request_timeout.new.out c.on_request_timeout.new.self)
     (sym (sent-step c.args.self.now c.args.timing c.args.number c.in-Some.exchange.now (found g k) (sym c.if-is_late.ensures) c.in-Sent.is)) c.on_request_timeout.ensures
+
+pub returns-then-is_late : goal.returns-then-is_late
+returns-then-is_late g c = search rules

@@ -70,3 +70,6 @@ pub returns-in-Some-OfWaiter-clause-memory : goal.returns-in-Some-OfWaiter-claus
 returns-in-Some-OfWaiter-clause-memory g c =
     let k = (goal.at.returns-in-Some-OfWaiter-clause-memory g c).In-Some-OfWaiter in
     subst (λ (s : Step). OnErr c.on_waiter.result (GivesConfirmable s)) (step g k c.if-at-timing-2.true) c.on_waiter.ensures.memory
+
+pub returns-in_default-clause-memory : goal.returns-in_default-clause-memory
+returns-in_default-clause-memory g c = search rules

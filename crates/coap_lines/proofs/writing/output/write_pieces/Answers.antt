@@ -14,3 +14,6 @@ loop-pieces-preserved g c =
     let rest = c.loop-pieces.rest.now in
     let n = c.in_ok-count.count in
     (done ++ take n rest, moves_front _ done rest n split, Appends-trans _ _ _ _ _ appended c.in_ok-count.ensures.bytes, search rules, λ some. search rules, λ none. absurd (omega arith))
+
+pub returns-then-is_empty-clause-failed : goal.returns-then-is_empty-clause-failed
+returns-then-is_empty-clause-failed g c = search rules

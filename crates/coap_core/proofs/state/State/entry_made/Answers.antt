@@ -1,0 +1,5 @@
+use Rattle.std.proofs.Common.{rules}
+use Rattle.coap_core.proofs.state.State.entry_made.Goals as goal
+
+pub returns : goal.returns
+returns g c = search rules
