@@ -117,35 +117,39 @@ fn after(rt: &impl Abort, alloc: Global, before: &[Said]) -> Result<Run, Fail> {
     Ok(run)
 }
 
-/// Checks each other value of one byte of a datagram, after these datagrams.
-fn check_changed(
+/// Checks each value of one byte of a datagram.
+fn check_values(
     rt: &impl Abort,
     alloc: Global,
-    before: &[Said],
+    run: &mut Run,
     said: Said,
     place: usize,
 ) -> Result<(), Fail> {
-    let mut run = after(rt, alloc, before)?;
     let mut bytes = Vec::new(alloc);
     bytes.extend_from_slice(said.1)?;
     for value in 0..=255u8 {
         if let Some(byte) = bytes.get_mut(place) {
             *byte = value;
         }
-        check_bytes(rt, alloc, &mut run, said.0, bytes.as_slice())?;
+        check_bytes(rt, alloc, run, said.0, bytes.as_slice())?;
+    }
+    Ok(())
+}
+
+/// Checks each beginning of a datagram.
+fn check_beginnings(rt: &impl Abort, alloc: Global, run: &mut Run, said: Said) -> Result<(), Fail> {
+    for length in 0..said.1.len() {
+        let part = said.1.get(..length).ok_or("too long")?;
+        check_bytes(rt, alloc, run, said.0, part)?;
     }
     Ok(())
 }
 
 /// Checks each beginning of a datagram, after these datagrams, and each value of each of its bytes.
 fn check_datagram(rt: &impl Abort, alloc: Global, before: &[Said], said: Said) -> Result<(), Fail> {
-    let mut run = after(rt, alloc, before)?;
-    for length in 0..said.1.len() {
-        let part = said.1.get(..length).ok_or("too long")?;
-        check_bytes(rt, alloc, &mut run, said.0, part)?;
-    }
+    check_beginnings(rt, alloc, &mut after(rt, alloc, before)?, said)?;
     for place in 0..said.1.len() {
-        check_changed(rt, alloc, before, said, place)?;
+        check_values(rt, alloc, &mut after(rt, alloc, before)?, said, place)?;
     }
     Ok(())
 }
@@ -170,52 +174,58 @@ fn cut_and_changed_datagrams_break_nothing(rt: HostRuntime) -> Result<(), Fail> 
 
 // ---- floods
 
-// Each new message is remembered, until there is no room for another.
-#[test]
-fn a_flood_of_messages_leaves_the_records_full(rt: HostRuntime) -> Result<(), Fail> {
-    let mut run = usual_run(rt.alloc())?;
+/// Each new message is remembered, until there is no room for another.
+fn fill_records(rt: &impl Abort, run: &mut Run) -> Result<(), OutOfMemory> {
     for id in 0u16..0x1000 {
         let [high, low] = id.to_be_bytes();
         let request = [0x50, 1, high, low, 0xB1, 0x75];
-        step_within(&rt, &mut run, 0, arrival(40001, &request))?;
+        step_within(rt, run, 0, arrival(40001, &request))?;
         let [high, low] = (id + 1).to_be_bytes();
         assert_eq!(rt; run.sent(), [0x50, 0x84, high, low].as_slice());
     }
     let one_more = b"\x50\x01\x10\x00\xB1u";
-    let outcome = step_within(&rt, &mut run, 0, arrival(40001, one_more))?;
+    let outcome = step_within(rt, run, 0, arrival(40001, one_more))?;
     assert_eq!(rt; (outcome, run.sent().len()), (Outcome::NoRecordRoom, 0));
-    step_within(&rt, &mut run, 145_000, arrival(40001, one_more))?;
+    step_within(rt, run, 145_000, arrival(40001, one_more))?;
     assert_eq!(rt; run.sent(), b"\x50\x84\x10\x01".as_slice());
     Ok(())
+}
+
+#[test]
+fn a_flood_of_messages_leaves_the_records_full(rt: HostRuntime) -> Result<(), Fail> {
+    let mut run = usual_run(rt.alloc())?;
+    Ok(fill_records(&rt, &mut run)?)
 }
 
 /// What an overloaded proxy answers: 5.03, to be asked again after five seconds.
 const LATER: &[u8] = b"\x50\xA3\x00\x01\xD1\x01\x05";
 
-// Each request for another target opens an exchange, until there is no room for another.
-#[test]
-fn a_flood_of_targets_leaves_the_exchanges_full(rt: HostRuntime) -> Result<(), Fail> {
-    let mut run = usual_run(rt.alloc())?;
+/// Each request for another target opens an exchange, until there is no room for another.
+fn fill_exchanges(rt: &impl Abort, run: &mut Run) -> Result<(), OutOfMemory> {
     for id in 0u16..0x100 {
         let [high, low] = id.to_be_bytes();
         let request = [0x50, 1, high, low, 0xB1, 0x74, 0x42, high, low];
-        let outcome = step_within(&rt, &mut run, 0, arrival(40001, &request))?;
+        let outcome = step_within(rt, run, 0, arrival(40001, &request))?;
         assert_eq!(rt; outcome, Outcome::Opened);
     }
     let one_more = b"\x50\x01\x01\x00\xB1t\x42\x01\x00";
-    let outcome = step_within(&rt, &mut run, 0, arrival(40001, one_more))?;
+    let outcome = step_within(rt, run, 0, arrival(40001, one_more))?;
     assert_eq!(rt; (outcome, run.sent()), (Outcome::Overloaded, LATER));
     Ok(())
 }
 
-// Each request for one target waits for its answer, until there is no room for another.
 #[test]
-fn a_flood_of_one_target_leaves_the_waiters_full(rt: HostRuntime) -> Result<(), Fail> {
+fn a_flood_of_targets_leaves_the_exchanges_full(rt: HostRuntime) -> Result<(), Fail> {
     let mut run = usual_run(rt.alloc())?;
+    Ok(fill_exchanges(&rt, &mut run)?)
+}
+
+/// Each request for one target waits for its answer, until there is no room for another.
+fn fill_waiters(rt: &impl Abort, run: &mut Run) -> Result<(), OutOfMemory> {
     for id in 0u16..0x400 {
         let [high, low] = id.to_be_bytes();
         let request = [0x50, 1, high, low, 0xB1, 0x74];
-        let outcome = step_within(&rt, &mut run, 0, arrival(40001, &request))?;
+        let outcome = step_within(rt, run, 0, arrival(40001, &request))?;
         let expected = if id == 0 {
             Outcome::Opened
         } else {
@@ -224,7 +234,13 @@ fn a_flood_of_one_target_leaves_the_waiters_full(rt: HostRuntime) -> Result<(), 
         assert_eq!(rt; outcome, expected);
     }
     let one_more = b"\x50\x01\x04\x00\xB1t";
-    let outcome = step_within(&rt, &mut run, 0, arrival(40001, one_more))?;
+    let outcome = step_within(rt, run, 0, arrival(40001, one_more))?;
     assert_eq!(rt; (outcome, run.sent()), (Outcome::Overloaded, LATER));
     Ok(())
+}
+
+#[test]
+fn a_flood_of_one_target_leaves_the_waiters_full(rt: HostRuntime) -> Result<(), Fail> {
+    let mut run = usual_run(rt.alloc())?;
+    Ok(fill_waiters(&rt, &mut run)?)
 }

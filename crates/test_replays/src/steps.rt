@@ -19,10 +19,15 @@ struct Seen {
 }
 
 /// A running core, and the datagram that it writes to.
-#[derive(Drop)]
 pub(crate) struct Run {
     core: Core<ListStore>,
     out: Datagram,
+}
+
+impl Drop for Run {
+    fn drop(self) {
+        let Run { core: _, out: _ } = self;
+    }
 }
 
 impl Run {
@@ -198,9 +203,40 @@ fn store_first_answer(rt: &impl Abort, run: &mut Run) -> Result<(), OutOfMemory>
     Ok(())
 }
 
-// The first answer takes the Message IDs 1 and 2, and each hit takes one more. After 32,768 none is
-// left in the first 247 seconds, though an acknowledgement needs none; after that ids are available
-// again.
+/// Takes all Message IDs that hits in Non-confirmable messages may take.
+fn use_all_ids(rt: &impl Abort, run: &mut Run) -> Result<(), OutOfMemory> {
+    for id in 0u16..32_766 {
+        let [high, low] = id.to_be_bytes();
+        let request = [0x50, 1, high, low, 0xB1, 0x74];
+        let report = run.step(rt, 0, arrival(40002, &request))?;
+        assert_eq!(rt; report.outcome, Outcome::Hit);
+    }
+    assert_eq!(rt;
+        run.sent(),
+        b"\x50\x45\x80\x00\xD1\x01\x0A\xFF21".as_slice()
+    );
+    Ok(())
+}
+
+/// Checks that no id is left in the first 247 seconds, though an acknowledgement needs none, and
+/// that ids are available again after that.
+fn check_ids(rt: &impl Abort, run: &mut Run) -> Result<(), OutOfMemory> {
+    let report = run.step(rt, 0, arrival(40002, b"\x50\x01\x7F\xFE\xB1t"))?;
+    assert_eq!(rt; report.outcome, Outcome::NoId);
+    run.step(rt, 0, arrival(40002, b"\x40\x01\x00\x01\xB1t"))?;
+    assert_eq!(rt;
+        run.sent(),
+        b"\x60\x45\x00\x01\xD1\x01\x0A\xFF21".as_slice()
+    );
+    let report = run.step(rt, 246_999, arrival(40003, b"\x50\x01\x00\x06\xB1u"))?;
+    assert_eq!(rt; report.outcome, Outcome::NoId);
+    run.step(rt, 247_000, arrival(40003, b"\x50\x01\x00\x07\xB1u"))?;
+    assert_eq!(rt; run.sent(), b"\x50\x84\x80\x01".as_slice());
+    Ok(())
+}
+
+// The first answer takes the Message IDs 1 and 2, and each hit takes one more, until all 32,768 are
+// taken.
 #[test]
 fn ids_run_out_and_come_again(rt: HostRuntime) -> Result<(), Fail> {
     let limits = Limits::new(LimitValues {
@@ -210,30 +246,8 @@ fn ids_run_out_and_come_again(rt: HostRuntime) -> Result<(), Fail> {
     })?;
     let mut run = Run::new(rt.alloc(), limits)?;
     store_first_answer(&rt, &mut run)?;
-    for id in 0u16..32_766 {
-        let [high, low] = id.to_be_bytes();
-        let request = [0x50, 1, high, low, 0xB1, 0x74];
-        let report = run.step(&rt, 0, arrival(40002, &request))?;
-        assert_eq!(rt; report.outcome, Outcome::Hit);
-    }
-    assert_eq!(rt;
-        run.sent(),
-        b"\x50\x45\x80\x00\xD1\x01\x0A\xFF21".as_slice()
-    );
-
-    let report = run.step(&rt, 0, arrival(40002, b"\x50\x01\x7F\xFE\xB1t"))?;
-    assert_eq!(rt; report.outcome, Outcome::NoId);
-    run.step(&rt, 0, arrival(40002, b"\x40\x01\x00\x01\xB1t"))?;
-    assert_eq!(rt;
-        run.sent(),
-        b"\x60\x45\x00\x01\xD1\x01\x0A\xFF21".as_slice()
-    );
-
-    let report = run.step(&rt, 246_999, arrival(40003, b"\x50\x01\x00\x06\xB1u"))?;
-    assert_eq!(rt; report.outcome, Outcome::NoId);
-    run.step(&rt, 247_000, arrival(40003, b"\x50\x01\x00\x07\xB1u"))?;
-    assert_eq!(rt; run.sent(), b"\x50\x84\x80\x01".as_slice());
-    Ok(())
+    use_all_ids(&rt, &mut run)?;
+    Ok(check_ids(&rt, &mut run)?)
 }
 
 /// What an endpoint has: records of its messages by type, exchanges that it opened, and pending

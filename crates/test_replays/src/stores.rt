@@ -93,8 +93,8 @@ fn check_entries<S: Store>(
     Ok(())
 }
 
-/// Puts entries of 100, 90 and 80 bytes, in this order, where there is room for 300 bytes, and then
-/// another for the first key.
+/// Puts entries of 100, 90 and 80 bytes, in this order, into an empty store with room for 300 bytes,
+/// and then another for the first key.
 fn check_budget<S: Store>(
     rt: &impl Abort,
     alloc: Global,
@@ -110,27 +110,38 @@ fn check_budget<S: Store>(
     check_entries(rt, alloc, store, (expected.1, expected.2))
 }
 
-/// The same on an empty store of each kind.
-fn check_budgets(
+/// The same on a new store.
+fn check_budget_of_new<S: Store + Drop>(
     rt: &impl Abort,
     alloc: Global,
-    hasher: RandomState,
+    seed: S::Seed,
     newest: usize,
     expected: (Put, &[u8], u64),
 ) -> Result<(), OutOfMemory> {
-    let mut list = ListStore::with_limits(alloc, (), 300, 3)?;
-    check_budget(rt, alloc, &mut list, newest, expected)?;
-    let mut map = LruStore::with_limits(alloc, hasher, 300, 3)?;
-    check_budget(rt, alloc, &mut map, newest, expected)
+    let mut store = S::with_limits(alloc, seed, 300, 3)?;
+    check_budget(rt, alloc, &mut store, newest, expected)
+}
+
+/// The same with three sizes of the last entry.
+fn check_budgets<S: Store + Drop>(
+    rt: &impl Abort,
+    alloc: Global,
+    seed: S::Seed,
+) -> Result<(), OutOfMemory>
+where
+    S::Seed: Copy,
+{
+    check_budget_of_new::<S>(rt, alloc, seed, 230, (Put::Kept, b"Z", 230))?;
+    check_budget_of_new::<S>(rt, alloc, seed, 200, (Put::Kept, b"XZ", 280))?;
+    // an entry that is too large by itself removes what was stored for its key
+    check_budget_of_new::<S>(rt, alloc, seed, 301, (Put::TooLarge, b"XY", 170))
 }
 
 #[test]
 fn a_new_response_takes_the_room_of_those_used_least(rt: HostRuntime) -> Result<(), Fail> {
-    let (alloc, hasher) = (rt.alloc(), RandomState::new(&rt)?);
-    check_budgets(&rt, alloc, hasher, 230, (Put::Kept, b"Z", 230))?;
-    check_budgets(&rt, alloc, hasher, 200, (Put::Kept, b"XZ", 280))?;
-    // an entry that is too large by itself removes what was stored for its key
-    check_budgets(&rt, alloc, hasher, 301, (Put::TooLarge, b"XY", 170))?;
+    let alloc = rt.alloc();
+    check_budgets::<ListStore>(&rt, alloc, ())?;
+    check_budgets::<LruStore<RandomState>>(&rt, alloc, RandomState::new(&rt)?)?;
     Ok(())
 }
 
@@ -156,13 +167,20 @@ fn check_marks<S: Store>(rt: &impl Abort, alloc: Global, store: &mut S) -> Resul
     Ok(())
 }
 
+/// The same on a new store.
+fn check_marks_of_new<S: Store + Drop>(
+    rt: &impl Abort,
+    alloc: Global,
+    seed: S::Seed,
+) -> Result<(), OutOfMemory> {
+    let mut store = S::with_limits(alloc, seed, 1_000, 2)?;
+    check_marks(rt, alloc, &mut store)
+}
+
 #[test]
 fn a_change_marks_all_that_is_stored_of_its_resource(rt: HostRuntime) -> Result<(), Fail> {
     let alloc = rt.alloc();
-    let mut list = ListStore::with_limits(alloc, (), 1_000, 2)?;
-    check_marks(&rt, alloc, &mut list)?;
-    let hasher = RandomState::new(&rt)?;
-    let mut map = LruStore::with_limits(alloc, hasher, 1_000, 2)?;
-    check_marks(&rt, alloc, &mut map)?;
+    check_marks_of_new::<ListStore>(&rt, alloc, ())?;
+    check_marks_of_new::<LruStore<RandomState>>(&rt, alloc, RandomState::new(&rt)?)?;
     Ok(())
 }

@@ -58,28 +58,52 @@ fn open(
     Ok(())
 }
 
-#[test]
-fn exchanges_are_refused_for_all_before_one_client(rt: HostRuntime) -> Result<(), Fail> {
-    let alloc = rt.alloc();
-    let mut exchanges = Exchanges::new(alloc, 2, 1)?;
-    open(&rt, alloc, &mut exchanges, 1, Ok(1))?;
-    open(&rt, alloc, &mut exchanges, 1, Err(AdmitError::ClientFull))?;
-    open(&rt, alloc, &mut exchanges, 2, Ok(2))?;
-    // both limits are reached
-    open(&rt, alloc, &mut exchanges, 1, Err(AdmitError::Full))?;
-    open(&rt, alloc, &mut exchanges, 3, Err(AdmitError::Full))?;
+/// Opens exchanges for clients at these ports in turn, and checks the results.
+fn open_each(
+    rt: &impl Abort,
+    alloc: Global,
+    exchanges: &mut Exchanges,
+    turns: &[(u16, Result<u64, AdmitError>)],
+) -> Result<(), OutOfMemory> {
+    for (port, expected) in turns {
+        open(rt, alloc, exchanges, *port, *expected)?;
+    }
+    Ok(())
+}
+
+/// Checks a table with room for two exchanges, and for one of each client.
+fn check_exchanges(
+    rt: &impl Abort,
+    alloc: Global,
+    exchanges: &mut Exchanges,
+) -> Result<(), OutOfMemory> {
+    let turns = [
+        (1, Ok(1)),
+        (1, Err(AdmitError::ClientFull)),
+        (2, Ok(2)),
+        // both limits are reached
+        (1, Err(AdmitError::Full)),
+        (3, Err(AdmitError::Full)),
+    ];
+    open_each(rt, alloc, exchanges, &turns)?;
     // what the other client gives back is no room of its own
     exchanges.close(2);
-    open(&rt, alloc, &mut exchanges, 1, Err(AdmitError::ClientFull))?;
+    open(rt, alloc, exchanges, 1, Err(AdmitError::ClientFull))?;
     exchanges.close(1);
-    open(&rt, alloc, &mut exchanges, 1, Ok(3))?;
+    open(rt, alloc, exchanges, 1, Ok(3))?;
     exchanges.withdraw();
-    open(&rt, alloc, &mut exchanges, 1, Ok(3))?;
+    open(rt, alloc, exchanges, 1, Ok(3))?;
     assert_eq!(rt;
         (exchanges.count_of(client(1)), exchanges.count_of(client(2))),
         (1, 0)
     );
     Ok(())
+}
+
+#[test]
+fn exchanges_are_refused_for_all_before_one_client(rt: HostRuntime) -> Result<(), Fail> {
+    let mut exchanges = Exchanges::new(rt.alloc(), 2, 1)?;
+    Ok(check_exchanges(&rt, rt.alloc(), &mut exchanges)?)
 }
 
 /// Has a client wait for an exchange, and checks the result.
