@@ -54,6 +54,10 @@ module _ (old mid new : Datagram) (room before : ℕ) (xs ys : List Opt) where
       let others : Appends mid new room (options_spelling (last_number before xs) ys) r = subst (λ (n : ℕ). Appends mid new room (options_spelling n ys) r) is b in
       rw (options_spelling-append before xs ys) (Appends-behind old mid new room (options_spelling before xs) (options_spelling (last_number before xs) ys) tt r a others)
 
+-- what holds all of them is within the room
+pub held-within : (old new : Datagram) (room : ℕ) (bytes : List ℕ) → Appends old new room bytes (Ok tt) → length new.bytes ≤ room
+held-within old new room bytes a = rw a.0 (omega (arith, a.1, length-append old.bytes bytes))
+
 -- errors are alike
 pub error-as : (old new : Datagram) (room : ℕ) (bytes : List ℕ) (e f : Full) → Appends old new room bytes (Err e) → Appends old new room bytes (Err f)
 error-as old new room bytes e f a = a

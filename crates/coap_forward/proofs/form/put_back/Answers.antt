@@ -4,7 +4,7 @@ use Rattle.coap_message.specs.declared.options.Opt.{Opt}
 use Rattle.coap_message.specs.Datagram.{unit_of}
 use Rattle.coap_forward.specs.Gaps.{given, others_in, part_of, scheme_value}
 use Rattle.coap_forward.specs.declared.form.Gap.TheVariants.{BeforePath, BeforeQuery, BeforeScheme, Last}
-use Rattle.coap_forward.proofs.Gaps.{full-first, written-both}
+use Rattle.coap_forward.proofs.Gaps.{full-first, held-within, written-both}
 use Rattle.coap_forward.proofs.form.put_back.Goals.{After-put_part}
 use Rattle.coap_forward.proofs.form.put_back.Goals as goal
 
@@ -58,3 +58,12 @@ returns c =
     written-both c.args.out.now pathed new c.args.room c.args.before (one k) (two k ++ (three k ++ four k)) c.in_ok-last.last (unit_of c.put_others.result) (rw c.iter.ensures.list at c.in_ok-last.ensures.last) (rw c.iter.ensures.list at c.in_ok-last.ensures.written)
     (written-both pathed queried new c.args.room c.in_ok-last.last (two k) (three k ++ four k) c.in_ok-last-2.last (unit_of c.put_others.result) (rw c.iter-2.ensures.list at c.in_ok-last-2.ensures.last) (rw c.iter-2.ensures.list at c.in_ok-last-2.ensures.written)
     (written-both queried schemed new c.args.room c.in_ok-last-2.last (three k) (four k) c.in_ok-last-3.last (unit_of c.put_others.result) (rw c.scheme_of.ensures at c.in_ok-last-3.ensures.last) (rw c.scheme_of.ensures at c.in_ok-last-3.ensures.written) c.put_others.ensures.written))
+
+pub put_part-requires-2-clause-held : goal.put_part-requires-2-clause-held
+put_part-requires-2-clause-held c = held-within c.args.out.now c.put_part.new.out c.args.room _ c.in_ok-last.ensures.written
+
+pub put_part-requires-3-clause-held : goal.put_part-requires-3-clause-held
+put_part-requires-3-clause-held c = held-within c.put_part.new.out c.put_part-2.new.out c.args.room _ c.in_ok-last-2.ensures.written
+
+pub put_others-requires-clause-held : goal.put_others-requires-clause-held
+put_others-requires-clause-held c = held-within c.put_part-2.new.out c.put_part-3.new.out c.args.room _ c.in_ok-last-3.ensures.written

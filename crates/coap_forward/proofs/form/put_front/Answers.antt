@@ -6,7 +6,7 @@ use Rattle.coap_message.specs.Datagram.{unit_of}
 use Rattle.coap_message.specs.Uint.{uint_spelling}
 use Rattle.coap_forward.specs.Gaps.{given, part_of, port_value, tag_options, values_left}
 use Rattle.coap_forward.specs.declared.form.Gap.TheVariants.{BeforeHost, BeforePort}
-use Rattle.coap_forward.proofs.Gaps.{full-first, written-both, ok-both, given-short, port-bytes}
+use Rattle.coap_forward.proofs.Gaps.{full-first, held-within, written-both, ok-both, given-short, port-bytes}
 use Rattle.coap_forward.proofs.form.put_front.Goals.{After-put_part}
 use Rattle.coap_forward.proofs.form.put_front.Goals as goal
 
@@ -61,3 +61,9 @@ returns-clause-last c =
     let k = (goal.at.returns-clause-last c).After-put_part in
     ok-both 0 c.in_ok-last.last (one k) (two k ++ three k) c.put_part-2.result (rw c.host_of.ensures at c.in_ok-last.ensures.last)
     (ok-both c.in_ok-last.last c.in_ok-last-2.last (two k) (three k) c.put_part-2.result c.in_ok-last-2.ensures.last (rw (port c) at c.put_part-2.ensures.last))
+
+pub put_values-requires-clause-held : goal.put_values-requires-clause-held
+put_values-requires-clause-held c = held-within c.args.out.now c.put_part.new.out c.args.room _ c.in_ok-last.ensures.written
+
+pub put_part-requires-2-clause-held : goal.put_part-requires-2-clause-held
+put_part-requires-2-clause-held c = held-within c.put_part.new.out c.put_values.new.out c.args.room _ c.in_ok-last-2.ensures.written
