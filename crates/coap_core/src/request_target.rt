@@ -99,12 +99,23 @@ impl CacheQuery {
         path: usize,
     ) -> Result<CacheQuery, OutOfMemory> {
         let mut query = CacheQuery::new(alloc);
-        query.host_room = Some(Seq::with_capacity(alloc, LONGEST_HOST)?);
-        query.key.target.path = Pieces::with_room(alloc, datagram.saturating_add(path))?;
-        query.key.target.query = Pieces::with_room(alloc, datagram)?;
-        query.key.options = OptionList::with_room(alloc, datagram)?;
-        query.tags = Pieces::with_room(alloc, datagram)?;
+        query.make_room(alloc, datagram, path)?;
         Ok(query)
+    }
+
+    /// Gives each of its parts that room.
+    fn make_room(
+        &mut self,
+        alloc: Global,
+        datagram: usize,
+        path: usize,
+    ) -> Result<(), OutOfMemory> {
+        self.host_room = Some(Seq::with_capacity(alloc, LONGEST_HOST)?);
+        self.key.target.path = Pieces::with_room(alloc, datagram.saturating_add(path))?;
+        self.key.target.query = Pieces::with_room(alloc, datagram)?;
+        self.key.options = OptionList::with_room(alloc, datagram)?;
+        self.tags = Pieces::with_room(alloc, datagram)?;
+        Ok(())
     }
 
     /// Reads what a request for a target asks for.
