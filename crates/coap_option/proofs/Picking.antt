@@ -143,3 +143,7 @@ pub IsAt-ends : (left rest : List Opt) (x : Opt) (run : Run) → left ≡ x ∷ 
 IsAt-ends left rest x run next at =
     let are = subst (AreOptions run.number) next at.in_order in
     record { in_order = AreOptions-from run.number x.number rest are.0 are.3; within = omega (arith, at.within, ap length next) }
+
+-- the value of the option that comes next is added behind those that are there
+pub value-added : (all kept : List (List ℕ)) (left rest : List Opt) (o : Opt) → all ≡ kept ++ map (λ q. q.value) left → left ≡ o ∷ rest → all ≡ kept ++ (o.value ∷ []) ++ map (λ q. q.value) rest
+value-added all kept left rest o is next = is ∙ ap (λ (l : List Opt). kept ++ map (λ (q : Opt). q.value) l) next ∙ sym (append_assoc kept (o.value ∷ []) (map (λ (q : Opt). q.value) rest))
