@@ -45,6 +45,13 @@ use Rattle.coap_model.proofs.Places.{here, same_moves, Opens-unique, place-befor
 use Rattle.coap_model.proofs.Stages.{all-before}
 use Rattle.coap_model.proofs.Verdicts.{code-same, askable}
 
+-- what contradicts itself gives anything
+apart : {A B : Type 0} (x : A) → Some x ≡ None → B
+apart x e = absurd cc
+
+never : {B : Type 0} → false ≡ true → B
+never e = absurd cc
+
 -- an answer that is no larger than the limit is kept, if its key has an entry
 pub kept-there : (o : Outcome) (setting : Setting) (past : List Deed) (d : Deed) (cached : List Cached) (entry : Cached) (h : IsObtainedHere setting past d) → JustifiedBy o setting past d → takes o ≡ true → size_here h ≤ setting.limits.cache_bytes → IsCacheOf setting past cached → of_key cached_key (key_asked h.gets) cached ≡ Some entry → o ≡ Answered Kept
 kept-there (Answered Kept) setting past d cached entry h j took small is found = refl
@@ -53,10 +60,9 @@ kept-there (Answered NoMemory) setting past d cached entry h j took small is fou
     let one = one-getting h.gets j.here.gets in
     let cache = cache-unique setting past cached j.cached is j.is_cache in
     let none : of_key cached_key (key_asked h.gets) cached ≡ None = (λ i. of_key cached_key (one.key i) (cache i)) ∙ j.new in
-    let e = sym found ∙ none in
-    absurd cc
+    apart entry (sym found ∙ none)
 kept-there (Answered NotStored) setting past d cached entry h j took small is found = absurd (j.none h)
-kept-there _ setting past d cached entry h j took small is found = absurd cc
+kept-there _ setting past d cached entry h j took small is found = never took
 
 -- ---- what may be stored was obtained
 
