@@ -1,4 +1,4 @@
-use Rattle.std.proofs.Common.{◌≡◌, true, refl, sym}
+use Rattle.std.proofs.Common.{◌≡◌, true, refl, sym, rules}
 use Rattle.coap_option.proofs.Picking.{on_err}
 use Rattle.coap_model.specs.State.{has_record_room, remembers}
 use Rattle.coap_model.specs.Requests.{on_new, on_known, on_request}
@@ -26,3 +26,6 @@ pub returns-clause-memory : goal.returns-clause-memory
 returns-clause-memory g c =
     rw (new g (goal.at.returns-clause-memory g c).After-has_record_room (sym c.if-not-has_record_room.ensures))
     (on_err c.on_new.result (new-takes c.args.self.now c.args.arrival.now c.args.arrival.from c.args.arrival.message.now))
+
+pub returns-then-not-has_record_room-clause-done : goal.returns-then-not-has_record_room-clause-done
+returns-then-not-has_record_room-clause-done c = search rules
