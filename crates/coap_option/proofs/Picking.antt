@@ -1,5 +1,5 @@
 -- The options of a message for which, in their places, a test holds, one after the other.
-use Rattle.std.proofs.Common.{Result, Ok, Err, OnErr, ◌≡◌, ℕ, ◌+◌, ◌-◌, ◌<◌, ◌≤◌, cond, Bool, true, false, Option, Some, None, option_map, List, [], ◌∷◌, ◌++◌, length, find, filter, map, refl, sym, subst, ap, ◌∙◌, append_assoc, arith, ◌⊎◌, inl, inr}
+use Rattle.std.proofs.Common.{Result, Ok, Err, OnErr, ◌≡◌, ℕ, ◌+◌, ◌<◌, ◌≤◌, cond, Bool, true, false, Option, Some, None, option_map, List, [], ◌∷◌, ◌++◌, length, find, filter, map, refl, sym, subst, ap, ◌∙◌, append_assoc, arith, ◌⊎◌, inl, inr}
 use Rattle.std.specs.Prelude.{MatchOption}
 use Rattle.coap_message.specs.declared.options.Opt.{Opt}
 use Rattle.coap_message.specs.Options.{AreOptions, from_number, last_number}
