@@ -75,3 +75,7 @@ counts-less place counts pairs less q b v are e is lt one =
     counts-set place counts pairs less b v are lt
     (omega (arith, are b lt, e (λ p. eqb (place p.0) b), for-own place q b is))
     (λ i other. omega (arith, e (λ p. eqb (place p.0) i), for-other place q b i is other))
+
+-- a pair that leaves was counted
+pub counted-some : (place : ℕ → ℕ) (counts : List ℕ) (pairs less : List Pair) (q : Pair) (b : ℕ) → AreCounts place counts pairs → ((f : Pair → Bool) → count_by f less + one_if (f q) ≡ count_by f pairs) → place q.0 ≡ b → b < length counts → 0 < get_or counts b 0
+counted-some place counts pairs less q b are e is lt = omega (arith, are b lt, e (λ p. eqb (place p.0) b), for-own place q b is)

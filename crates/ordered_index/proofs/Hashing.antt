@@ -201,6 +201,11 @@ neither p xs ys e = go (is_in p xs) (is_in p ys) refl refl (sym (in-append p xs 
     go false true f g h = absurd cc
     go false false f g h = (f, g)
 
+-- where a pair is, there is one
+pub some-there : (p : Pair) (xs : List Pair) → is_in p xs ≡ true → 0 < length xs
+some-there p [] there = absurd cc
+some-there p (x ∷ xs) there = omega arith
+
 -- what isn't in the first part is in the second
 pub in-second : (p : Pair) (xs ys : List Pair) → is_in p (xs ++ ys) ≡ true → is_in p xs ≡ false → is_in p ys ≡ true
 in-second p xs ys e f = sym (ap (λ (b : Bool). b || is_in p ys) f) ∙ sym (in-append p xs ys) ∙ e

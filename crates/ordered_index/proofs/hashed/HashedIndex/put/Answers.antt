@@ -72,3 +72,14 @@ pub overflow_add-self : goal.overflow_add-self
 overflow_add-self c =
     let room : length (pairs_of c.self.inside.buckets.items ++ c.self.inside.rest.pairs) < c.self.inside.rest.limit = subst (λ (r : OrderedIndex). length r.pairs < r.limit) (sym c.self.view_is) c.requires.room in
     omega (arith, room, c.self.invariant.0, c.limit-laws.ensures.exact)
+
+pub put-requires-clause-room : goal.put-requires-clause-room
+put-requires-clause-room c =
+    let room : length (pairs_of c.self.inside.buckets.items ++ c.self.inside.rest.pairs) < c.self.inside.rest.limit = subst (λ (r : OrderedIndex). length r.pairs < r.limit) (sym c.self.view_is) c.requires.room in
+    omega (arith, room, length-append (pairs_of c.self.inside.buckets.items) c.self.inside.rest.pairs)
+
+pub returns-then-not-put_in-clause-length : goal.returns-then-not-put_in-clause-length
+returns-then-not-put_in-clause-length c = omega (arith, (c.if-not-put_in.ensures).length, c.put.ensures.length, length-append (pairs_of c.self.inside.buckets.items) c.self.inside.rest.pairs, length-append (pairs_of c.put_in.new.buckets.items) c.put.new.self.pairs, ap (λ (r : OrderedIndex). length r.pairs) c.self.view_is)
+
+pub returns-else-not-put_in-clause-length : goal.returns-else-not-put_in-clause-length
+returns-else-not-put_in-clause-length c = omega (arith, (c.if-not-put_in.ensures).length, length-append (pairs_of c.self.inside.buckets.items) c.self.inside.rest.pairs, length-append (pairs_of c.put_in.new.buckets.items) c.self.inside.rest.pairs, ap (λ (r : OrderedIndex). length r.pairs) c.self.view_is)
