@@ -15,12 +15,21 @@ use std::alloc::Global;
 
 /// The numbers of records: each has one more than the record before it, wrapping around to 0 after
 /// the greatest.
-#[derive(Drop)]
 pub(crate) struct Numbers {
     pub(crate) by_message: IndexMap<Key, u64, Seeded>,
     pub(crate) by_source: Sources,
     /// The number of the first record, or of the next one if there is none.
     pub(crate) first: u64,
+}
+
+impl Drop for Numbers {
+    fn drop(self) {
+        let Numbers {
+            by_message: _,
+            by_source: _,
+            first: _,
+        } = self;
+    }
 }
 
 impl Numbers {
@@ -32,10 +41,12 @@ impl Numbers {
         ensures none { IfOk result (λ numbers. AreNumbersOf numbers []) }
         ensures capacity { IfOk result (λ numbers. numbers.by_source.nexts.capacity ≡ limit) }
     {
+        let by_source = Sources::new(alloc, limit, seed)?;
         let room = limit.saturating_mul(2);
+        let by_message = IndexMap::with_capacity_and_hasher(alloc, room, Seeded::new(seed))?;
         Ok(Numbers {
-            by_message: IndexMap::with_capacity_and_hasher(alloc, room, Seeded::new(seed))?,
-            by_source: Sources::new(alloc, limit, seed)?,
+            by_message,
+            by_source,
             first: 0,
         })
     }

@@ -28,11 +28,19 @@ pub(crate) struct Share {
 pub(crate) type Shares = IndexMap<Endpoint, Share, Seeded>;
 
 /// Which records are of messages from which endpoint.
-#[derive(Drop)]
 pub(crate) struct Sources {
     pub(crate) shares: Shares,
     /// For each record in turn, the number of the next one of the same endpoint, if there is one.
     pub(crate) nexts: HeapCircularBuffer<u64>,
+}
+
+impl Drop for Sources {
+    fn drop(self) {
+        let Sources {
+            shares: _,
+            nexts: _,
+        } = self;
+    }
 }
 
 impl Sources {
@@ -45,11 +53,10 @@ impl Sources {
         ensures none { IfOk result (λ sources. AreSourced 0 sources []) }
         ensures capacity { IfOk result (λ sources. sources.nexts.capacity ≡ limit) }
     {
+        let nexts = HeapCircularBuffer::with_capacity(alloc, limit)?;
         let room = limit.saturating_mul(2);
-        Ok(Sources {
-            shares: IndexMap::with_capacity_and_hasher(alloc, room, Seeded::new(seed))?,
-            nexts: HeapCircularBuffer::with_capacity(alloc, limit)?,
-        })
+        let shares = IndexMap::with_capacity_and_hasher(alloc, room, Seeded::new(seed))?;
+        Ok(Sources { shares, nexts })
     }
 
     /// The share of an endpoint, if it has one.

@@ -5,6 +5,6 @@ use Rattle.coap_dedup.proofs.numbers.Numbers.new.Goals as goal
 
 pub returns-clause-none : goal.returns-clause-none
 returns-clause-none c = record {
-  by_message = record { origin = 0; is_first = omega arith; numbered = λ key. ap (lookup (same_key key)) c.in_ok-with_capacity_and_hasher.ensures.empty };
-  by_source = c.in_ok-new.ensures.none;
+  by_message = record { origin = 0; is_first = omega arith; numbered = λ key. ap (lookup (same_key key)) c.in_ok-by_message.ensures.empty };
+  by_source = c.in_ok-by_source.ensures.none;
 }
