@@ -10,7 +10,7 @@ use Rattle.coap_exchange.specs.declared.index.Sought.TheVariants.{SentAs, Joinab
 use Rattle.coap_exchange.specs.Digests.{digest_of_endpoint, digest_of_key, digest_of_target}
 use Rattle.coap_exchange.specs.Exchanges.{answer_at, is_acked, is_blocked, is_done, is_joinable, is_missing, is_queued, is_sent, was_sent_as}
 use Rattle.coap_exchange.specs.Endpoints.{is_queued_to}
-use Rattle.ordered_index.specs.Ordered.{Pair, OrderedIndex, is_in, is_key, one_of, IsKeyIn, IsRekeyed}
+use Rattle.ordered_index.specs.Ordered.{Pair, OrderedIndex, empty_index, is_in, is_key, one_of, IsKeyIn, IsRekeyed}
 use Rattle.coap_exchange.specs.Table.{Numbered, IsRising, count, item_at, passes}
 use Rattle.coap_exchange.specs.Waiters.{moment_of}
 
@@ -102,6 +102,19 @@ pub record AreIndexed (items : List (Numbered Exchange)) (limit : ℕ) (index : 
   pub queues : IsIndexOf queue_of items limit index.queues
   pub cache_keys : IsIndexOf cache_key_of items limit index.cache_keys
   pub targets : IsIndexOf target_of items limit index.targets
+
+-- nothing is looked up yet
+abbrev pub empty_indexes : ℕ → Index
+empty_indexes limit =
+    record {
+      ids = empty_index limit;
+      dones = empty_index limit;
+      openings = empty_index limit;
+      ends = empty_index limit;
+      queues = empty_index limit;
+      cache_keys = empty_index limit;
+      targets = empty_index limit;
+    }
 
 pub record CanRekeyAll (index : Index) (number : ℕ) (was is : ExchangeKeys) : Type 0 where
   pub ids : CanRekey index.ids number was.id is.id

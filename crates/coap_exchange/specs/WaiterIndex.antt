@@ -1,6 +1,6 @@
 -- What waiters are looked up by.
 use Rattle.std.specs.Prelude.{◌≡◌, ℕ, ◌+◌, List, Option, Some, None}
-use Rattle.ordered_index.specs.Ordered.{is_key, many_of, one_if}
+use Rattle.ordered_index.specs.Ordered.{empty_index, is_key, many_of, one_if}
 use Rattle.coap_exchange.specs.declared.exchange.Exchange.{Exchange}
 use Rattle.coap_exchange.specs.declared.waiter_index.WaiterKeys.{WaiterKeys}
 use Rattle.coap_exchange.specs.declared.waiter_index.WaiterIndex.{WaiterIndex}
@@ -42,6 +42,11 @@ pub record AreWaitersIndexed (items : List (Numbered Waiter)) (limit : ℕ) (ind
   pub awaited : IsIndexOf awaited_of items limit index.awaited
   pub ids : IsIndexOf id_of items limit index.ids
   pub ends : IsIndexOf end_of items limit index.ends
+
+-- nothing is looked up yet
+abbrev pub empty_waiter_index : ℕ → WaiterIndex
+empty_waiter_index limit =
+    record { awaited = empty_index limit; ids = empty_index limit; ends = empty_index limit }
 
 pub record CanRekeyWaiter (index : WaiterIndex) (number : ℕ) (was is : WaiterKeys) : Type 0 where
   pub awaited : CanRekey index.awaited number was.awaited is.awaited

@@ -1,7 +1,7 @@
 //! What exchanges are looked up by, so that no lookup scans them all.
 ghost use Rattle.std.specs.Prelude.{◌≡◌, Some, IfOk};
 ghost use Rattle.std.specs.Option.{option_copied};
-ghost use Rattle.coap_exchange.specs.Index.{queue_of, end_of, got_of, id_of, cache_key_of, target_of, is_met, opening_of, keys_at, AreListed, CanRekeyAll, HaveRekeyed};
+ghost use Rattle.coap_exchange.specs.Index.{empty_indexes, queue_of, end_of, got_of, id_of, cache_key_of, target_of, is_met, opening_of, keys_at, AreListed, CanRekeyAll, HaveRekeyed};
 ghost use Rattle.ordered_index.specs.Ordered.{empty_index};
 ghost use Rattle.coap_exchange.specs.Table.{first_that, item_at, passes, IsRising, IsTable};
 
@@ -104,13 +104,7 @@ impl Index {
     /// # Errors
     /// Out of memory.
     pub(crate) fn new(alloc: Global, limit: usize, seed: u64) -> Result<Index, OutOfMemory>
-        ensures ids { IfOk result (λ index. index.ids ≡ empty_index limit) }
-        ensures dones { IfOk result (λ index. index.dones ≡ empty_index limit) }
-        ensures openings { IfOk result (λ index. index.openings ≡ empty_index limit) }
-        ensures ends { IfOk result (λ index. index.ends ≡ empty_index limit) }
-        ensures queues { IfOk result (λ index. index.queues ≡ empty_index limit) }
-        ensures cache_keys { IfOk result (λ index. index.cache_keys ≡ empty_index limit) }
-        ensures targets { IfOk result (λ index. index.targets ≡ empty_index limit) }
+        ensures empty { IfOk result (λ index. index ≡ empty_indexes limit) }
     {
         let dones = OrderedIndex::new(alloc, limit)?;
         let openings = OrderedIndex::new(alloc, limit)?;

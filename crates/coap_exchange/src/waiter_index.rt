@@ -1,8 +1,7 @@
 //! What waiters are looked up by.
 ghost use Rattle.std.specs.Prelude.{◌≡◌, IfOk};
 ghost use Rattle.std.specs.Option.{option_copied};
-ghost use Rattle.coap_exchange.specs.WaiterIndex.{waiter_keys_at, CanRekeyWaiter, HaveRekeyedWaiter};
-ghost use Rattle.ordered_index.specs.Ordered.{empty_index};
+ghost use Rattle.coap_exchange.specs.WaiterIndex.{empty_waiter_index, waiter_keys_at, CanRekeyWaiter, HaveRekeyedWaiter};
 
 use crate::exchange::ExchangeNumber;
 use crate::waiter::{Waiter, WaiterNumber, WaiterState};
@@ -47,9 +46,7 @@ impl WaiterIndex {
     /// # Errors
     /// Out of memory.
     pub(crate) fn new(alloc: Global, limit: usize) -> Result<WaiterIndex, OutOfMemory>
-        ensures awaited { IfOk result (λ index. index.awaited ≡ empty_index limit) }
-        ensures ids { IfOk result (λ index. index.ids ≡ empty_index limit) }
-        ensures ends { IfOk result (λ index. index.ends ≡ empty_index limit) }
+        ensures empty { IfOk result (λ index. index ≡ empty_waiter_index limit) }
     {
         Ok(WaiterIndex {
             awaited: OrderedIndex::new(alloc, limit)?,

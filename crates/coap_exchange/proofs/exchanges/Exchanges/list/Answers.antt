@@ -1,7 +1,7 @@
-use Rattle.std.proofs.Common.{◌≡◌, ◌∙◌, ◌+◌, ◌<◌, Some, true, false, length, arith, refl}
+use Rattle.std.proofs.Common.{◌≡◌, ◌∙◌, ◌+◌, ◌<◌, Some, true, false, length, ap, arith, refl, rules}
 use Rattle.coap_exchange.specs.declared.exchange.Exchange.{Exchange}
 use Rattle.coap_exchange.specs.Exchanges.{is_opened_by, is_queued, is_sent}
-use Rattle.coap_exchange.specs.Table.{admitted_to, count}
+use Rattle.coap_exchange.specs.Table.{Table, admitted_to, count}
 use Rattle.coap_exchange.specs.Endpoints.{is_with}
 use Rattle.coap_exchange.proofs.ByClient.{of_clients-push, of_clients-undone, within-push}
 use Rattle.coap_exchange.proofs.Counts.{count-length}
@@ -143,3 +143,33 @@ invariant_of-self-in-Err c =
       c.self.invariant.5,
       record { for_heads = c.self.invariant.6.for_heads; for_endpoints = c.close_one.ensures.limit ∙ c.open_one.ensures.limit ∙ c.self.invariant.6.for_endpoints; for_clients = c.depart.ensures.limit ∙ c.enter.ensures.limit ∙ c.self.invariant.6.for_clients },
     )
+
+pub head_of-head-requires-clause-indexed : goal.head_of-head-requires-clause-indexed
+head_of-head-requires-clause-indexed c = c.self.invariant.2
+
+pub head_of-head-requires-clause-counted : goal.head_of-head-requires-clause-counted
+head_of-head-requires-clause-counted c = c.self.invariant.1
+
+pub returns-in-Ok-clause-number : goal.returns-in-Ok-clause-number
+returns-in-Ok-clause-number c = c.in-Ok.ensures.number ∙ ap (λ (t : Table Exchange). t.admitted + 1) c.self.view_is
+
+pub returns-in-Ok-clause-ok : goal.returns-in-Ok-clause-ok
+returns-in-Ok-clause-ok c = c.in-Ok.ensures.ok ∙ ap (admitted_to c.args.listed) c.self.view_is
+
+pub returns-in-Ok-clause-memory : goal.returns-in-Ok-clause-memory
+returns-in-Ok-clause-memory c = tt
+
+pub returns-in-Ok-clause-err : goal.returns-in-Ok-clause-err
+returns-in-Ok-clause-err c = tt
+
+pub returns-in-Err-clause-number : goal.returns-in-Err-clause-number
+returns-in-Err-clause-number c = tt
+
+pub returns-in-Err-clause-ok : goal.returns-in-Err-clause-ok
+returns-in-Err-clause-ok c = tt
+
+pub returns-in-Err-clause-memory : goal.returns-in-Err-clause-memory
+returns-in-Err-clause-memory c = search rules
+
+pub returns-in-Err-clause-err : goal.returns-in-Err-clause-err
+returns-in-Err-clause-err c = c.in-Err.ensures.err ∙ c.self.view_is

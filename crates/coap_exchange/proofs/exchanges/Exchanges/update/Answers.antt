@@ -1,4 +1,4 @@
-use Rattle.std.proofs.Common.{◌∙◌, refl, subst, sym}
+use Rattle.std.proofs.Common.{◌∙◌, refl, rules, subst, sym}
 use Rattle.coap_exchange.specs.declared.exchange.Exchange.{Exchange}
 use Rattle.coap_exchange.specs.Exchanges.{changed_by, CanUpdate}
 use Rattle.coap_exchange.specs.SendQueue.{endpoint_in}
@@ -81,3 +81,27 @@ invariant_of-self c =
       within-updated changed_by n t is (λ (x : Exchange). x.client) client-after c.args.change c.self.invariant.5,
       record { for_heads = c.replace.ensures.limit ∙ c.self.invariant.6.for_heads; for_endpoints = c.recount.ensures.limit ∙ c.self.invariant.6.for_endpoints; for_clients = c.depart.ensures.limit ∙ c.self.invariant.6.for_clients },
     )
+
+pub head_of-head-requires-clause-indexed : goal.head_of-head-requires-clause-indexed
+head_of-head-requires-clause-indexed c = c.self.invariant.2
+
+pub head_of-head-requires-clause-counted : goal.head_of-head-requires-clause-counted
+head_of-head-requires-clause-counted c = c.self.invariant.1
+
+pub queued_without-queued-requires-clause-queued : goal.queued_without-queued-requires-clause-queued
+queued_without-queued-requires-clause-queued c = c.self.invariant.0.queued
+
+pub queued_without-queued-requires-clause-found : goal.queued_without-queued-requires-clause-found
+queued_without-queued-requires-clause-found c = c.get-found.ensures.exact
+
+pub recount-requires-clause-counted : goal.recount-requires-clause-counted
+recount-requires-clause-counted c = c.self.invariant.1
+
+pub recount-requires-clause-found : goal.recount-requires-clause-found
+recount-requires-clause-found c = c.get-found.ensures.exact
+
+pub replace-requires-clause-there : goal.replace-requires-clause-there
+replace-requires-clause-there c = search rules
+
+pub returns : goal.returns
+returns c = search rules

@@ -1,6 +1,7 @@
-use Rattle.std.proofs.Common.{◌∙◌, ◌+◌, ◌<◌, arith, refl, sym}
+use Rattle.std.proofs.Common.{rules, subst, ◌∙◌, ◌+◌, ◌<◌, arith, refl, sym}
 use Rattle.coap_exchange.specs.declared.waiter.Waiter.{Waiter}
-use Rattle.coap_exchange.specs.Table.{admitted_to, count}
+use Rattle.coap_exchange.specs.Clients.{AreWithin}
+use Rattle.coap_exchange.specs.Table.{IsTable, admitted_to, count}
 use Rattle.coap_exchange.specs.Waiters.{is_of, is_waiting, joined}
 use Rattle.coap_exchange.proofs.ByClient.{of_clients-push, within-push}
 use Rattle.coap_exchange.proofs.Counts.{count-length, count-push}
@@ -55,3 +56,114 @@ invariant_of-self c =
       within-push (λ (w : Waiter). w.client) t w own_room c.self.invariant.4,
       c.enter.ensures.limit ∙ c.self.invariant.5,
     )
+
+pub returns-then-is_full-clause-number : goal.returns-then-is_full-clause-number
+returns-then-is_full-clause-number c = tt
+
+pub returns-then-is_full-clause-ok : goal.returns-then-is_full-clause-ok
+returns-then-is_full-clause-ok c = tt
+
+pub returns-then-is_full-clause-full : goal.returns-then-is_full-clause-full
+returns-then-is_full-clause-full c = search rules
+
+pub returns-then-is_full-clause-client_full : goal.returns-then-is_full-clause-client_full
+returns-then-is_full-clause-client_full c = search rules
+
+pub returns-then-is_full-clause-room : goal.returns-then-is_full-clause-room
+returns-then-is_full-clause-room c = tt
+
+pub returns-then-is_full-clause-client_room : goal.returns-then-is_full-clause-client_room
+returns-then-is_full-clause-client_room c = tt
+
+pub returns-then-is_full-clause-err : goal.returns-then-is_full-clause-err
+returns-then-is_full-clause-err c = refl
+
+pub returns-then-is_full-clause-sound : goal.returns-then-is_full-clause-sound
+returns-then-is_full-clause-sound c = subst IsTable c.self.view_is c.is_full.ensures.sound
+
+pub returns-then-is_full-clause-within : goal.returns-then-is_full-clause-within
+returns-then-is_full-clause-within c = subst (AreWithin is_of) c.self.view_is c.self.invariant.4
+
+pub returns-then-count_of-per_client-clause-number : goal.returns-then-count_of-per_client-clause-number
+returns-then-count_of-per_client-clause-number c = tt
+
+pub returns-then-count_of-per_client-clause-ok : goal.returns-then-count_of-per_client-clause-ok
+returns-then-count_of-per_client-clause-ok c = tt
+
+pub returns-then-count_of-per_client-clause-full : goal.returns-then-count_of-per_client-clause-full
+returns-then-count_of-per_client-clause-full c = search rules
+
+pub returns-then-count_of-per_client-clause-client_full : goal.returns-then-count_of-per_client-clause-client_full
+returns-then-count_of-per_client-clause-client_full c = search rules
+
+pub returns-then-count_of-per_client-clause-room : goal.returns-then-count_of-per_client-clause-room
+returns-then-count_of-per_client-clause-room c = tt
+
+pub returns-then-count_of-per_client-clause-client_room : goal.returns-then-count_of-per_client-clause-client_room
+returns-then-count_of-per_client-clause-client_room c = tt
+
+pub returns-then-count_of-per_client-clause-err : goal.returns-then-count_of-per_client-clause-err
+returns-then-count_of-per_client-clause-err c = refl
+
+pub returns-then-count_of-per_client-clause-sound : goal.returns-then-count_of-per_client-clause-sound
+returns-then-count_of-per_client-clause-sound c = subst IsTable c.self.view_is c.is_full.ensures.sound
+
+pub returns-then-count_of-per_client-clause-within : goal.returns-then-count_of-per_client-clause-within
+returns-then-count_of-per_client-clause-within c = subst (AreWithin is_of) c.self.view_is c.self.invariant.4
+
+pub invariant_of-self-in-Err : goal.invariant_of-self-in-Err
+invariant_of-self-in-Err c = search rules
+
+pub returns-in-Ok-clause-number : goal.returns-in-Ok-clause-number
+returns-in-Ok-clause-number c = search rules
+
+pub returns-in-Ok-clause-ok : goal.returns-in-Ok-clause-ok
+returns-in-Ok-clause-ok c = search rules
+
+pub returns-in-Ok-clause-full : goal.returns-in-Ok-clause-full
+returns-in-Ok-clause-full c = tt
+
+pub returns-in-Ok-clause-client_full : goal.returns-in-Ok-clause-client_full
+returns-in-Ok-clause-client_full c = tt
+
+pub returns-in-Ok-clause-room : goal.returns-in-Ok-clause-room
+returns-in-Ok-clause-room c = search rules
+
+pub returns-in-Ok-clause-client_room : goal.returns-in-Ok-clause-client_room
+returns-in-Ok-clause-client_room c = search rules
+
+pub returns-in-Ok-clause-err : goal.returns-in-Ok-clause-err
+returns-in-Ok-clause-err c = tt
+
+pub returns-in-Ok-clause-sound : goal.returns-in-Ok-clause-sound
+returns-in-Ok-clause-sound c = subst IsTable c.self.view_is c.is_full.ensures.sound
+
+pub returns-in-Ok-clause-within : goal.returns-in-Ok-clause-within
+returns-in-Ok-clause-within c = subst (AreWithin is_of) c.self.view_is c.self.invariant.4
+
+pub returns-in-Err-clause-number : goal.returns-in-Err-clause-number
+returns-in-Err-clause-number c = tt
+
+pub returns-in-Err-clause-ok : goal.returns-in-Err-clause-ok
+returns-in-Err-clause-ok c = tt
+
+pub returns-in-Err-clause-full : goal.returns-in-Err-clause-full
+returns-in-Err-clause-full c = search rules
+
+pub returns-in-Err-clause-client_full : goal.returns-in-Err-clause-client_full
+returns-in-Err-clause-client_full c = search rules
+
+pub returns-in-Err-clause-room : goal.returns-in-Err-clause-room
+returns-in-Err-clause-room c = tt
+
+pub returns-in-Err-clause-client_room : goal.returns-in-Err-clause-client_room
+returns-in-Err-clause-client_room c = tt
+
+pub returns-in-Err-clause-err : goal.returns-in-Err-clause-err
+returns-in-Err-clause-err c = search rules
+
+pub returns-in-Err-clause-sound : goal.returns-in-Err-clause-sound
+returns-in-Err-clause-sound c = subst IsTable c.self.view_is c.is_full.ensures.sound
+
+pub returns-in-Err-clause-within : goal.returns-in-Err-clause-within
+returns-in-Err-clause-within c = subst (AreWithin is_of) c.self.view_is c.self.invariant.4
