@@ -84,3 +84,45 @@ returns-clause-client_room c = own_room c
 
 pub returns-clause-sound : goal.returns-clause-sound
 returns-clause-sound c = are c
+
+pub returns-then-is_full-clause-ok : goal.returns-then-is_full-clause-ok
+returns-then-is_full-clause-ok c = tt
+
+pub returns-then-is_full-clause-room : goal.returns-then-is_full-clause-room
+returns-then-is_full-clause-room c = tt
+
+pub returns-then-is_full-clause-client_room : goal.returns-then-is_full-clause-client_room
+returns-then-is_full-clause-client_room c = tt
+
+pub returns-then-is_full-clause-err : goal.returns-then-is_full-clause-err
+returns-then-is_full-clause-err c = refl
+
+pub returns-then-is_full-clause-sound : goal.returns-then-is_full-clause-sound
+returns-then-is_full-clause-sound c = subst AreRecords c.self.view_is c.self.invariant.are
+
+pub returns-then-is_client_full-clause-ok : goal.returns-then-is_client_full-clause-ok
+returns-then-is_client_full-clause-ok c = tt
+
+pub returns-then-is_client_full-clause-room : goal.returns-then-is_client_full-clause-room
+returns-then-is_client_full-clause-room c = tt
+
+pub returns-then-is_client_full-clause-client_room : goal.returns-then-is_client_full-clause-client_room
+returns-then-is_client_full-clause-client_room c = tt
+
+pub returns-then-is_client_full-clause-err : goal.returns-then-is_client_full-clause-err
+returns-then-is_client_full-clause-err c = refl
+
+pub returns-then-is_client_full-clause-sound : goal.returns-then-is_client_full-clause-sound
+returns-then-is_client_full-clause-sound c = subst AreRecords c.self.view_is c.self.invariant.are
+
+pub returns-clause-full : goal.returns-clause-full
+returns-clause-full c = tt
+
+pub returns-clause-client_full : goal.returns-clause-client_full
+returns-clause-client_full c = tt
+
+pub returns-clause-err : goal.returns-clause-err
+returns-clause-err c = tt
+
+pub returns-in_err-reserve-clause-sound : goal.returns-in_err-reserve-clause-sound
+returns-in_err-reserve-clause-sound c = c.self.invariant.are
