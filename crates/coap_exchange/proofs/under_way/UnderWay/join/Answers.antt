@@ -1,7 +1,8 @@
-use Rattle.std.proofs.Common.{◌+◌, refl, ap, Some}
+use Rattle.std.proofs.Common.{◌+◌, refl, ap, subst, Some}
+use Rattle.std.proofs.lemmas.Result.{IfOk-from_err}
 use Rattle.coap_exchange.specs.declared.waiter.Waiter.{Waiter}
 use Rattle.coap_exchange.specs.Ready.{Tables}
-use Rattle.coap_exchange.specs.Table.{Table}
+use Rattle.coap_exchange.specs.Table.{Table, IsTable}
 use Rattle.coap_exchange.specs.Waiters.{joined}
 use Rattle.coap_exchange.proofs.Indexing.{none-above, push-at, push-others}
 use Rattle.coap_exchange.proofs.Readying.{waiter-elsewhere, waits-gone, ready-free, ready-moved, ready-room}
@@ -34,3 +35,21 @@ invariant_of-self-2 c =
     let stays = waiter-elsewhere (c.self.inside.waiters.admitted + 1) old c.admit.new.self (Some c.args.joining.exchange) c.ready_in-was.ensures.sound c.ready_in-is.ensures.sound (λ q e. rw is (push-others (c.self.inside.waiters.admitted + 1) q c.self.inside.waiters.items come e)) (waits-gone (Some c.args.joining.exchange) _ (none-above c.self.inside.waiters.admitted c.self.inside.waiters.items c.ready_in-was.ensures.sound.below)) (rw (is, push-at (c.self.inside.waiters.admitted + 1) c.self.inside.waiters.items come (none-above c.self.inside.waiters.admitted c.self.inside.waiters.items c.ready_in-was.ensures.sound.below)) refl) in
     let replaced = rw (c.ready_in-was.ensures.exact, c.ready_in-is.ensures.exact) at c.replace.ensures.replaced in
     ready-moved old new c.ready_in-was.ensures.sound c.ready_in-is.ensures.sound (Some c.args.joining.exchange) stays c.self.inside.ready c.self.invariant c.replace.new.self replaced c.replace.ensures.limit (ap (λ (t : Table Waiter). t.limit) is)
+
+pub returns-in_err-number-clause-number : goal.returns-in_err-number-clause-number
+returns-in_err-number-clause-number c = IfOk-from_err _ _ c.from_residual.ensures.0
+
+pub returns-in_err-number-clause-sound : goal.returns-in_err-number-clause-sound
+returns-in_err-number-clause-sound c = subst (λ (t : Tables). IsTable t.waiters) c.self.view_is c.admit.ensures.sound
+
+pub returns-clause-full : goal.returns-clause-full
+returns-clause-full c = tt
+
+pub returns-clause-client_full : goal.returns-clause-client_full
+returns-clause-client_full c = tt
+
+pub returns-clause-err : goal.returns-clause-err
+returns-clause-err c = tt
+
+pub returns-clause-sound : goal.returns-clause-sound
+returns-clause-sound c = subst (λ (t : Tables). IsTable t.waiters) c.self.view_is c.admit.ensures.sound
