@@ -87,6 +87,14 @@ module _ {A : Type 0} where
       go true e true f = absurd (let none = done m (grind (arith, nat_tests)) in cc)
       go true e false f = absurd (let least : n ≤ m = next.2 m (grind (arith, nat_tests)) (listed m e) in omega arith)
 
+  -- nor do those up to it, if it doesn't either
+  pub listed-up : (test : A → Bool) (key after n : ℕ) (xs : List (Numbered A)) (pairs : List Pair) → AreListed test key xs pairs → IsNextOf key after pairs (Some n) → ((m : ℕ) → m ≤ after → passes test (item_at m xs) ≡ false) → passes test (item_at n xs) ≡ false → (m : ℕ) → m ≤ n → passes test (item_at m xs) ≡ false
+  listed-up test key after n xs pairs listed next done off m le = go (eqb m n) refl
+    where
+      go : (b : Bool) → eqb m n ≡ b → passes test (item_at m xs) ≡ false
+      go true e = subst (λ (k : ℕ). passes test (item_at k xs) ≡ false) (sym (eqb-true m n e)) off
+      go false e = listed-before test key after n xs pairs listed next done m (grind (arith, nat_tests))
+
   -- where no number is left in the index none passes
   pub listed-none : (test : A → Bool) (key after : ℕ) (xs : List (Numbered A)) (pairs : List Pair) → AreListed test key xs pairs → IsNextOf key after pairs None → ((m : ℕ) → m ≤ after → passes test (item_at m xs) ≡ false) → (m : ℕ) → passes test (item_at m xs) ≡ false
   listed-none test key after xs pairs listed next done m = go (passes test (item_at m xs)) refl (leb m after) refl
