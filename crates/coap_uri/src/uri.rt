@@ -1,5 +1,5 @@
 //! `coap` URIs (RFC 7252, 6).
-ghost use Rattle.std.specs.Prelude.{◌≡◌, IfOk, Some, map};
+ghost use Rattle.std.specs.Prelude.{◌≡◌, ◌&&◌, if◌then◌else◌, Err, IfOk, Ok, Some, map};
 ghost use Rattle.std.specs.Char.{to_ascii_lowercase};
 ghost use Rattle.std.specs.Option.{option_copied};
 ghost use Rattle.percent_encoding.specs.Percent.{percent_decode};
@@ -9,6 +9,7 @@ ghost use Rattle.coap_uri.specs.Address.{ipv4_of};
 ghost use Rattle.coap_uri.specs.Answer.{Answers};
 ghost use Rattle.coap_uri.specs.Plain.{url_of};
 ghost use Rattle.coap_uri.specs.Uri as spec;
+ghost use Rattle.coap_uri.specs.Uri.{is_port};
 ghost use Rattle.coap_uri.specs.declared.error.UriError.TheVariants as errors;
 
 use crate::address::{bytes_of_ipv4, bytes_of_ipv6, read_ipv4, read_url};
@@ -75,12 +76,39 @@ fn split_plain(alloc: Global, plain: Plain<'_>) -> Result<UriParts, UriError>
     ensures { Answers errors.OutOfMemory result
         (spec.with_host (url_of plain.entry) (Some (Domain plain.entry.host.now))) }
 {
-    let parts = UriParts {
-        host: named(alloc, plain.host)?,
-        port: plain.port.unwrap_or(DEFAULT_PORT),
-        path: path_parts(alloc, plain.path)?,
-        query: query_parts(alloc, plain.query)?,
-    };
+    let host = named(alloc, plain.host)?;
+    let parts = with_host(alloc, host, plain.port, plain.path, plain.query)?;
+    carried(parts)
+}
+
+/// The parts of a URI with this host: the port, or the default, and the others decoded.
+fn with_host(
+    alloc: Global,
+    host: HostPart,
+    port: Option<u16>,
+    path: &[u8],
+    query: Option<&[u8]>,
+) -> Result<UriParts, OutOfMemory>
+    ensures { IfOk result (λ parts. parts ≡ record {
+      host = host;
+      port = spec.port_part port;
+      path = spec.path_parts path.now;
+      query = spec.query_parts (option_copied query.entry);
+    }) }
+{
+    Ok(UriParts {
+        host,
+        port: port.unwrap_or(DEFAULT_PORT),
+        path: path_parts(alloc, path)?,
+        query: query_parts(alloc, query)?,
+    })
+}
+
+/// Parts that a request can carry: the port isn't 0, and each is short enough. Others are `Bad`.
+fn carried(parts: UriParts) -> Result<UriParts, UriError>
+    ensures { result
+        ≡ (if is_port parts.port && spec.are_short parts then Ok parts else Err errors.Bad) }
+{
     if parts.port != 0 && parts.are_short() {
         Ok(parts)
     } else {
@@ -94,17 +122,19 @@ fn split_any(alloc: Global, text: &str) -> Result<UriParts, UriError>
     ensures { Answers errors.OutOfMemory result (spec.uri_of text.now) }
 {
     let url = read_url(alloc, text)?;
+    split_url(alloc, &url)
+}
+
+/// The parts of a URL, if it is a `coap` URI.
+fn split_url(alloc: Global, url: &Url) -> Result<UriParts, UriError>
+    ensures { Answers errors.OutOfMemory result (spec.uri_read (Ok url.now)) }
+{
     if url.scheme() != "coap" {
         return Err(UriError::Scheme);
     }
-    let Some(host) = url.host() else {
-        return Err(UriError::Bad);
-    };
-    let parts = parts_of(alloc, &url, host)?;
-    if is_plain(&url) && parts.port != 0 && parts.are_short() {
-        Ok(parts)
-    } else {
-        Err(UriError::Bad)
+    match url.host() {
+        Some(host) if is_plain(url) => carried(parts_of(alloc, url, host)?),
+        _ => Err(UriError::Bad),
     }
 }
 
@@ -112,12 +142,14 @@ fn split_any(alloc: Global, text: &str) -> Result<UriParts, UriError>
 fn parts_of(alloc: Global, url: &Url, host: Host<&str>) -> Result<UriParts, OutOfMemory>
     ensures { IfOk result (λ parts. parts ≡ spec.parts_of url.now (borrowed_host host.entry)) }
 {
-    Ok(UriParts {
-        host: host_part(alloc, host)?,
-        port: url.port().unwrap_or(DEFAULT_PORT),
-        path: path_parts(alloc, url.path().as_bytes())?,
-        query: query_parts(alloc, query_of(url))?,
-    })
+    let host = host_part(alloc, host)?;
+    with_host(
+        alloc,
+        host,
+        url.port(),
+        url.path().as_bytes(),
+        query_of(url),
+    )
 }
 
 /// Whether a URL has no user name, no password and no fragment.
