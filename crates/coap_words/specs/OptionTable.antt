@@ -1,10 +1,13 @@
 -- The options of the program, as `clap` reads them.
-use Rattle.std.specs.Prelude.{ℕ, true, codes, Some, pos}
+use Rattle.std.specs.Prelude.{ℕ, true, List, [], ◌∷◌, codes, Option, Some, None, pos}
 use Rattle.clap.specs.Simple.{on_top}
 use Rattle.clap.specs.Words.{App, Rule, Text, new_app, new_rule, with_rule}
 use Rattle.clap.specs.declared.builder.ArgAction.TheVariants.{Set, SetTrue}
 use Rattle.clap.specs.declared.builder.value_parser.ValueParser.{ValueParser}
 use Rattle.clap.specs.declared.builder.value_parser.ValueParser.TheVariants.{Signed, Unsigned}
+use Rattle.coap_words.specs.declared.options.Row.{Row}
+use Rattle.coap_words.specs.declared.options.Value.{Value}
+use Rattle.coap_words.specs.declared.options.Value.TheVariants as value
 
 -- an option with a value, under an id and a letter or a name
 abbrev pub by_letter : Text → ℕ → Rule
@@ -90,3 +93,29 @@ option_table =
     (with_three (with_three program address_rule port_rule names_rule)
     config_rule map_rule replay_rule)
     id_rule salt_rule turns_rule)
+
+-- ---- as the program lists them
+
+-- an option by its name, or by its letter if it has one
+abbrev pub named : Text → Option ℕ → Rule
+named name None = record (new_rule name) { long = Some name }
+named name (Some letter) = record (new_rule name) { short = Some letter }
+
+-- what follows it
+abbrev pub followed_by : Value → Rule → Rule
+followed_by value.Nothing rule = record rule { action = Some SetTrue }
+followed_by (value.Text name) rule = record rule { action = Some Set; value_names = 1 }
+followed_by (value.Number name parser) rule =
+    parsed_by parser (record rule { action = Some Set; value_names = 1 })
+
+-- the option that a row describes
+abbrev pub option : Row → Rule
+option row = followed_by row.value (named row.name.now row.letter)
+
+-- the options in their order
+abbrev pub options : List Rule
+options =
+    address_rule ∷ port_rule ∷ names_rule
+    ∷ config_rule ∷ map_rule ∷ replay_rule
+    ∷ id_rule ∷ salt_rule ∷ turns_rule
+    ∷ record_rule ∷ explain_rule ∷ stats_rule ∷ stats_file_rule ∷ []

@@ -13,7 +13,7 @@ versioned = on_top (λ s. record s { has_version = true })
 
 pub returns : goal.returns
 returns c =
-    let after : app_of c.after_help-command.result ≡ app_of c.about.result = ap app_of_fields c.after_help-command.ensures in
+    let after : app_of c.after_help.result ≡ app_of c.about.result = ap app_of_fields c.after_help.ensures in
     let about : app_of c.about.result ≡ app_of c.no_binary_name.result = ap app_of_fields c.about.ensures in
     let name : app_of c.no_binary_name.result ≡ nameless (app_of c.version.result) = ap app_of_fields c.no_binary_name.ensures in
     let version : app_of c.version.result ≡ versioned (app_of c.new.result) = ap app_of_fields c.version.ensures in
