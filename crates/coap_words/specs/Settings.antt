@@ -49,6 +49,16 @@ pub record AreSettings (rows : List Row) (s : Settings) : Type 0 where
   pub stats : IsNumberOf 1 longest_period (one_of (codes "stats") rows) s.stats
   pub stats_file : option_map string_bytes s.stats_file ≡ first_of (codes "stats-file") rows
 
+-- each setting that isn't a text is what its option gives
+pub record AreNumbers (rows : List Row) (s : Settings) : Type 0 where
+  pub port : IsNumberOf 1 65535 (one_of (codes "port") rows) s.port
+  pub replay : s.replay ≡ is_given (codes "replay") rows
+  pub first_id : IsNumberOf 0 65535 (one_of (codes "id") rows) s.first_id
+  pub salt : IsNumberOf 0 greatest (one_of (codes "salt") rows) s.salt
+  pub turns : IsNumberOf 1 greatest (one_of (codes "turns") rows) s.turns
+  pub explain : s.explain ≡ is_given (codes "explain") rows
+  pub stats : IsNumberOf 1 longest_period (one_of (codes "stats") rows) s.stats
+
 -- the numbers are in their ranges
 pub record AreInRange (s : Settings) : Type 0 where
   pub port : IfSome s.port (λ n. (1 ≤ n) × (n ≤ 65535))

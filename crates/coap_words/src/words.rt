@@ -1,5 +1,5 @@
 //! The words of the command line.
-ghost use Rattle.std.specs.Prelude.{◌≡◌, ◌⊎◌, ◌≤◌, IfOk, IfErr, IfSome, map, option_map, string_bytes};
+ghost use Rattle.std.specs.Prelude.{◌≡◌, ◌⊎◌, ◌≤◌, IfOk, IfErr, IfSome, OnOk, map, option_map, string_bytes};
 ghost use Rattle.clap.specs.Words.{first_of, found_of, kind_of, one_of, rows_of};
 ghost use Rattle.coap_words.specs.Settings as spec;
 ghost use Rattle.coap_words.specs.declared.settings.WordsError.TheVariants as errors;
@@ -30,21 +30,47 @@ fn settings(alloc: Global, matches: &ArgMatches<'_>) -> Result<Settings, WordsEr
     ensures ok { IfOk result (spec.AreSettings (rows_of (found_of matches.now))) }
     ensures err { IfErr result (λ e. e ≡ errors.OutOfMemory) }
 {
-    Ok(Settings {
-        address: text(alloc, matches, "address")?,
+    let mut settings = without_texts(matches);
+    read_texts(alloc, matches, &mut settings)?;
+    Ok(settings)
+}
+
+/// The flags and the numbers that were found, as settings without texts.
+fn without_texts(matches: &ArgMatches<'_>) -> Settings
+    ensures { spec.AreNumbers (rows_of (found_of matches.now)) result }
+{
+    Settings {
+        address: None,
         port: short_number(matches, "port", 1),
-        names: text(alloc, matches, "names")?,
-        config: text(alloc, matches, "config")?,
-        map: text(alloc, matches, "map")?,
+        names: None,
+        config: None,
+        map: None,
         replay: is_given(matches, "replay"),
         first_id: short_number(matches, "id", 0),
         salt: number(matches, "salt", 0, i64::MAX as u64),
         turns: number(matches, "turns", 1, i64::MAX as u64),
-        recording: text(alloc, matches, "record")?,
+        recording: None,
         explain: is_given(matches, "explain"),
         stats: number(matches, "stats", 1, 86_400),
-        stats_file: text(alloc, matches, "stats-file")?,
-    })
+        stats_file: None,
+    }
+}
+
+/// Reads the texts that were found into settings. `Err` means that memory ran out.
+fn read_texts(
+    alloc: Global,
+    matches: &ArgMatches<'_>,
+    settings: &mut Settings,
+) -> Result<(), AllocError>
+    ensures { OnOk result (spec.AreNumbers (rows_of (found_of matches.now)) settings.old
+        → spec.AreSettings (rows_of (found_of matches.now)) settings.new) }
+{
+    read_text(alloc, matches, "address", &mut settings.address)?;
+    read_text(alloc, matches, "names", &mut settings.names)?;
+    read_text(alloc, matches, "config", &mut settings.config)?;
+    read_text(alloc, matches, "map", &mut settings.map)?;
+    read_text(alloc, matches, "record", &mut settings.recording)?;
+    read_text(alloc, matches, "stats-file", &mut settings.stats_file)
 }
 
 /// The text of an option.
@@ -55,15 +81,21 @@ fn said<'a>(matches: &ArgMatches<'a>, id: &str) -> Option<&'a str>
     matches.get_str(id)
 }
 
-/// A copy of the text of an option.
-fn text(alloc: Global, matches: &ArgMatches<'_>, id: &str) -> Result<Option<String>, AllocError>
-    ensures { IfOk result (λ text.
-        option_map string_bytes text ≡ first_of id.now (rows_of (found_of matches.now))) }
+/// Overwrites a text with that of an option. `Err` means that memory ran out.
+fn read_text(
+    alloc: Global,
+    matches: &ArgMatches<'_>,
+    id: &str,
+    text: &mut Option<String>,
+) -> Result<(), AllocError>
+    ensures { OnOk result
+        (option_map string_bytes text.new ≡ first_of id.now (rows_of (found_of matches.now))) }
 {
-    match said(matches, id) {
-        Some(text) => Ok(Some(String::from_str(alloc, text)?)),
-        None => Ok(None),
-    }
+    *text = match said(matches, id) {
+        Some(said) => Some(String::from_str(alloc, said)?),
+        None => None,
+    };
+    Ok(())
 }
 
 /// Whether an option without a value is given.
