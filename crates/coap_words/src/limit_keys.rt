@@ -3,6 +3,7 @@ ghost use Rattle.std.specs.Prelude.{◌≡◌, map};
 ghost use Rattle.coap_words.specs.Config.{for_a_client, holding, is_among, is_limit, limit_key, sending};
 
 use crate::tables::Version;
+use crate::texts::is_among;
 use coap_limits::Limit;
 
 /// The key of a limit.
@@ -31,29 +32,39 @@ pub fn limit_key(limit: Limit) -> &'static str
 fn is_holding(key: &str) -> bool
     ensures { result ≡ is_among (map limit_key holding) key.now }
 {
-    key == "cache_bytes"
-        || key == "cache_entries"
-        || key == "con_records"
-        || key == "non_records"
-        || key == "exchanges"
-        || key == "waiters"
+    is_among(
+        &[
+            "cache_bytes",
+            "cache_entries",
+            "con_records",
+            "non_records",
+            "exchanges",
+            "waiters",
+        ],
+        key,
+    )
 }
 
 /// Whether a key is that of a limit on what is sent.
 fn is_sending(key: &str) -> bool
     ensures { result ≡ is_among (map limit_key sending) key.now }
 {
-    key == "nstart" || key == "datagram" || key == "exchange_ms" || key == "retry_s"
+    is_among(&["nstart", "datagram", "exchange_ms", "retry_s"], key)
 }
 
 /// Whether a key is that of a limit on what is held for one client.
 fn is_for_a_client(key: &str) -> bool
     ensures { result ≡ is_among (map limit_key for_a_client) key.now }
 {
-    key == "client_con_records"
-        || key == "client_non_records"
-        || key == "client_exchanges"
-        || key == "client_waiters"
+    is_among(
+        &[
+            "client_con_records",
+            "client_non_records",
+            "client_exchanges",
+            "client_waiters",
+        ],
+        key,
+    )
 }
 
 /// Whether a key is that of a limit in a configuration of this version.

@@ -10,6 +10,7 @@ ghost use Rattle.coap_words.specs.declared.config_error.ConfigError.TheVariants 
 
 use crate::config_error::{ConfigError, KeyName};
 use crate::limit_keys::is_limit;
+use crate::texts::is_among;
 use coap_message::OutOfMemory;
 use std::alloc::Global;
 use toml::{Table, Value};
@@ -49,7 +50,7 @@ fn is_known(place: Place, key: &str) -> bool
     match place {
         Place::Top => is_top(key),
         Place::Limits(version) => is_limit(version, key),
-        Place::Map => key == "prefix" || key == "origin",
+        Place::Map => is_among(&["prefix", "origin"], key),
     }
 }
 
@@ -57,7 +58,7 @@ fn is_known(place: Place, key: &str) -> bool
 fn is_top(key: &str) -> bool
     ensures { result ≡ spec.is_known Place.Top key.now }
 {
-    key == "version" || key == "names" || key == "limits" || key == "hosts" || key == "map"
+    is_among(&["version", "names", "limits", "hosts", "map"], key)
 }
 
 /// The first key that a table may not have.
