@@ -4,7 +4,7 @@ ghost use Rattle.std.specs.Option.{option_copied};
 ghost use Rattle.coap_option.specs.declared.side.Side.{Side};
 ghost use Rattle.coap_option.specs.Screening.{first_refused};
 ghost use Rattle.coap_uri.specs.Answer.{Answers};
-ghost use Rattle.coap_uri.specs.Uri.{host_text};
+ghost use Rattle.coap_uri.specs.Uri.{host_of, host_text};
 ghost use Rattle.coap_target.specs.Hosts as names;
 ghost use Rattle.coap_target.specs.Request as spec;
 ghost use Rattle.coap_target.specs.MappedTarget.{seen};
@@ -51,14 +51,16 @@ fn mapped<'a, P: Segments<'a>>(
     ensures { IfOk result (λ target. target ≡ mapped (P.left path) (P.left query) map.now) }
 {
     let origin = &map.origin;
+    let query = copies(alloc, query)?;
     let mut rest = path;
     skip(&mut rest, map.prefix.len());
+    let path = joined(alloc, &origin.path, rest)?;
     Ok(Target {
         host: copy_of(alloc, &origin.host)?,
         at: origin.at,
         port: None,
-        path: joined(alloc, &origin.path, rest)?,
-        query: copies(alloc, query)?,
+        path,
+        query,
     })
 }
 
@@ -176,6 +178,28 @@ fn query_of<'a>(request: &MessageRef<'a>) -> Values<'a>
     ensures { result ≡ query_of request.now }
 {
     Values::of(&request.option_list(), numbers::URI_QUERY)
+}
+
+/// The URI with this host and this port that the Uri options of a request compose (RFC 7252, 6.5).
+fn composed(
+    alloc: Global,
+    request: &MessageRef<'_>,
+    host: &[u8],
+    port: u16,
+) -> Result<UriParts, OutOfMemory>
+    ensures { IfOk result (λ uri. uri ≡ record {
+        host = host_of host.now;
+        port = port;
+        path = path_of request.now;
+        query = query_of request.now;
+    }) }
+{
+    Ok(UriParts {
+        host: read_host(alloc, host)?,
+        port,
+        path: copies(alloc, path_of(request))?,
+        query: copies(alloc, query_of(request))?,
+    })
 }
 
 /// Whether a request gives its target as a URI, by a Proxy-Uri or a Proxy-Scheme (RFC 7252,
@@ -307,12 +331,7 @@ impl Routes {
         let Some(host) = value_of(request, numbers::URI_HOST) else {
             return self.local(alloc, path_of(request), query_of(request));
         };
-        let uri = UriParts {
-            host: read_host(alloc, host)?,
-            port,
-            path: copies(alloc, path_of(request))?,
-            query: copies(alloc, query_of(request))?,
-        };
+        let uri = composed(alloc, request, host, port)?;
         self.resolved(alloc, uri)
     }
 

@@ -1,6 +1,6 @@
 //! Routes: a proxy's own names, the hosts that it knows, and the origins that its paths are mapped
 //! to (RFC 7252, 5.7.2 and 5.7.3).
-ghost use Rattle.std.specs.Prelude.{◌≡◌, IfOk};
+ghost use Rattle.std.specs.Prelude.{◌≡◌, ◌∷◌, [], IfOk};
 ghost use Rattle.std.specs.Option.{option_copied};
 ghost use Rattle.coap_target.specs.Routes as spec;
 
@@ -66,10 +66,8 @@ impl Routes {
     pub fn fixed(alloc: Global) -> Result<Routes, OutOfMemory>
         ensures { IfOk result (λ routes. routes ≡ fixed_routes) }
     {
-        let mut prefix = Pieces::new(alloc);
-        prefix.push(b"t")?;
-        let mut path = Pieces::new(alloc);
-        path.push(b"temp")?;
+        let prefix = one_piece(alloc, b"t")?;
+        let path = one_piece(alloc, b"temp")?;
         let at = Endpoint {
             ip: Ip::V4([127, 0, 0, 1]),
             port: 5690,
@@ -92,6 +90,15 @@ impl Routes {
     }
 }
 
+/// A list of one piece.
+fn one_piece(alloc: Global, piece: &[u8]) -> Result<Pieces, OutOfMemory>
+    ensures { IfOk result (λ pieces. pieces ≡ piece.now ∷ []) }
+{
+    let mut pieces = Pieces::new(alloc);
+    pieces.push(piece)?;
+    Ok(pieces)
+}
+
 /// The map for a path: among those whose prefix begins the path, the one with the longest prefix,
 /// and the earliest of several.
 pub(crate) fn map_of<'m, 'a, P: Segments<'a>>(maps: &'m [Map], path: &P) -> Option<&'m Map>
@@ -99,7 +106,7 @@ pub(crate) fn map_of<'m, 'a, P: Segments<'a>>(maps: &'m [Map], path: &P) -> Opti
 {
     let mut best: Option<&Map> = None;
     for map in maps {
-        if is_longer(map, best) && begins(&map.prefix, path.clone()) {
+        if is_longer(map, best) && begins(&map.prefix, &mut path.clone()) {
             best = Some(map);
         }
     }

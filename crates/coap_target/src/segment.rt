@@ -63,17 +63,14 @@ impl<'a> Segments<'a> for Values<'a> {
     }
 }
 
-/// Whether a path begins with the segments of a prefix.
-pub(crate) fn begins<'a, P: Segments<'a>>(prefix: &Pieces, path: P) -> bool
-    ensures { result ≡ spec.begins prefix.now (P.left path) }
+/// Whether a path begins with the segments of a prefix. Some of its segments are then passed.
+pub(crate) fn begins<'a, P: Segments<'a>>(prefix: &Pieces, path: &mut P) -> bool
+    ensures { result ≡ spec.begins prefix.now (P.left path.old) }
 {
-    let mut path = path;
     for segment in prefix.iter() {
-        let Some(other) = path.next_segment() else {
-            return false;
-        };
-        if segment != other {
-            return false;
+        match path.next_segment() {
+            Some(other) if segment == other => {}
+            _ => return false,
         }
     }
     true
