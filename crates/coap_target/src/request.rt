@@ -188,10 +188,10 @@ fn composed(
     port: u16,
 ) -> Result<UriParts, OutOfMemory>
     ensures { IfOk result (λ uri. uri ≡ record {
-        host = host_of host.now;
-        port = port;
-        path = path_of request.now;
-        query = query_of request.now;
+      host = host_of host.now;
+      port = port;
+      path = path_of request.now;
+      query = query_of request.now;
     }) }
 {
     Ok(UriParts {
