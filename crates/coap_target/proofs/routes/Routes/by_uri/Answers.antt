@@ -25,3 +25,12 @@ returns-in-Err-Scheme c =
     (λ never. absurd cc)
     (λ told. inr (rw (is, rw c.in-Ok.ensures.cases.0 at told, c.in-Err-Scheme.field-0-is) refl))
     c.in-Err-Scheme.ensures
+
+pub returns-in-Err-Bad : goal.returns-in-Err-Bad
+unfolding by_uri
+returns-in-Err-Bad c =
+    let is : is_utf8 c.args.text.now ≡ true = is_utf8-from_IsUtf8 c.args.text.now c.in-Ok.ensures.cases.1 in
+    ⊎_elim
+    (λ never. absurd cc)
+    (λ told. inr (rw (is, rw c.in-Ok.ensures.cases.0 at told, c.in-Err-Bad.field-0-is) refl))
+    c.in-Err-Bad.ensures
