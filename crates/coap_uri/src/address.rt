@@ -90,17 +90,25 @@ fn ipv6_host(host: Option<Host<&str>>) -> Option<Ip>
     }
 }
 
+/// The IPv6 address that `url` reads as the host of a URI.
+fn read_ipv6_host(alloc: Global, uri: &str) -> Result<Option<Ip>, OutOfMemory>
+    ensures { IfOk result (λ ip.
+        ip ≡ option_map V6 (ipv6_read (url_or_bad (parse_url None uri.now)))) }
+{
+    match read_url(alloc, uri) {
+        Ok(url) => Ok(ipv6_host(url.host())),
+        Err(UriError::OutOfMemory) => Err(OutOfMemory),
+        Err(_) => Ok(None),
+    }
+}
+
 /// The IPv6 address that `url` reads between brackets.
 fn read_between(alloc: Global, inner: &str) -> Result<Option<Ip>, OutOfMemory>
     ensures { IfOk result (λ ip.
         ip ≡ option_map V6 (ipv6_read (url_or_bad (parse_url None (bracketed_uri inner.now))))) }
 {
     let uri = format!(in alloc; "coap://[{inner}]")?;
-    match read_url(alloc, uri.as_str()) {
-        Ok(url) => Ok(ipv6_host(url.host())),
-        Err(UriError::OutOfMemory) => Err(OutOfMemory),
-        Err(_) => Ok(None),
-    }
+    read_ipv6_host(alloc, uri.as_str())
 }
 
 /// The IPv6 address between brackets, if it is one.

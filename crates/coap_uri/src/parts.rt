@@ -1,5 +1,5 @@
 //! Parts of the text of a URI between separators, percent-decoded (RFC 3986, 2.1; RFC 7252, 6.4).
-ghost use Rattle.std.specs.Prelude.{◌≡◌, ◌==◌, ◌<◌, ◌∷◌, IfOk, IfSome, length, position};
+ghost use Rattle.std.specs.Prelude.{◌≡◌, ◌==◌, ◌<◌, ◌∷◌, ◌++◌, [], IfOk, IfSome, OnOk, length, position};
 ghost use Rattle.std.specs.List.{list_all, slice_split};
 ghost use Rattle.std.specs.Cow.{cow_slice_items};
 ghost use Rattle.std.specs.Option.{option_copied};
@@ -32,6 +32,13 @@ pub(crate) fn decoded(alloc: Global, text: &[u8]) -> Result<CowSlice<'_, u8>, Ou
     Ok(CowSlice::Owned(bytes))
 }
 
+/// Appends a text to a list, decoded.
+fn push_decoded(alloc: Global, text: &[u8], list: &mut Pieces) -> Result<(), OutOfMemory>
+    ensures { OnOk result (list.new ≡ list.old ++ spec.percent_decode text.now ∷ []) }
+{
+    list.push(decoded(alloc, text)?.as_slice())
+}
+
 /// The parts of a text between separators, each decoded. They are stored in one block, which is
 /// allocated up front and shrunk to their length.
 pub(crate) fn split_decoded(
@@ -45,7 +52,7 @@ pub(crate) fn split_decoded(
     let mut rest = Some(text);
     while let Some(text) = rest {
         let (part, after) = first_part(text, separator);
-        parts.push(decoded(alloc, part)?.as_slice())?;
+        push_decoded(alloc, part, &mut parts)?;
         rest = after;
     }
     parts.shrink_to_fit();
