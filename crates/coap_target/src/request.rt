@@ -1,5 +1,5 @@
 //! The target of a request (RFC 7252, 5.7.2, 5.7.3, 5.10.1 and 5.10.2).
-ghost use Rattle.std.specs.Prelude.{◌≡◌, None, IfOk, OnOk, is_some, option_map};
+ghost use Rattle.std.specs.Prelude.{◌≡◌, ◌++◌, None, IfOk, OnOk, is_some, option_map};
 ghost use Rattle.std.specs.Option.{option_copied};
 ghost use Rattle.coap_option.specs.declared.side.Side.{Side};
 ghost use Rattle.coap_option.specs.Screening.{first_refused};
@@ -18,7 +18,7 @@ use crate::options::Values;
 use crate::routes::{Routes, map_of};
 use crate::segment::{Segments, copies, joined, skip};
 use coap_endpoint::{Endpoint, Ip, Target, copy_host};
-use coap_message::{Message, MessageRef, Options, OutOfMemory, Seq, uint};
+use coap_message::{Message, MessageRef, Options, OutOfMemory, Pieces, Seq, uint};
 use coap_option::numbers;
 use coap_uri::{DEFAULT_PORT, HostPart, UriError, UriParts, address_text, read_host, split_uri};
 use std::alloc::Global;
@@ -64,6 +64,16 @@ fn mapped<'a, P: Segments<'a>>(
     })
 }
 
+/// Overwrites a list with pieces and the values behind them. `Err` means that memory ran out; the
+/// list may then hold some of them.
+fn copy_joined(front: &Pieces, behind: &Values<'_>, list: &mut Pieces) -> Result<(), OutOfMemory>
+    ensures { OnOk result (list.new ≡ front.now ++ behind.now) }
+{
+    list.clear();
+    list.append(&front.iter())?;
+    behind.clone().append_to(list)
+}
+
 impl MappedTarget<'_, '_> {
     /// Whether the origin has a host, and not only an address.
     pub fn has_host(&self) -> bool
@@ -82,9 +92,7 @@ impl MappedTarget<'_, '_> {
         copy_host(&self.origin.host, &mut target.host)?;
         target.at = self.origin.at;
         target.port = None;
-        target.path.clear();
-        target.path.append(&self.origin.path.iter())?;
-        self.rest.clone().append_to(&mut target.path)?;
+        copy_joined(&self.origin.path, &self.rest, &mut target.path)?;
         target.query.clear();
         self.query.clone().append_to(&mut target.query)
     }
