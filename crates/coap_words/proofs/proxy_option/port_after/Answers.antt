@@ -3,3 +3,6 @@ use Rattle.coap_words.proofs.proxy_option.port_after.Goals as goal
 
 pub returns-then-is_empty : goal.returns-then-is_empty
 returns-then-is_empty c = search rules
+
+pub returns : goal.returns
+returns c = search rules
