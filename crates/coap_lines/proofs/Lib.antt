@@ -9,6 +9,7 @@ pub mod InputLines
 pub mod LineByLine
 pub mod NextLines
 pub mod Numerals
+pub mod Pieces
 pub mod ReadAgain
 pub mod ScriptTurns
 pub mod TurnTexts
