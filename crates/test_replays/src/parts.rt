@@ -29,23 +29,38 @@ fn is_written(alloc: Global, number: u64, bytes: &[u8]) -> Result<bool, OutOfMem
     Ok(uint_bytes(alloc, number)?.as_slice() == bytes)
 }
 
-#[test]
-fn messages_options_and_numbers_are_copied(rt: HostRuntime) -> Result<(), Fail> {
-    let alloc = rt.alloc();
-    let request = decode(alloc, REQUEST)?;
-    assert_eq!(rt; written(alloc, &request)?.bytes(), REQUEST);
-    assert!(rt; screen_request(&request).is_ok());
-    // the Accept and the Size1, and the Accept alone
-    let sent = forward_options(alloc, &request)?;
-    assert_eq!(rt; sent.lent().bytes(), b"\xD1\x04\x3C\xD1\x1E\x05".as_slice());
-    let key = key_options(alloc, &request)?;
-    assert_eq!(rt; key.lent().bytes(), b"\xD1\x04\x3C".as_slice());
-    let held = tags(alloc, &request)?;
-    let mut values = held.iter();
+/// Checks that bytes are these.
+fn check_is(rt: &impl Abort, bytes: &[u8], expected: &[u8]) {
+    assert_eq!(rt; bytes, expected);
+}
+
+/// Checks the one tag of the request.
+fn check_tag(rt: &impl Abort, tags: &Pieces) {
+    let mut values = tags.iter();
     assert_eq!(rt;
         (values.next(), values.next()),
         (Some(b"\x07".as_slice()), None)
     );
+}
+
+/// Checks what is copied of the request.
+fn check_copies(rt: &impl Abort, alloc: Global, request: &Message) -> Result<(), Fail> {
+    check_is(rt, written(alloc, request)?.bytes(), REQUEST);
+    // the Accept and the Size1, and the Accept alone
+    let sent = b"\xD1\x04\x3C\xD1\x1E\x05";
+    check_is(rt, forward_options(alloc, request)?.lent().bytes(), sent);
+    let key = b"\xD1\x04\x3C";
+    check_is(rt, key_options(alloc, request)?.lent().bytes(), key);
+    check_tag(rt, &tags(alloc, request)?);
+    Ok(())
+}
+
+#[test]
+fn messages_options_and_numbers_are_copied(rt: HostRuntime) -> Result<(), Fail> {
+    let alloc = rt.alloc();
+    let request = decode(alloc, REQUEST)?;
+    assert!(rt; screen_request(&request).is_ok());
+    check_copies(&rt, alloc, &request)?;
     assert!(rt; is_written(alloc, 65536, b"\x01\x00\x00")?);
     Ok(())
 }
@@ -126,18 +141,23 @@ fn stored(alloc: Global) -> Result<Stored, Fail> {
     })
 }
 
+/// The stored response, renewed by this one.
+fn renewed_by(alloc: Global, response: &[u8]) -> Result<Result<Message, RenewError>, Fail> {
+    let stored = stored(alloc)?;
+    Ok(renewed(alloc, &stored, &decode(alloc, response)?))
+}
+
 #[test]
 fn a_stored_response_is_renewed_by_its_tag_alone(rt: HostRuntime) -> Result<(), Fail> {
     let alloc = rt.alloc();
-    let stored = stored(alloc)?;
-    match renewed(alloc, &stored, &decode(alloc, OTHER)?) {
+    match renewed_by(alloc, OTHER)? {
         Ok(_) => assert!(rt; false),
         Err(error) => assert_eq!(rt; error, RenewError::WrongTag),
     }
-    let message = renewed(alloc, &stored, &decode(alloc, VALID)?)?;
+    let message = renewed_by(alloc, VALID)??;
     // fresh for a minute, as the 2.03 has no Max-Age
     let bytes = b"\x68\x45\x00\x01\x00\x00\x00\x00\x00\x00\x00\x01\x41\xAB\x81\x32\x21\x3C\xFF21";
-    assert_eq!(rt; written(alloc, &message)?.bytes(), bytes.as_slice());
+    check_is(&rt, written(alloc, &message)?.bytes(), bytes);
     Ok(())
 }
 
@@ -150,19 +170,23 @@ fn check_shown(
     expected: &[u8],
 ) -> Result<(), Fail> {
     let message = shown(alloc, &stored(alloc)?.response, left, tags)?;
-    assert_eq!(rt; written(alloc, &message)?.bytes(), expected);
+    check_is(rt, written(alloc, &message)?.bytes(), expected);
     Ok(())
+}
+
+/// Checks what clients are sent for the stored response before and after they hold its tag.
+fn check_clients(rt: &impl Abort, alloc: Global, tags: &mut Pieces) -> Result<(), Fail> {
+    check_shown(rt, alloc, None, tags, STORED)?;
+    let aged = b"\x68\x45\x00\x01\x00\x00\x00\x00\x00\x00\x00\x01\x41\xAB\xA1\x09\xFF21";
+    check_shown(rt, alloc, Some(9), tags, aged)?;
+    tags.push(b"\xAB")?;
+    let valid = b"\x68\x43\x00\x01\x00\x00\x00\x00\x00\x00\x00\x01\x41\xAB\xA1\x09";
+    check_shown(rt, alloc, Some(9), tags, valid)?;
+    check_shown(rt, alloc, None, tags, STORED)
 }
 
 #[test]
 fn clients_are_shown_what_is_left_or_that_they_hold_it(rt: HostRuntime) -> Result<(), Fail> {
     let alloc = rt.alloc();
-    let mut tags = Pieces::new(alloc);
-    check_shown(&rt, alloc, None, &tags, STORED)?;
-    let aged = b"\x68\x45\x00\x01\x00\x00\x00\x00\x00\x00\x00\x01\x41\xAB\xA1\x09\xFF21";
-    check_shown(&rt, alloc, Some(9), &tags, aged)?;
-    tags.push(b"\xAB")?;
-    let valid = b"\x68\x43\x00\x01\x00\x00\x00\x00\x00\x00\x00\x01\x41\xAB\xA1\x09";
-    check_shown(&rt, alloc, Some(9), &tags, valid)?;
-    check_shown(&rt, alloc, None, &tags, STORED)
+    check_clients(&rt, alloc, &mut Pieces::new(alloc))
 }

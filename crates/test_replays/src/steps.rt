@@ -104,8 +104,7 @@ fn insist(
     match run.step(rt, now, event) {
         Ok(report) => Ok(report),
         Err(OutOfMemory) => {
-            assert_eq!(rt; run.seen(), before);
-            assert_eq!(rt; run.sent().len(), 0);
+            assert_eq!(rt; (run.seen(), run.sent().len()), (before, 0));
             run.step(rt, now, event)
         }
     }
@@ -134,9 +133,7 @@ fn check_step(
     expected: (Outcome, &[u8], Seen),
 ) -> Result<(), OutOfMemory> {
     let report = insist(run, rt, now, event)?;
-    assert_eq!(rt; report.outcome, expected.0);
-    assert_eq!(rt; run.sent(), expected.1);
-    assert_eq!(rt; run.seen(), expected.2);
+    assert_eq!(rt; (report.outcome, run.sent(), run.seen()), expected);
     Ok(())
 }
 
@@ -273,11 +270,12 @@ fn check_counts(
     expected: After,
 ) -> Result<(), OutOfMemory> {
     let report = run.step(rt, now, event)?;
-    let (outcome, [first, second, origin]) = expected;
-    assert_eq!(rt; report.outcome, outcome);
-    assert_eq!(rt; run.core.client_counts(local(40001)), first);
-    assert_eq!(rt; run.core.client_counts(local(40002)), second);
-    assert_eq!(rt; run.core.client_counts(local(5690)), origin);
+    let counts = [
+        run.core.client_counts(local(40001)),
+        run.core.client_counts(local(40002)),
+        run.core.client_counts(local(5690)),
+    ];
+    assert_eq!(rt; (report.outcome, counts), expected);
     Ok(())
 }
 

@@ -145,6 +145,44 @@ fn a_new_response_takes_the_room_of_those_used_least(rt: HostRuntime) -> Result<
     Ok(())
 }
 
+/// Checks whether a response is found that is fresh at this moment.
+fn check_hit<S: Store>(rt: &impl Abort, store: &mut S, key: &CacheKey, now: u64, expected: bool) {
+    assert_eq!(rt; store.hit(key, now), expected);
+}
+
+/// Checks how many responses a change of a resource marks.
+fn check_mark<S: Store>(
+    rt: &impl Abort,
+    alloc: Global,
+    store: &mut S,
+    segment: &[u8],
+    expected: usize,
+) -> Result<(), OutOfMemory> {
+    let marked = store.mark(&target(alloc, segment)?);
+    assert_eq!(rt; marked, expected);
+    Ok(())
+}
+
+/// Checks what is found and marked of the first and the last of three responses for one resource,
+/// of which the first had to go, and what is left after both are forgotten.
+fn check_marked<S: Store>(
+    rt: &impl Abort,
+    alloc: Global,
+    store: &mut S,
+    (first, last): (&CacheKey, &CacheKey),
+) -> Result<(), OutOfMemory> {
+    // without a Max-Age a response is fresh for a minute
+    check_hit(rt, store, first, 0, false);
+    check_hit(rt, store, last, 60_000, true);
+    check_hit(rt, store, last, 60_001, false);
+    check_mark(rt, alloc, store, b"Y", 0)?;
+    check_mark(rt, alloc, store, b"X", 2)?;
+    check_hit(rt, store, last, 0, false);
+    assert_eq!(rt; (store.forget(first), store.forget(last)), (false, true));
+    assert_eq!(rt; (store.len(), store.is_empty()), (1, false));
+    Ok(())
+}
+
 /// Three responses for one resource, where there is room for two.
 fn check_marks<S: Store>(rt: &impl Abort, alloc: Global, store: &mut S) -> Result<(), OutOfMemory> {
     for format in [0x28, 0x29, 0x2A] {
@@ -152,19 +190,9 @@ fn check_marks<S: Store>(rt: &impl Abort, alloc: Global, store: &mut S) -> Resul
         assert_eq!(rt; kept, Put::Kept);
     }
     assert_eq!(rt; store.len(), 2);
-    let (first, last) = (key(alloc, b"X", &[0x28])?, key(alloc, b"X", &[0x2A])?);
-    // without a Max-Age a response is fresh for a minute
-    assert_eq!(rt;
-        (store.hit(&first, 0), store.hit(&last, 60_000)),
-        (false, true)
-    );
-    assert_eq!(rt; store.hit(&last, 60_001), false);
-    assert_eq!(rt; store.mark(&target(alloc, b"Y")?), 0);
-    assert_eq!(rt; store.mark(&target(alloc, b"X")?), 2);
-    assert_eq!(rt; store.hit(&last, 0), false);
-    assert_eq!(rt; (store.forget(&first), store.forget(&last)), (false, true));
-    assert_eq!(rt; (store.len(), store.is_empty()), (1, false));
-    Ok(())
+    let first = key(alloc, b"X", &[0x28])?;
+    let last = key(alloc, b"X", &[0x2A])?;
+    check_marked(rt, alloc, store, (&first, &last))
 }
 
 /// The same on a new store.
