@@ -1,10 +1,10 @@
 //! A port that fails at each of its turns, or takes one datagram less, while a core answers for the
 //! first time, answers a Confirmable client, and waits for an origin server that is silent.
-use crate::ports::{core_of, drive_on, shown};
+use crate::ports::{check_handed, core_of, drive_on};
 use coap_cache::ListStore;
 use coap_core::{Core, Counts, LimitValues, Limits};
 use coap_message::{OutOfMemory, Seq};
-use coap_proxyd::{DriveError, MemoryPort, Scripted, Stats};
+use coap_proxyd::{DriveError, Handed, MemoryPort, Scripted, Stats};
 use coap_target::{Endpoint, Ip};
 use std::alloc::Global;
 use std::process::Abort;
@@ -111,44 +111,76 @@ fn lines(alloc: Global, sent: &[&str], without: Option<usize>) -> Result<String,
     Ok(out)
 }
 
-/// Plays a run over a port that gives the first `given` turns of the script and then fails, and then
-/// the others, and checks that all is sent that would have been.
-fn check_next(rt: &impl Abort, alloc: Global, run: Run, given: usize) -> Result<(), Fail> {
-    let (comes, turns, sent) = run;
-    let (first, others) = comes.split_at_checked(given).ok_or("too many")?;
-    let mut core = usual_core(alloc)?;
-    let mut port = MemoryPort::new(alloc, None);
-    add(alloc, &mut port, first)?;
-    let Err(DriveError::Port { stats }) = drive_on(rt, alloc, &mut core, &mut port, turns) else {
+/// Checks that what was handed over are all datagrams of a run except for one, if one is given.
+fn check_lines(
+    rt: &impl Abort,
+    alloc: Global,
+    handed: &[Handed],
+    sent: &[&str],
+    without: Option<usize>,
+) -> Result<(), Fail> {
+    check_handed(rt, alloc, handed, lines(alloc, sent, without)?.as_str())
+}
+
+/// Drives a core over a port that fails after the first turns of a script, and checks that all was
+/// handed over that was counted. Returns the counts.
+fn drive_to_failure(
+    rt: &impl Abort,
+    alloc: Global,
+    core: &mut Core<ListStore>,
+    port: &mut MemoryPort,
+    turns: u64,
+) -> Result<Stats, Fail> {
+    let Err(DriveError::Port { stats }) = drive_on(rt, alloc, core, port, turns) else {
         return Err("it didn't fail")?;
     };
     assert_eq!(rt;
         (stats.sent, core.events()),
         (port.handed().len() as u64, stats.turns)
     );
-    add(alloc, &mut port, others)?;
+    Ok(stats)
+}
+
+/// Plays a run over a port that gives the first `given` turns of the script and then fails, and then
+/// the others, and checks that all is sent that would have been.
+fn check_next(
+    rt: &impl Abort,
+    alloc: Global,
+    core: &mut Core<ListStore>,
+    port: &mut MemoryPort,
+    (run, given): (Run, usize),
+) -> Result<(), Fail> {
+    let (comes, turns, sent) = run;
+    let (first, others) = comes.split_at_checked(given).ok_or("too many")?;
+    add(alloc, port, first)?;
+    let stats = drive_to_failure(rt, alloc, core, port, turns)?;
+    add(alloc, port, others)?;
     assert!(rt; stats.turns <= turns);
-    let more = drive_on(rt, alloc, &mut core, &mut port, turns - stats.turns)?;
+    let more = drive_on(rt, alloc, core, port, turns - stats.turns)?;
     assert_eq!(rt; (more.send_faults, more.lost), (0, 0));
-    let written = shown(alloc, port.handed())?;
-    assert_eq!(rt; written.as_str(), lines(alloc, sent, None)?.as_str());
-    Ok(())
+    check_lines(rt, alloc, port.handed(), sent, None)
+}
+
+/// The same on a new core and a new port.
+fn check_next_anew(rt: &impl Abort, alloc: Global, run: Run, given: usize) -> Result<(), Fail> {
+    let mut core = usual_core(alloc)?;
+    let mut port = MemoryPort::new(alloc, None);
+    check_next(rt, alloc, &mut core, &mut port, (run, given))
 }
 
 /// Plays a run over a port that doesn't take the datagram that comes after `refused` others, or
-/// takes all, and checks the counts and what it took. Returns what the core holds at the end.
+/// takes all, and checks the counts and what it took.
 fn check_send(
     rt: &impl Abort,
     alloc: Global,
-    run: Run,
-    refused: Option<usize>,
-) -> Result<(Counts, Option<u64>), Fail> {
+    core: &mut Core<ListStore>,
+    port: &mut MemoryPort,
+    (run, refused): (Run, Option<usize>),
+) -> Result<(), Fail> {
     let (comes, turns, sent) = run;
-    let mut core = usual_core(alloc)?;
-    let mut port = MemoryPort::new(alloc, refused);
-    add(alloc, &mut port, comes)?;
+    add(alloc, port, comes)?;
     let faults = u64::from(refused.is_some());
-    let stats = drive_on(rt, alloc, &mut core, &mut port, turns)?;
+    let stats = drive_on(rt, alloc, core, port, turns)?;
     let expected = Stats {
         turns,
         sent: (sent.len() as u64).saturating_sub(faults),
@@ -156,20 +188,31 @@ fn check_send(
         lost: 0,
     };
     assert_eq!(rt; stats, expected);
-    let written = shown(alloc, port.handed())?;
-    assert_eq!(rt; written.as_str(), lines(alloc, sent, refused)?.as_str());
+    check_lines(rt, alloc, port.handed(), sent, refused)
+}
+
+/// The same on a new core and a new port. Returns what the core holds at the end.
+fn check_send_anew(
+    rt: &impl Abort,
+    alloc: Global,
+    run: Run,
+    refused: Option<usize>,
+) -> Result<(Counts, Option<u64>), Fail> {
+    let mut core = usual_core(alloc)?;
+    let mut port = MemoryPort::new(alloc, refused);
+    check_send(rt, alloc, &mut core, &mut port, (run, refused))?;
     Ok((core.counts(), core.next_due()))
 }
 
 /// Checks a run with a port that fails at each place.
 fn check_run(rt: &impl Abort, alloc: Global, run: Run) -> Result<(), Fail> {
     for given in 0..run.0.len() {
-        check_next(rt, alloc, run, given)?;
+        check_next_anew(rt, alloc, run, given)?;
     }
-    let all = check_send(rt, alloc, run, None)?;
+    let all = check_send_anew(rt, alloc, run, None)?;
     for refused in 0..run.2.len() {
         // what isn't taken changes nothing of what the core holds
-        assert_eq!(rt; check_send(rt, alloc, run, Some(refused))?, all);
+        assert_eq!(rt; check_send_anew(rt, alloc, run, Some(refused))?, all);
     }
     Ok(())
 }
@@ -182,18 +225,20 @@ fn a_port_that_fails_loses_what_it_was_handed_alone(rt: HostRuntime) -> Result<(
     check_run(&rt, alloc, SILENT_ORIGIN)
 }
 
-// The first datagram isn't taken, and is sent again after its timeout.
-#[test]
-fn what_a_port_did_not_take_is_sent_again(rt: HostRuntime) -> Result<(), Fail> {
-    let alloc = rt.alloc();
-    let mut core = usual_core(alloc)?;
-    let mut port = MemoryPort::new(alloc, Some(0));
-    add(
-        alloc,
-        &mut port,
-        &[(0, Some((40001, b"\x50\x01\x00\x07\xB1t"))), (2_000, None)],
-    )?;
-    let stats = drive_on(&rt, alloc, &mut core, &mut port, 3)?;
+/// Drives a core over a port that doesn't take the first datagram, which is sent again after its
+/// timeout.
+fn check_sent_again(
+    rt: &impl Abort,
+    alloc: Global,
+    core: &mut Core<ListStore>,
+    port: &mut MemoryPort,
+) -> Result<(), Fail> {
+    let turns = [
+        (0, Some((40001, b"\x50\x01\x00\x07\xB1t".as_slice()))),
+        (2_000, None),
+    ];
+    add(alloc, port, &turns)?;
+    let stats = drive_on(rt, alloc, core, port, 3)?;
     let expected = Stats {
         turns: 3,
         sent: 1,
@@ -201,6 +246,13 @@ fn what_a_port_did_not_take_is_sent_again(rt: HostRuntime) -> Result<(), Fail> {
         lost: 0,
     };
     assert_eq!(rt; stats, expected);
-    assert_eq!(rt; shown(alloc, port.handed())?.as_str(), SENT_ON);
-    Ok(())
+    check_handed(rt, alloc, port.handed(), SENT_ON)
+}
+
+#[test]
+fn what_a_port_did_not_take_is_sent_again(rt: HostRuntime) -> Result<(), Fail> {
+    let alloc = rt.alloc();
+    let mut core = usual_core(alloc)?;
+    let mut port = MemoryPort::new(alloc, Some(0));
+    check_sent_again(&rt, alloc, &mut core, &mut port)
 }

@@ -3,7 +3,7 @@
 ghost use Rattle.std.specs.Prelude.{◌≡◌, ◌<◌, ◌^◌, IfOk, OnOk};
 
 use crate::loopback::{LOCALHOST, address_seen, drive_for, peer};
-use crate::ports::drive_on;
+use crate::ports::{check_text, drive_on};
 use coap_cache::ListStore;
 use coap_core::{Core, LimitValues, Limits};
 use coap_message::{OutOfMemory, Seq};
@@ -88,6 +88,24 @@ fn heads(alloc: Global, handed: &[Handed]) -> Result<String, AllocError> {
     Ok(out)
 }
 
+/// Drives a core for so many turns, and checks what it sends.
+fn check_heads(
+    rt: &impl Abort,
+    alloc: Global,
+    core: &mut Core<ListStore>,
+    port: &mut MemoryPort,
+    (turns, expected): (u64, &str),
+) -> Result<(), Fail> {
+    drive_on(rt, alloc, core, port, turns)?;
+    check_text(rt, heads(alloc, port.handed())?.as_str(), expected);
+    Ok(())
+}
+
+/// A port that gives a request in a datagram of `length` bytes.
+fn port_of(alloc: Global, length: usize) -> Result<MemoryPort, OutOfMemory> {
+    port(alloc, &request(alloc, length)?)
+}
+
 /// Hands a datagram of `length` bytes to a core, which does so many turns, and checks what it sends.
 fn check(
     rt: &impl Abort,
@@ -96,13 +114,9 @@ fn check(
     expected: &str,
 ) -> Result<(), Fail> {
     let origin = SocketAddr::new(IpAddr::V4(Ipv4Addr::from_octets([127, 0, 0, 1])), 5690);
+    let mut port = port_of(alloc, length)?;
     let mut core = core_to(alloc, origin)?;
-    let bytes = request(alloc, length)?;
-    let mut port = port(alloc, &bytes)?;
-    drive_on(rt, alloc, &mut core, &mut port, turns)?;
-    let written = heads(alloc, port.handed())?;
-    assert_eq!(rt; written.as_str(), expected);
-    Ok(())
+    check_heads(rt, alloc, &mut core, &mut port, (turns, expected))
 }
 
 #[test]
@@ -174,20 +188,35 @@ fn check_lengths<P: Port>(
     check_sent(rt, core, port, client, (LIMIT, 2, ACKNOWLEDGEMENT))
 }
 
+/// Checks what a client and an origin server get for datagrams that are too long, and for one that
+/// isn't.
+fn check_whole<P: Port>(
+    rt: &impl Abort,
+    alloc: Global,
+    core: &mut Core<ListStore>,
+    port: &mut P,
+    peers: (&UdpSocket, &UdpSocket),
+) -> Result<(), Fail>
+    requires { P.failures port.old < 2 ^ 63 }
+{
+    let (client, origin) = peers;
+    let client = Client {
+        alloc,
+        socket: client,
+        proxy: address_seen(rt, LOCALHOST, port, client)?,
+    };
+    check_lengths(rt, core, port, client)?;
+    // the payload is whole
+    let mut sent_on = [b'x'; 125];
+    sent_on[..15].copy_from_slice(&SENT_ON);
+    check_got(rt, origin, &sent_on)
+}
+
 #[test]
 fn no_datagram_over_a_socket_is_cut(rt: HostRuntime) -> Result<(), Fail> {
     let (alloc, ip) = (rt.alloc(), LOCALHOST);
     let (client, origin) = (peer(&rt, "127.0.0.1:0")?, peer(&rt, "127.0.0.1:0")?);
     let mut core = core_to(alloc, origin.local_addr()?)?;
     let mut port = UdpPort::bind(&rt, alloc, Endpoint { ip, port: 0 })?;
-    let client = Client {
-        alloc,
-        socket: &client,
-        proxy: address_seen(&rt, ip, &mut port, &client)?,
-    };
-    check_lengths(&rt, &mut core, &mut port, client)?;
-    // the payload is whole
-    let mut sent_on = [b'x'; 125];
-    sent_on[..15].copy_from_slice(&SENT_ON);
-    check_got(&rt, &origin, &sent_on)
+    check_whole(&rt, alloc, &mut core, &mut port, (&client, &origin))
 }

@@ -112,6 +112,31 @@ pub(crate) fn shown(alloc: Global, handed: &[Handed]) -> Result<String, AllocErr
     Ok(out)
 }
 
+/// Checks the result of a drive.
+pub(crate) fn check_done(
+    rt: &impl Abort,
+    done: Result<Stats, DriveError>,
+    expected: Result<Stats, DriveError>,
+) {
+    assert!(rt; done == expected);
+}
+
+/// Checks that a text is this one.
+pub(crate) fn check_text(rt: &impl Abort, text: &str, expected: &str) {
+    assert_eq!(rt; text, expected);
+}
+
+/// Checks what was handed over.
+pub(crate) fn check_handed(
+    rt: &impl Abort,
+    alloc: Global,
+    handed: &[Handed],
+    expected: &str,
+) -> Result<(), Fail> {
+    check_text(rt, shown(alloc, handed)?.as_str(), expected);
+    Ok(())
+}
+
 /// Drives a core for `turns` turns over a port that gives `given` datagrams and refuses one or
 /// none, and checks the result and what was handed over.
 fn check_driven(
@@ -121,11 +146,8 @@ fn check_driven(
     expected: (Result<Stats, DriveError>, &str),
 ) -> Result<(), Fail> {
     let mut port = port(alloc, given, refused)?;
-    let done = drive_anew(rt, alloc, &mut port, turns)?;
-    assert!(rt; done == expected.0);
-    let written = shown(alloc, port.handed())?;
-    assert_eq!(rt; written.as_str(), expected.1);
-    Ok(())
+    check_done(rt, drive_anew(rt, alloc, &mut port, turns)?, expected.0);
+    check_handed(rt, alloc, port.handed(), expected.1)
 }
 
 #[test]
@@ -197,6 +219,21 @@ fn insist_on_shown(alloc: Global, handed: &[Handed]) -> Result<String, AllocErro
     }
 }
 
+/// Checks the counts of that drive, and what was handed over unless a datagram wasn't taken.
+fn check_made_up(
+    rt: &impl Abort,
+    alloc: Global,
+    stats: Stats,
+    handed: &[Handed],
+) -> Result<(), AllocError> {
+    assert_eq!(rt; stats.turns, 6);
+    assert!(rt; stats.lost <= 1 && stats.send_faults <= 1 - stats.lost);
+    if stats.send_faults == 0 {
+        check_text(rt, insist_on_shown(alloc, handed)?.as_str(), BOTH);
+    }
+    Ok(())
+}
+
 // A turn whose step runs out of memory is lost and counted, and the loop goes on: the request comes
 // again, and so does its answer. The test passes with ample memory, when no turn is lost, and also
 // if any one allocation fails.
@@ -206,11 +243,5 @@ fn what_comes_again_makes_up_for_a_lost_turn(rt: HostRuntime) -> Result<(), Fail
     let mut port = insist_on_port(alloc)?;
     let mut core = insist_on_core(alloc)?;
     let stats = insist_on_driving(&rt, alloc, &mut core, &mut port)?;
-    assert_eq!(rt; stats.turns, 6);
-    assert!(rt; stats.lost <= 1 && stats.send_faults <= 1 - stats.lost);
-    if stats.send_faults == 0 {
-        let written = insist_on_shown(alloc, port.handed())?;
-        assert_eq!(rt; written.as_str(), BOTH);
-    }
-    Ok(())
+    Ok(check_made_up(&rt, alloc, stats, port.handed())?)
 }

@@ -1,5 +1,5 @@
 //! Recordings of a core over a port in memory: what is recorded, and replays of that.
-use crate::ports::{ANSWER, BOTH, GET, core_of, shown, stats};
+use crate::ports::{ANSWER, BOTH, GET, check_done, check_handed, core_of, stats};
 use coap_cache::ListStore;
 use coap_core::{Core, LimitValues, Limits};
 use coap_message::{OutOfMemory, Seq};
@@ -66,6 +66,11 @@ fn drive_on<W: Write>(
     drive(alloc, core, port, 4)
 }
 
+/// Checks that bytes are these.
+fn check_bytes(rt: &impl Abort, bytes: &[u8], expected: &[u8]) {
+    assert_eq!(rt; bytes, expected);
+}
+
 /// What a new core writes in a replay of these lines.
 fn replayed(alloc: Global, lines: &[u8]) -> Result<Vec<u8>, Fail> {
     let mut core = core(alloc)?;
@@ -75,22 +80,31 @@ fn replayed(alloc: Global, lines: &[u8]) -> Result<Vec<u8>, Fail> {
     Ok(out)
 }
 
+/// Checks what is sent over a port whose turns are recorded, and what is recorded.
+fn check_recorded(
+    rt: &impl Abort,
+    alloc: Global,
+    core: &mut Core<ListStore>,
+    port: &mut Recording<MemoryPort, Vec<u8>>,
+) -> Result<(), Fail> {
+    check_done(rt, drive_on(rt, alloc, core, port), Ok(stats(4, 2, 0)));
+    check_handed(rt, alloc, port.port().handed(), BOTH)?;
+    // nothing is written as long as something comes
+    assert_eq!(rt; port.writer().len(), 0);
+    port.finish();
+    assert!(rt; !port.has_ended());
+    check_bytes(rt, port.writer().as_slice(), RECORDED.as_bytes());
+    Ok(())
+}
+
 #[test]
 fn a_recording_is_replayed(rt: HostRuntime) -> Result<(), Fail> {
     let alloc = rt.alloc();
     let mut core = core(alloc)?;
     let mut port = Recording::new(alloc, port(alloc)?, Vec::new(alloc))?;
-    let done = drive_on(&rt, alloc, &mut core, &mut port);
-    assert!(&rt; done == Ok(stats(4, 2, 0)));
-    let written = shown(alloc, port.port().handed())?;
-    assert_eq!(&rt; written.as_str(), BOTH);
-    // nothing is written as long as something comes
-    assert_eq!(&rt; port.writer().len(), 0);
-    port.finish();
-    assert!(&rt; !port.has_ended());
-    assert_eq!(&rt; port.writer().as_slice(), RECORDED.as_bytes());
+    check_recorded(&rt, alloc, &mut core, &mut port)?;
     let again = replayed(alloc, port.writer().as_slice())?;
-    assert_eq!(&rt; again.as_slice(), REPLAYED.as_bytes());
+    check_bytes(&rt, again.as_slice(), REPLAYED.as_bytes());
     Ok(())
 }
 
@@ -121,6 +135,27 @@ impl Write for Disk {
 
 /// Records the turns on a disk with room for `room` bytes: the datagrams that are sent are the
 /// same, and the disk holds what fits.
+fn check_disk(
+    rt: &impl Abort,
+    alloc: Global,
+    core: &mut Core<ListStore>,
+    port: &mut Recording<MemoryPort, Disk>,
+    room: usize,
+) -> Result<(), Fail> {
+    check_done(rt, drive_on(rt, alloc, core, port), Ok(stats(4, 2, 0)));
+    port.finish();
+    check_handed(rt, alloc, port.port().handed(), BOTH)?;
+    let all = RECORDED.as_bytes();
+    assert_eq!(rt; port.has_ended(), room < all.len());
+    check_bytes(
+        rt,
+        port.writer().held.as_slice(),
+        &all[..room.min(all.len())],
+    );
+    Ok(())
+}
+
+/// The same with a new core and a new disk.
 fn check_full(rt: &impl Abort, alloc: Global, room: usize) -> Result<(), Fail> {
     let mut core = core(alloc)?;
     let disk = Disk {
@@ -128,15 +163,7 @@ fn check_full(rt: &impl Abort, alloc: Global, room: usize) -> Result<(), Fail> {
         room,
     };
     let mut port = Recording::new(alloc, port(alloc)?, disk)?;
-    let done = drive_on(rt, alloc, &mut core, &mut port);
-    assert!(rt; done == Ok(stats(4, 2, 0)));
-    port.finish();
-    let written = shown(alloc, port.port().handed())?;
-    assert_eq!(rt; written.as_str(), BOTH);
-    let all = RECORDED.as_bytes();
-    assert_eq!(rt; port.has_ended(), room < all.len());
-    assert_eq!(rt; port.writer().held.as_slice(), &all[..room.min(all.len())]);
-    Ok(())
+    check_disk(rt, alloc, &mut core, &mut port, room)
 }
 
 #[test]
