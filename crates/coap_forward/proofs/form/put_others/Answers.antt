@@ -1,7 +1,9 @@
-use Rattle.std.proofs.Common.{◌≡◌, refl, arith}
+use Rattle.std.proofs.Common.{◌≡◌, ◌&&◌, ap, refl, sym, arith}
 use Rattle.std.proofs.lemmas.Grind.{common_steps}
 use Rattle.coap_message.specs.Options.{AreOptions, last_number}
-use Rattle.coap_forward.specs.Gaps.{others_in}
+use Rattle.coap_forward.specs.Forms.{goes_on}
+use Rattle.coap_forward.specs.Gaps.{is_in, others_in}
+use Rattle.coap_store.proofs.PartWriting.{picked, written-all, written-next}
 use Rattle.coap_forward.proofs.Gaps.{AreOptions-others, last-others}
 use Rattle.coap_forward.proofs.form.put_others.Goals as goal
 
@@ -30,3 +32,15 @@ pub returns-in_err-put_option-clause-written : goal.returns-in_err-put_option-cl
 returns-in_err-put_option-clause-written c =
     let on = rw c.code.ensures.exact at c.if-goes_on.ensures in
     grind (arith, common_steps)
+
+pub loop-option-preserved-then-goes_on : goal.loop-option-preserved-then-goes_on
+loop-option-preserved-then-goes_on c =
+    let on = rw c.code.ensures.exact at c.if-goes_on.ensures in
+    let has = c.if-has.ensures in
+    let next = picked (λ o. is_in c.args.gap o.number && goes_on c.args.request.now.code o) _ _ _ c.in-Some.ensures.steps (sym (λ i. has i && on i)) in
+    written-next _ _ _ _ _ _ _ _ _ _ next c.loop-option.invariant c.in_ok-put_option.ensures
+
+pub returns-clause-written : goal.returns-clause-written
+returns-clause-written c =
+    let none = ap (λ os. others_in c.args.request.now.code c.args.gap os) c.in-None.ensures.steps.0 in
+    written-all _ _ _ _ _ _ _ none c.loop-option.invariant
