@@ -17,3 +17,12 @@ returns-in-Err g c =
     let m = c.args.arrival.message.now in
     let get : is_get m.code ≡ true = rw (← c.code.ensures.exact) (sym c.if-not-is_get.ensures) in
     remembered-as c.args.arrival (missed c.args.self.now c.args.arrival.now c.args.arrival.from m c.args.asked.now.key get (sym c.in-Err.ensures.usable)) c.put_usable.ensures.kept c.on_miss.ensures
+
+pub put_usable-requires-clause-ids : goal.put_usable-requires-clause-ids
+put_usable-requires-clause-ids g c = c.requires.reply.ids
+
+pub put_usable-requires-clause-tags : goal.put_usable-requires-clause-tags
+put_usable-requires-clause-tags g c = c.requires.asked.tags
+
+pub on_exchange_needed-requires-clause-room : goal.on_exchange_needed-requires-clause-room
+on_exchange_needed-requires-clause-room g c = c.requires.room
