@@ -26,3 +26,9 @@ put_usable-requires-clause-tags g c = c.requires.asked.tags
 
 pub on_exchange_needed-requires-clause-room : goal.on_exchange_needed-requires-clause-room
 on_exchange_needed-requires-clause-room g c = c.requires.room
+
+pub on_miss-requires-clause-room : goal.on_miss-requires-clause-room
+on_miss-requires-clause-room g c = rw c.put_usable.ensures.kept c.requires.room
+
+pub put_usable-requires-clause-get : goal.put_usable-requires-clause-get
+put_usable-requires-clause-get g c = rw (← c.code.ensures.exact) (sym c.if-not-is_get.ensures)
