@@ -1,5 +1,5 @@
 //! `coap` URIs (RFC 7252, 6).
-ghost use Rattle.std.specs.Prelude.{◌≡◌, ◌&&◌, if◌then◌else◌, Err, IfOk, Ok, Some, map};
+ghost use Rattle.std.specs.Prelude.{◌≡◌, ◌&&◌, IfOk, Ok, Some, map};
 ghost use Rattle.std.specs.Char.{to_ascii_lowercase};
 ghost use Rattle.std.specs.Option.{option_copied};
 ghost use Rattle.percent_encoding.specs.Percent.{percent_decode};
@@ -53,6 +53,13 @@ impl UriParts {
         };
         host && all_short(&self.path) && all_short(&self.query)
     }
+
+    /// Whether a request can carry these parts: each is short enough, and the port isn't 0.
+    fn fit_a_request(&self) -> bool
+        ensures { result ≡ (is_port self.now.port && spec.are_short self.now) }
+    {
+        self.are_short() && self.port != 0
+    }
 }
 
 /// The parts of the URI that a text is (RFC 7252, 6.4): what the `url` crate reads in it, decoded.
@@ -76,40 +83,13 @@ fn split_plain(alloc: Global, plain: Plain<'_>) -> Result<UriParts, UriError>
     ensures { Answers errors.OutOfMemory result
         (spec.with_host (url_of plain.entry) (Some (Domain plain.entry.host.now))) }
 {
-    let host = named(alloc, plain.host)?;
-    let parts = with_host(alloc, host, plain.port, plain.path, plain.query)?;
-    carried(parts)
-}
-
-/// The parts of a URI with this host: the port, or the default, and the others decoded.
-fn with_host(
-    alloc: Global,
-    host: HostPart,
-    port: Option<u16>,
-    path: &[u8],
-    query: Option<&[u8]>,
-) -> Result<UriParts, OutOfMemory>
-    ensures { IfOk result (λ parts. parts ≡ record {
-      host = host;
-      port = spec.port_part port;
-      path = spec.path_parts path.now;
-      query = spec.query_parts (option_copied query.entry);
-    }) }
-{
-    Ok(UriParts {
-        host,
-        port: port.unwrap_or(DEFAULT_PORT),
-        path: path_parts(alloc, path)?,
-        query: query_parts(alloc, query)?,
-    })
-}
-
-/// Parts that a request can carry: the port isn't 0, and each is short enough. Others are `Bad`.
-fn carried(parts: UriParts) -> Result<UriParts, UriError>
-    ensures { result
-        ≡ (if is_port parts.port && spec.are_short parts then Ok parts else Err errors.Bad) }
-{
-    if parts.port != 0 && parts.are_short() {
+    let parts = UriParts {
+        host: named(alloc, plain.host)?,
+        port: plain.port.unwrap_or(DEFAULT_PORT),
+        path: path_parts(alloc, plain.path)?,
+        query: query_parts(alloc, plain.query)?,
+    };
+    if parts.fit_a_request() {
         Ok(parts)
     } else {
         Err(UriError::Bad)
@@ -133,23 +113,30 @@ fn split_url(alloc: Global, url: &Url) -> Result<UriParts, UriError>
         return Err(UriError::Scheme);
     }
     match url.host() {
-        Some(host) if is_plain(url) => carried(parts_of(alloc, url, host)?),
-        _ => Err(UriError::Bad),
+        Some(host) => with_host(alloc, url, host),
+        None => Err(UriError::Bad),
     }
 }
 
-/// The parts of a URL with this host, decoded.
-fn parts_of(alloc: Global, url: &Url, host: Host<&str>) -> Result<UriParts, OutOfMemory>
-    ensures { IfOk result (λ parts. parts ≡ spec.parts_of url.now (borrowed_host host.entry)) }
+/// The parts of a URL with this host, decoded, if it has nothing that a request can't carry.
+fn with_host(alloc: Global, url: &Url, host: Host<&str>) -> Result<UriParts, UriError>
+    ensures { Answers errors.OutOfMemory result
+        (spec.with_host url.now (Some (borrowed_host host.entry))) }
 {
-    let host = host_part(alloc, host)?;
-    with_host(
-        alloc,
-        host,
-        url.port(),
-        url.path().as_bytes(),
-        query_of(url),
-    )
+    if !is_plain(url) {
+        return Err(UriError::Bad);
+    }
+    let parts = UriParts {
+        host: host_part(alloc, host)?,
+        port: url.port().unwrap_or(DEFAULT_PORT),
+        path: path_parts(alloc, url.path().as_bytes())?,
+        query: query_parts(alloc, query_of(url))?,
+    };
+    if parts.fit_a_request() {
+        Ok(parts)
+    } else {
+        Err(UriError::Bad)
+    }
 }
 
 /// Whether a URL has no user name, no password and no fragment.
