@@ -23,7 +23,7 @@ def serve(stage):
     """Starts libcoap's server, and returns its address once it is ready."""
     program = tool("server")
     for _ in range(5):
-        address = (stage.host, free_port(stage.host))
+        address = (stage.host, free_port())
         process = stage.start([program, "-A", address[0], "-p", str(address[1])])
         if stage.is_ready(process, address):
             return address

@@ -1,6 +1,5 @@
 """Endpoints on the loopback, and programs that serve them for as long as a case needs them."""
 
-import errno
 import itertools
 import math
 import os
@@ -273,7 +272,7 @@ class Stage:
         if config is not None:
             words += ("--config", self.file(f"proxy-{len(self.programs)}.toml", f"version = {version}\n{config}"))
         for _ in range(5):
-            port = free_port(host)
+            port = free_port()
             process = self.start([*self.program, "-A", host, "-p", str(port), *words], output)
             if self.is_ready(process, (host, port)):
                 return host, port
@@ -307,24 +306,33 @@ PORTS = range(18000, 32000)
 NEXT_PORT = itertools.cycle(random.sample(PORTS, len(PORTS)))
 
 
-def free_port(host):
+def taken_ports():
+    """The UDP ports that sockets of this host have. Binding one to find out would keep it from its program, as long as a
+    program that another thread starts in that moment has a copy of the socket."""
+    taken = set()
+    for name in ("/proc/net/udp", "/proc/net/udp6"):
+        if os.path.exists(name):
+            with open(name, encoding="ascii") as file:
+                taken.update(int(line.split()[1].rpartition(":")[2], 16) for line in file.readlines()[1:])
+    return taken
+
+
+def free_port():
     """A port that was free a moment ago."""
+    taken = taken_ports()
     for _ in PORTS:
         port = next(NEXT_PORT)
-        with udp(host) as probe:
-            try:
-                probe.bind((host, port))
-                return port
-            except OSError as fault:
-                if fault.errno != errno.EADDRINUSE:
-                    raise
+        if port not in taken:
+            return port
     raise Broken("no port is free")
 
 
 def has_ipv6():
     """Whether there is ::1."""
     try:
-        return free_port("::1") > 0
+        with udp("::1") as probe:
+            probe.bind(("::1", 0))
+            return True
     except OSError:
         return False
 

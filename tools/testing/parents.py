@@ -259,7 +259,7 @@ def a_change_is_known_where_it_passed(stage):
 def circle(stage, limits):
     """A client of one of two proxies, each of which asks the other."""
     for _ in range(5):
-        other = stage.host, free_port(stage.host)
+        other = stage.host, free_port()
         client = edge(stage, other, config=f"[limits]\n{limits}\n")
         words = ["-A", other[0], "-p", str(other[1]), "-P", beyond(client.to)]
         words += ["--config", stage.file("other.toml", f"version = 1\n[limits]\n{limits}\n")]

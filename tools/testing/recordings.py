@@ -98,7 +98,7 @@ def a_recording_says_how_its_run_was_started(stage):
 
 def run_a_turn(program, path, *more):
     """The status and the standard error of a turn that is recorded to a file."""
-    words = [*program, "-A", "127.0.0.1", "-p", str(free_port("127.0.0.1")), "--turns", "1", "--record", path, *more]
+    words = [*program, "-A", "127.0.0.1", "-p", str(free_port()), "--turns", "1", "--record", path, *more]
     done = subprocess.run(words, stdout=subprocess.PIPE, stderr=subprocess.PIPE, timeout=20)
     return done.returncode, done.stderr
 
@@ -134,7 +134,7 @@ def limited():
 def a_full_disk_ends_the_recording_alone(program):
     with tempfile.TemporaryDirectory(prefix="coap-proxyd-test-") as folder:
         path = os.path.join(folder, "run.events")
-        words = [*program, "-A", "127.0.0.1", "-p", str(free_port("127.0.0.1")), "--turns", "7", "--record", path]
+        words = [*program, "-A", "127.0.0.1", "-p", str(free_port()), "--turns", "7", "--record", path]
         # What is too long for a file is refused then, and ends nothing.
         pipe, more = subprocess.PIPE, {"preexec_fn": limited, "restore_signals": False}
         done = subprocess.run(words, stdout=pipe, stderr=pipe, timeout=20, **more)

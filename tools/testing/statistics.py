@@ -143,11 +143,13 @@ def each_number_stands_behind_its_name(stage):
 
 def run_a_turn(program, *words):
     """What a program with these words writes to standard error for a few turns of a socket."""
-    usual = [*program, "-A", "127.0.0.1", "-p", str(free_port("127.0.0.1")), "--turns", "2", *words]
+    usual = [*program, "-A", "127.0.0.1", "-p", str(free_port()), "--turns", "2", *words]
     done = subprocess.run(usual, stdin=subprocess.DEVNULL, stdout=subprocess.PIPE, stderr=subprocess.PIPE, timeout=20)
-    expect("the status", 0, done.returncode)
+    lines = done.stderr.decode().splitlines()
+    if done.returncode != 0:
+        raise Failed(f"the status is {done.returncode}, and standard error {lines}")
     expect("standard output", b"", done.stdout)
-    return done.stderr.decode().splitlines()
+    return lines
 
 
 def a_line_is_written_at_the_end_of_the_turns(program):
