@@ -14,9 +14,11 @@ from testing.coap import ACK, CON, CONTENT, EMPTY, GET, MAX_AGE, NON, message, n
 from testing.network import Broken, Skipped, Stage, expect
 from testing.steps import T
 
-# The addresses at the two ends, of a network for documentation (RFC 5737), and what clone(2) calls a network namespace.
+# The addresses at the two ends, of a network for documentation (RFC 5737); what clone(2) calls a network namespace; and
+# the option of socket(7) by which root has a buffer as large as it likes.
 HERE, THERE, PORT = "192.0.2.1", "192.0.2.2", 5683
 CLONE_NEWNET = 0x40000000
+SO_RCVBUFFORCE = 33
 # How many clients wait for one answer, and how long it is: together 1.4 MB, which take a link of 10 Mbit/s 1.2 s.
 CLIENTS, LENGTH = 1_000, 1_380
 
@@ -55,11 +57,13 @@ def slow_link(rate):
 
 
 def enter_and_bind(namespace, address, made):
-    """Enters a namespace with this thread, and makes a socket there."""
+    """Enters a namespace with this thread, and makes a socket there, which has room for all answers: what comes while this
+    process has no processor isn't lost."""
     with open(os.path.join("/var/run/netns", namespace)) as file:
         if ctypes.CDLL(None, use_errno=True).setns(file.fileno(), CLONE_NEWNET) != 0:
             return
     made.append(socket.socket(socket.AF_INET, socket.SOCK_DGRAM))
+    made[0].setsockopt(socket.SOL_SOCKET, SO_RCVBUFFORCE, 8 << 20)
     made[0].bind((address, 0))
     made[0].settimeout(5)
 
