@@ -1,8 +1,9 @@
 //! Targets: the resource on an origin server that a request is for (RFC 7252, 5.7.2).
-ghost use Rattle.std.specs.Prelude.{◌≡◌, IfOk, OnOk};
+ghost use Rattle.std.specs.Prelude.{◌≡◌, [], IfOk, OnErr, OnOk, unwrap_or};
 ghost use Rattle.std.specs.Cmp.{partial_equiv_from_equiv};
 ghost use Rattle.coap_endpoint.specs.Equality.{same_target};
 ghost use Rattle.coap_endpoint.specs.Hashing.{fed_target, sizes_word};
+ghost use Rattle.coap_endpoint.specs.Target.{IsEmptied};
 ghost use Rattle.coap_endpoint.specs.Alike.{targets_equiv, targets_fed};
 
 use crate::endpoint::Endpoint;
@@ -40,15 +41,20 @@ impl Drop for Target {
 /// Overwrites `copy` with a copy of `host`, and reuses its room.
 ///
 /// # Errors
-/// Out of memory. `copy` may then hold a part of the host.
+/// Out of memory. `copy` is then empty, or `None`.
 pub fn copy_host(host: &Option<Seq<u8>>, copy: &mut Option<Seq<u8>>) -> Result<(), OutOfMemory>
-    ensures { OnOk result (copy.new ≡ host.now) }
+    ensures ok { OnOk result (copy.new ≡ host.now) }
+    ensures err { OnErr result (unwrap_or copy.new [] ≡ []) }
 {
-    if let (Some(name), Some(copy)) = (host, &mut *copy) {
+    let Some(name) = host else {
+        *copy = None;
+        return Ok(());
+    };
+    if let Some(copy) = &mut *copy {
         copy.clear();
         return copy.append(name.as_slice());
     }
-    *copy = host.clone()?;
+    *copy = Some(name.clone()?);
     Ok(())
 }
 
@@ -72,11 +78,34 @@ impl PartialEq for Target {
 }
 
 impl Target {
+    /// Removes all bytes of its host, path and query, and keeps their room.
+    pub fn clear(&mut self)
+        ensures { IsEmptied self.new }
+    {
+        if let Some(host) = &mut self.host {
+            host.clear();
+        }
+        self.path.clear();
+        self.query.clear();
+    }
+
     /// Overwrites another target with a copy of this one, and reuses its room.
     ///
     /// # Errors
-    /// Out of memory. The other target then holds parts of both.
+    /// Out of memory. The other target then has no bytes of a host, a path or a query.
     pub fn copy_to(&self, target: &mut Target) -> Result<(), OutOfMemory>
+        ensures ok { OnOk result (target.new ≡ self.now) }
+        ensures err { OnErr result (IsEmptied target.new) }
+    {
+        let copied = self.overwrite(target);
+        if copied.is_err() {
+            target.clear();
+        }
+        copied
+    }
+
+    /// The same, but if memory runs out, the other target may hold parts of both.
+    fn overwrite(&self, target: &mut Target) -> Result<(), OutOfMemory>
         ensures { OnOk result (target.new ≡ self.now) }
     {
         copy_host(&self.host, &mut target.host)?;

@@ -1,5 +1,5 @@
 //! Options, and lists of them in order (RFC 7252, 3.1), borrowed as the bytes that encode them.
-ghost use Rattle.std.specs.Prelude.{◌≡◌, ◌<◌, ◌^◌, ◌++◌, [], ◌↔◌, IsTrue, IfOk, IfSome, OnOk, length, option_map};
+ghost use Rattle.std.specs.Prelude.{◌≡◌, ◌<◌, ◌^◌, ◌++◌, [], ◌↔◌, IsTrue, IfOk, IfSome, OnErr, OnOk, length, option_map};
 ghost use Rattle.coap_message.specs.Spelling.{options_spelling};
 ghost use Rattle.coap_message.specs.Reading.{options_at};
 ghost use Rattle.coap_message.specs.Options.{AreOptions, from_number, values_of};
@@ -77,8 +77,20 @@ impl<'a> OptRefs<'a> {
     /// Appends copies of the values of the options with this number to a list, in order.
     ///
     /// # Errors
-    /// Out of memory. Some of them may have been appended then.
+    /// Out of memory. The list is then empty.
     pub fn append_values(self, number: u16, list: &mut Pieces) -> Result<(), OutOfMemory>
+        ensures ok { OnOk result (list.new ≡ list.old ++ values_of number self.entry) }
+        ensures err { OnErr result (list.new ≡ []) }
+    {
+        let appended = self.append_each(number, list);
+        if appended.is_err() {
+            list.clear();
+        }
+        appended
+    }
+
+    /// The same, but if memory runs out, some of them may have been appended.
+    fn append_each(self, number: u16, list: &mut Pieces) -> Result<(), OutOfMemory>
         ensures { OnOk result (list.new ≡ list.old ++ values_of number self.entry) }
     {
         let mut before = self.before;

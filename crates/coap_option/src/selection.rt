@@ -108,12 +108,17 @@ pub fn key_options(alloc: Global, message: &Message) -> Result<OptionList, OutOf
 /// the room of the list.
 ///
 /// # Errors
-/// Out of memory. The list then holds some of them.
+/// Out of memory. The list is then empty.
 pub fn key_options_into(list: &mut OptionList, message: &MessageRef<'_>) -> Result<(), OutOfMemory>
     ensures ok { OnOk result (list.new ≡ key_of message.now) }
     ensures err { OnErr result (key_of message.now ≢ []) }
+    ensures emptied { OnErr result (list.new ≡ []) }
 {
-    select_into(list, &message.option_list(), &InKey(message.code()))
+    let selected = select_into(list, &message.option_list(), &InKey(message.code()));
+    if selected.is_err() {
+        list.clear();
+    }
+    selected
 }
 
 /// The values of the recognised ETags, in order: of a request, any number of them; of a response,
@@ -134,16 +139,21 @@ pub fn tags(alloc: Global, message: &Message) -> Result<Pieces, OutOfMemory>
 /// Replaces the values of a list by those of the recognised ETags, and reuses the room of the list.
 ///
 /// # Errors
-/// Out of memory. The list then holds some of them.
+/// Out of memory. The list is then empty.
 pub fn tags_into(list: &mut Pieces, message: &MessageRef<'_>) -> Result<(), OutOfMemory>
     ensures ok { OnOk result (list.new ≡ tags_of message.now) }
     ensures err { OnErr result (tags_of message.now ≢ []) }
+    ensures emptied { OnErr result (list.new ≡ []) }
 {
     let tag = OfNumber {
         side: Side::of(message.code()),
         number: numbers::ETAG,
     };
-    values_into(list, &message.option_list(), &tag)
+    let copied = values_into(list, &message.option_list(), &tag);
+    if copied.is_err() {
+        list.clear();
+    }
+    copied
 }
 
 /// The recognised Max-Age of a response, in seconds, or 60 if it has none (RFC 7252, 5.10.5).

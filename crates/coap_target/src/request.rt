@@ -1,7 +1,8 @@
 //! The target of a request (RFC 7252, 5.7.2, 5.7.3, 5.10.1 and 5.10.2).
-ghost use Rattle.std.specs.Prelude.{◌≡◌, ◌++◌, None, IfOk, OnOk, is_some, option_map};
+ghost use Rattle.std.specs.Prelude.{◌≡◌, ◌++◌, None, IfOk, OnErr, OnOk, is_some, option_map};
 ghost use Rattle.std.specs.Option.{option_copied};
 ghost use Rattle.coap_option.specs.declared.side.Side.{Side};
+ghost use Rattle.coap_endpoint.specs.Target.{IsEmptied};
 ghost use Rattle.coap_option.specs.Screening.{first_refused};
 ghost use Rattle.coap_uri.specs.Answer.{Answers};
 ghost use Rattle.coap_uri.specs.Uri.{host_of, host_text};
@@ -64,8 +65,7 @@ fn mapped<'a, P: Segments<'a>>(
     })
 }
 
-/// Overwrites a list with pieces and the values behind them. `Err` means that memory ran out; the
-/// list may then hold some of them.
+/// Overwrites a list with pieces and the values behind them. `Err` means that memory ran out.
 fn copy_joined(front: &Pieces, behind: &Values<'_>, list: &mut Pieces) -> Result<(), OutOfMemory>
     ensures { OnOk result (list.new ≡ front.now ++ behind.now) }
 {
@@ -85,8 +85,20 @@ impl MappedTarget<'_, '_> {
     /// Overwrites a target with a copy of this one, and reuses its room.
     ///
     /// # Errors
-    /// Out of memory. The target then holds parts of both.
+    /// Out of memory. The target then has no bytes of a host, a path or a query.
     pub fn copy_to(&self, target: &mut Target) -> Result<(), OutOfMemory>
+        ensures ok { OnOk result (target.new ≡ seen self.now) }
+        ensures err { OnErr result (IsEmptied target.new) }
+    {
+        let copied = self.overwrite(target);
+        if copied.is_err() {
+            target.clear();
+        }
+        copied
+    }
+
+    /// The same, but if memory runs out, the target may hold parts of both.
+    fn overwrite(&self, target: &mut Target) -> Result<(), OutOfMemory>
         ensures { OnOk result (target.new ≡ seen self.now) }
     {
         copy_host(&self.origin.host, &mut target.host)?;

@@ -3,7 +3,7 @@ use Rattle.std.proofs.lemmas.List.{length-append}
 use Rattle.coap_message.specs.Parsing.{parsed}
 use Rattle.coap_message.proofs.ManyOptions.{option_shortens}
 use Rattle.coap_message.proofs.Runs.{added-above, added-all, added-below, added-run, next-spells}
-use Rattle.coap_message.proofs.options.OptRefs.append_values.Goals as goal
+use Rattle.coap_message.proofs.options.OptRefs.append_each.Goals as goal
 
 pub returns-then-option-number : goal.returns-then-option-number
 returns-then-option-number c =

@@ -1,5 +1,5 @@
 use Rattle.std.proofs.Common.{rules}
-use Rattle.coap_target.proofs.mapped.MappedTarget.copy_to.Goals as goal
+use Rattle.coap_endpoint.proofs.target.Target.overwrite.Goals as goal
 
 pub returns : goal.returns
 returns c = search rules

@@ -1,5 +1,5 @@
 use Rattle.std.proofs.Common.{rules}
-use Rattle.coap_endpoint.proofs.target.Target.copy_to.Goals as goal
+use Rattle.coap_target.proofs.mapped.MappedTarget.overwrite.Goals as goal
 
 pub returns : goal.returns
 returns c = search rules
