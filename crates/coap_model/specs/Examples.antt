@@ -4,8 +4,7 @@ use Rattle.coap_message.specs.declared.code.TheConstants.Code.{GET, BAD_OPTION, 
 use Rattle.coap_message.specs.declared.kind.Kind.TheVariants.{Non}
 use Rattle.coap_message.specs.Message.{Message}
 use Rattle.coap_endpoint.specs.declared.endpoint.Endpoint.{Endpoint}
-use Rattle.coap_target.specs.Examples.{loopback}
-use Rattle.coap_target.specs.Routes.{fixed_routes}
+use Rattle.coap_target.specs.Examples.{fixed_routes, loopback}
 use Rattle.coap_model.specs.declared.report.Outcome.{Outcome}
 use Rattle.coap_model.specs.declared.report.Outcome.TheVariants.{Ignored, Rejected, Refused, Opened, Overloaded, NoId, Answered, SentRequest, Delivered, Idle}
 use Rattle.coap_model.specs.declared.report.Storing.{Storing}

@@ -2,7 +2,7 @@
 -- computed on the definitions.
 use Rattle.std.specs.Prelude.{ℕ, ◌+◌, List, [], ◌∷◌, ◌++◌, replicate}
 use Rattle.coap_message.specs.declared.code.TheConstants.Code.{NOT_FOUND}
-use Rattle.coap_target.specs.Routes.{fixed_routes}
+use Rattle.coap_target.specs.Examples.{fixed_routes}
 use Rattle.coap_model.specs.declared.report.Outcome.TheVariants.{Ignored, Rejected, Refused, Opened, Overloaded, NoId, Answered, SentRequest, Delivered}
 use Rattle.coap_model.specs.declared.report.Storing.TheVariants.{Kept, NotStored}
 use Rattle.coap_limits.specs.Limits.{Limits, default_limits}

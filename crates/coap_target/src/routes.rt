@@ -1,6 +1,6 @@
 //! Routes: a proxy's own names, the hosts that it knows, and the origins that its paths are mapped
 //! to (RFC 7252, 5.7.2 and 5.7.3).
-ghost use Rattle.std.specs.Prelude.{◌≡◌, ◌∷◌, [], IfOk};
+ghost use Rattle.std.specs.Prelude.{◌≡◌};
 ghost use Rattle.std.specs.Option.{option_copied};
 ghost use Rattle.coap_target.specs.Routes as spec;
 
@@ -49,7 +49,7 @@ impl Model for Routes {
 }
 
 impl Routes {
-    ghost use Rattle.coap_target.specs.Routes.{fixed_routes, AreRoutes};
+    ghost use Rattle.coap_target.specs.Routes.{AreRoutes};
 
     /// The maps, in order.
     pub fn maps(&self) -> &[Map]
@@ -58,45 +58,6 @@ impl Routes {
     {
         self.maps.as_slice()
     }
-
-    /// Routes that map the path `t` to `coap://127.0.0.1:5690/temp`.
-    ///
-    /// # Errors
-    /// Out of memory.
-    pub fn fixed(alloc: Global) -> Result<Routes, OutOfMemory>
-        ensures { IfOk result (λ routes. routes ≡ fixed_routes) }
-    {
-        let prefix = one_piece(alloc, b"t")?;
-        let path = one_piece(alloc, b"temp")?;
-        let at = Endpoint {
-            ip: Ip::V4([127, 0, 0, 1]),
-            port: 5690,
-        };
-        let origin = Target {
-            host: None,
-            at,
-            port: None,
-            path,
-            query: Pieces::new(alloc),
-        };
-        let mut maps = Seq::new(alloc);
-        maps.push(Map { prefix, origin })?;
-        Ok(Routes {
-            names: Seq::new(alloc),
-            hosts: Seq::new(alloc),
-            maps,
-            next: None,
-        })
-    }
-}
-
-/// A list of one piece.
-fn one_piece(alloc: Global, piece: &[u8]) -> Result<Pieces, OutOfMemory>
-    ensures { IfOk result (λ pieces. pieces ≡ piece.now ∷ []) }
-{
-    let mut pieces = Pieces::new(alloc);
-    pieces.push(piece)?;
-    Ok(pieces)
 }
 
 /// The map for a path: among those whose prefix begins the path, the one with the longest prefix,

@@ -13,11 +13,18 @@ pub(crate) const CLIENT: Endpoint = Endpoint {
     port: 40001,
 };
 
-/// The origin server of the fixed routes.
+/// The origin server of the routes.
 pub(crate) const ORIGIN: Endpoint = Endpoint {
     ip: Ip::V4([127, 0, 0, 1]),
     port: 5690,
 };
+
+/// Routes that map `/t` to `/temp` of the origin server.
+pub(crate) fn routes(alloc: Global) -> Result<Routes, Fail> {
+    let prefix = String::from_str(alloc, "/t")?;
+    let origin = String::from_str(alloc, "coap://127.0.0.1:5690/temp")?;
+    Ok(Routes::new(alloc, &[], &[], &[(prefix, origin)], None)?)
+}
 
 /// A proxy that maps `/t` to `/temp` of the origin server, with the default limits.
 pub(crate) fn core(alloc: Global) -> Result<Core<ListStore>, Fail>
@@ -25,7 +32,7 @@ pub(crate) fn core(alloc: Global) -> Result<Core<ListStore>, Fail>
     ensures last { IfOk result (λ core. core.last ≡ 0) }
 {
     let limits = Limits::new(LimitValues::default())?;
-    let routes = Routes::fixed(alloc)?;
+    let routes = routes(alloc)?;
     Ok(Core::new(alloc, (), limits, routes, 1, 0)?)
 }
 

@@ -14,7 +14,7 @@ fn coap_core(rt: HostRuntime) -> Result<(), Fail> {
     let alloc = rt.alloc();
     let (client, origin) = (CLIENT, ORIGIN);
     let limits = Limits::new(LimitValues::default())?;
-    let routes = Routes::fixed(alloc)?;
+    let routes = fixtures::routes(alloc)?;
     let mut core: Core<ListStore> = Core::new(alloc, (), limits, routes, 1, 0)?;
     let mut out = Datagram::new(alloc, core.datagram())?;
     let request = Event::Datagram {

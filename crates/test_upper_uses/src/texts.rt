@@ -53,7 +53,7 @@ fn coap_replay(rt: HostRuntime) -> Result<(), Fail> {
 fn coap_account(rt: HostRuntime) -> Result<(), Fail> {
     let alloc = rt.alloc();
     let limits = Limits::new(LimitValues::default())?;
-    let routes = Routes::fixed(alloc)?;
+    let routes = fixtures::routes(alloc)?;
     let mut core = fixtures::core(alloc)?;
     let mut input = Input::new(b"0 0 192.0.2.7:40001 50010007B174\n".as_slice());
     let (mut lines, mut output) = (Output::new(Vec::new(alloc)), Vec::new(alloc));
