@@ -69,9 +69,10 @@ def hits(kind, here, count):
 
 
 def expect_requests(program, kind, here, count):
-    """Has each hit in a message of this type make so many requests for memory."""
+    """Has each hit in a message of this type make so many requests for memory, besides those of the map in which its
+    record is found: a node of it has room for 15."""
     few, many = (requests_of(program, hits(kind, here, n)) for n in (100, 300))
-    expect("how many requests for memory 200 hits make", 200 * count, many - few)
+    expect_between("how many requests for memory 200 hits make", 200 * count, 200 * count + 40, many - few)
 
 
 @case("ExplainsAll")

@@ -1,7 +1,7 @@
 -- What is remembered, as the program asks for it.
 use Rattle.std.proofs.Common.{◌≡◌, ℕ, ◌<◌, Bool, true, false, List, length, Option, Some, None, refl, sym, ap, ◌∙◌, arith}
 use Rattle.std.specs.Prelude.{◌==◌, ◌&&◌, nat_lt, not, is_some}
-use Rattle.std.proofs.lemmas.Bool.{eqb-true, lt-ltb, ltb-true}
+use Rattle.std.proofs.lemmas.Bool.{and_parts, eqb-true, lt-ltb, ltb-true}
 use Rattle.coap_message.specs.declared.kind.Kind.{Kind}
 use Rattle.coap_message.specs.declared.kind.Kind.TheVariants.{Con, Non, Ack, Rst}
 use Rattle.coap_dedup.specs.Records.{AreRecords, living_at, living_of}
@@ -39,6 +39,13 @@ room-is w now source kind can free =
     let are = are-records w kind can in
     let all : nat_lt (length (living_at now t)) t.limit ≡ true = lt-ltb _ _ (room-there now t are free) in
     below-is (living_of source now t) t.per_client (client_room-there source now t are) ∙ sym (ap (λ (b : Bool). b && nat_lt (living_of source now t) t.per_client) all)
+
+-- where there is room, fewer records live than may, in all and of this endpoint
+pub room-all : (w : State) (now : ℕ) (source : Endpoint) (kind : Kind) → has_record_room w now source kind ≡ true → length (living_at now (records_of kind w)) < (records_of kind w).limit
+room-all w now source kind room = ltb-true _ _ (and_parts _ _ room).0
+
+pub room-own : (w : State) (now : ℕ) (source : Endpoint) (kind : Kind) → has_record_room w now source kind ≡ true → living_of source now (records_of kind w) < (records_of kind w).per_client
+room-own w now source kind room = ltb-true _ _ (and_parts _ _ room).1
 
 -- what isn't there is none
 pub none-some : {A : Type 0} (o : Option A) → is_some o ≡ false → o ≡ None

@@ -171,19 +171,15 @@ impl<S: Store + Drop> State<S> {
             (self.new ≡ of_arrival with_record arrival.entry sent.now self.old) }
         ensures err { OnErr result (self.new ≡ self.old) }
     {
-        let kept = match arrival.message.kind() {
+        let Arrival { now, from, message } = arrival;
+        match message.kind() {
             Kind::Con => {
                 let reply = Seq::from_slice(self.alloc, sent)?;
-                self.con_records.keep(arrival.from, arrival.message.id(), arrival.now, Some(reply))
+                self.con_records.keep_in_room(from, message.id(), now, Some(reply))
             }
             Kind::Non | Kind::Ack | Kind::Rst => {
-                self.non_records
-                    .keep(arrival.from, arrival.message.id(), arrival.now, None)
+                self.non_records.keep_in_room(from, message.id(), now, None)
             }
-        };
-        match kept {
-            Ok(()) => Ok(()),
-            Err(_) => Err(OutOfMemory),
         }
     }
 

@@ -10,7 +10,7 @@ ghost use Rattle.coap_model.specs.Responses.{is_in_flight, was_sent_with, has_id
 ghost use Rattle.coap_model.specs.History.{grown_of};
 ghost use Rattle.coap_core.specs.Arrivals.{of_arrival, of_grown};
 ghost use Rattle.coap_core.specs.Storing.{IsKept, answering_at, awaited_step, confirmable_step, separate_step, if_storable, targets_in, taken_up, taken_up_bytes, taken_up_to};
-ghost use Rattle.coap_core.specs.Steps.{Does, IsDoneBy, CanGoOn, CanRemember, CanStep, IsOpenAt, wants_memory};
+ghost use Rattle.coap_core.specs.Steps.{Does, IsDoneBy, IsNew, CanGoOn, CanRemember, CanStep, IsOpenAt, wants_memory};
 
 use crate::arrival::Arrival;
 use crate::copies::copy_of_message;
@@ -192,7 +192,7 @@ impl<S: Store + Drop> State<S> {
     ) -> Result<Report, OutOfMemory>
         requires can { CanGoOn self.old }
         requires con { is_con arrival.message.now.kind ≡ true }
-        requires new { CanRemember arrival.now arrival.from arrival.message.now self.old }
+        requires new { IsNew arrival.now arrival.from arrival.message.now self.old }
         requires room { self.old.setting.limits.datagram ≤ out.old.room }
         requires fits { length
             (of_grown (separate_step self.old) arrival true).bytes

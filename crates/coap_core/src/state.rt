@@ -98,7 +98,7 @@ impl<S: Store + Drop> State<S> {
         let limits = setting.limits;
         let (bytes, entries) = (limits.values().cache_bytes, limits.values().cache_entries);
         let store = S::with_limits(alloc, seed, bytes, entries as usize)?;
-        let (con_records, non_records) = new_records(alloc, &limits, setting.salt)?;
+        let (con_records, non_records) = new_records(alloc, &limits)?;
         let under_way = new_tables(alloc, &limits, setting.salt)?;
         let room = new_room(alloc, &limits, &setting.routes)?;
         let ids = Ids::new(setting.first_id);
@@ -261,7 +261,7 @@ fn new_tables(alloc: Global, limits: &Limits, seed: u64) -> Result<UnderWay, Out
 }
 
 /// Empty records, with room for as many as the limits say.
-fn new_records(alloc: Global, limits: &Limits, seed: u64) -> Result<(Records, Records), OutOfMemory>
+fn new_records(alloc: Global, limits: &Limits) -> Result<(Records, Records), OutOfMemory>
     ensures con { IfOk result (λ made. made.0 ≡ no_con_records limits.now) }
     ensures non { IfOk result (λ made. made.1 ≡ no_non_records limits.now) }
 {
@@ -269,12 +269,12 @@ fn new_records(alloc: Global, limits: &Limits, seed: u64) -> Result<(Records, Re
         limits.values().con_records as usize,
         limits.values().client_con_records as usize,
     );
-    let con_records = Records::seeded(alloc, all, per_client, EXCHANGE_LIFETIME, seed)?;
+    let con_records = Records::new(alloc, all, per_client, EXCHANGE_LIFETIME)?;
     let (all, per_client) = (
         limits.values().non_records as usize,
         limits.values().client_non_records as usize,
     );
-    let non_records = Records::seeded(alloc, all, per_client, NON_LIFETIME, seed)?;
+    let non_records = Records::new(alloc, all, per_client, NON_LIFETIME)?;
     Ok((con_records, non_records))
 }
 

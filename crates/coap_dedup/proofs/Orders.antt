@@ -1,10 +1,16 @@
--- Keys that the test finds the same are equal.
+-- The order of keys and that of endpoints: in them only equal values compare as equal.
 use Rattle.std.proofs.Common.{◌≡◌, ◌==◌, Bool, true, false, refl, sym, subst, ◌∙◌, eq-eqb}
+use Rattle.std.specs.Ordering.{is_eq}
 use Rattle.std.proofs.lemmas.Bool.{and_parts, and_from, eqb-true}
+use Rattle.coap_endpoint.specs.declared.endpoint.Endpoint.{Endpoint}
 use Rattle.coap_endpoint.specs.Endpoint.{same_endpoint}
+use Rattle.coap_endpoint.specs.contracts.endpoint.EndpointOrd.TheImpl.Laws as endpoint_order
 use Rattle.coap_endpoint.proofs.Equality.{Tells-endpoint}
+use Rattle.coap_dedup.specs.contracts.key.KeyOrd.TheImpl.Laws as key_order
 use Rattle.coap_dedup.specs.declared.key.Key.{Key}
+use Rattle.coap_dedup.specs.Indexing.{key_cmp}
 use Rattle.coap_dedup.specs.Keys.{same_key}
+use Rattle.coap_dedup.specs.Sources.{is_same}
 
 -- keys that the test finds the same are equal
 pub same_key-only : (a b : Key) → same_key a b ≡ true → a ≡ b
@@ -17,6 +23,14 @@ same_key-only a b e =
 -- and each is the same as itself
 pub same_key-itself : (a : Key) → same_key a a ≡ true
 same_key-itself a = and_from (same_endpoint a.from a.from) (a.id == a.id) (Tells-endpoint.itself a.from) (eq-eqb a.id a.id refl)
+
+-- so the order and the test agree
+pub is_eq-key_cmp : (a b : Key) → is_eq (key_cmp a b) ≡ same_key a b
+is_eq-key_cmp a b = sym (key_order.matches_eq-law a b)
+
+-- and so do those of endpoints
+pub is_same-same_endpoint : (a b : Endpoint) → is_same a b ≡ same_endpoint a b
+is_same-same_endpoint a b = sym (endpoint_order.matches_eq-law a b)
 
 -- and the test is symmetric
 pub same_key-flips : (a b : Key) → same_key a b ≡ same_key b a

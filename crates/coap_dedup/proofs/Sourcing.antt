@@ -1,15 +1,17 @@
 -- Which records are of which endpoint, as records come and go.
-use Rattle.std.proofs.Common.{◌≡◌, ℕ, ◌+◌, ◌-◌, ◌%◌, ◌^◌, ◌<◌, Bool, true, false, cond, List, [], ◌∷◌, ◌++◌, length, drop, zero, suc, Option, Some, None, IfSome, nat_lt, refl, sym, ap, subst, ◌∙◌, arith, slice_get, slice_set}
+use Rattle.std.proofs.Common.{◌≡◌, ℕ, ◌+◌, ◌-◌, ◌%◌, ◌^◌, ◌<◌, ◌==◌, ◌&&◌, Bool, true, false, cond, List, [], ◌∷◌, ◌++◌, length, drop, zero, suc, Option, Some, None, IfSome, nat_lt, refl, sym, ap, subst, ◌∙◌, arith, slice_get, slice_set}
 use Rattle.std.specs.Option.{option_map, option_map_or, option_or}
 use Rattle.std.proofs.lemmas.Bool.{both_ways, lt-ltb}
+use Rattle.circular_buffer.specs.Buffer.{Buffer}
 use Rattle.coap_endpoint.specs.declared.endpoint.Endpoint.{Endpoint}
 use Rattle.coap_endpoint.specs.Endpoint.{same_endpoint}
 use Rattle.coap_endpoint.proofs.Equality.{Tells-endpoint}
 use Rattle.coap_dedup.specs.declared.record.Record.{Record}
 use Rattle.coap_dedup.specs.declared.sources.Share.{Share}
 use Rattle.coap_dedup.specs.declared.sources.Sources.{Sources}
-use Rattle.coap_dedup.specs.Lists.{is_from}
-use Rattle.coap_dedup.specs.Sources.{AreLinked, AreSourced, IsNext, grown, last_of, numbers_from, place_of, share_in, share_of, shrunk}
+use Rattle.coap_dedup.specs.Lists.{is_from, record_of}
+use Rattle.coap_dedup.specs.Sources.{AreLinked, AreSourced, IsNext, grown, is_same, last_of, numbers_from, place_of, share_in, share_of, shrunk}
+use Rattle.coap_dedup.proofs.Orders.{is_same-same_endpoint}
 
 -- ---- shares
 
@@ -36,6 +38,15 @@ share-rest n next (m ∷ ms) is =
     let more : nat_lt 1 (length (n ∷ m ∷ ms)) ≡ true = lt-ltb 1 (length (n ∷ m ∷ ms)) (omega arith) in
     let count : length (n ∷ m ∷ ms) - 1 ≡ length (m ∷ ms) = omega arith in
     rw more (λ i. Some (record { count = count i; first = is i; last = last_of m ms }))
+
+-- without one there is no record of any message from the endpoint
+pub unshared : (from : Endpoint) (id n : ℕ) (rs : List Record) → None ≡ share_of (numbers_from n from rs) → record_of from id rs ≡ None
+unshared from id n [] none = refl
+unshared from id n (r ∷ rs) none = go (is_from from r) none (unshared from id (n + 1) rs)
+  where
+    go : (b : Bool) → None ≡ share_of (cond b (n % 2 ^ 64 ∷ numbers_from (n + 1) from rs) (numbers_from (n + 1) from rs)) → (None ≡ share_of (numbers_from (n + 1) from rs) → record_of from id rs ≡ None) → cond (b && (r.id == id)) (Some r) (record_of from id rs) ≡ None
+    go true e rest = absurd cc
+    go false e rest = rest e
 
 -- ---- numbers
 
@@ -204,11 +215,11 @@ linked-at from n (x ∷ nexts) (r ∷ rs) j m k are at next = go (is_from from r
 
 -- one comes
 pub AreSourced-push : (first : ℕ) (old new : Sources) (rs : List Record) (x : Record) (number : ℕ) → first < 2 ^ 64 → length rs < 2 ^ 63 → number ≡ (first + length rs) % 2 ^ 64
-    → ((e : Endpoint) → share_in new.shares e ≡ cond (same_endpoint x.from e) (Some (grown (share_in old.shares x.from) number)) (share_in old.shares e))
+    → ((e : Endpoint) → share_in new.shares e ≡ cond (is_same x.from e) (Some (grown (share_in old.shares x.from) number)) (share_in old.shares e))
     → new.nexts.items ≡ option_map_or (λ (s : Share). slice_set old.nexts.items (place_of first s.last) number) (share_in old.shares x.from) old.nexts.items ++ number ∷ []
     → AreSourced first old rs → AreSourced first new (rs ++ x ∷ [])
 AreSourced-push first old new rs x number fits few is shares nexts are = record {
-  shared = λ e. shares e ∙ go e (same_endpoint x.from e) refl ∙ ap share_of (sym (numbers_from-push first e rs x));
+  shared = λ e. shares e ∙ ap (λ b. cond b (Some (grown (share_in old.shares x.from) number)) (share_in old.shares e)) (is_same-same_endpoint x.from e) ∙ go e (same_endpoint x.from e) refl ∙ ap share_of (sym (numbers_from-push first e rs x));
   linked = subst (λ ns. AreLinked first ns (rs ++ x ∷ [])) (sym (nexts ∙ ap (λ (o : List ℕ). o ++ number ∷ []) (place (numbers_from first x.from rs) refl))) (AreLinked-push first old.nexts.items rs x number are.linked is);
 }
   where
@@ -227,14 +238,14 @@ AreSourced-push first old new rs x number fits few is shares nexts are = record 
 
 -- the first goes
 pub AreSourced-rest : (first : ℕ) (old new : Sources) (r : Record) (rs : List Record)
-    → IfSome (slice_get old.nexts.items 0) (λ next. (e : Endpoint) → share_in new.shares e ≡ cond (same_endpoint r.from e) (shrunk (share_in old.shares r.from) next) (share_in old.shares e))
+    → IfSome (slice_get old.nexts.items 0) (λ next. (e : Endpoint) → share_in new.shares e ≡ cond (is_same r.from e) (shrunk (share_in old.shares r.from) next) (share_in old.shares e))
     → new.nexts.items ≡ drop 1 old.nexts.items → AreSourced first old (r ∷ rs) → AreSourced ((first + 1) % 2 ^ 64) new rs
 AreSourced-rest first old new r rs shares nexts are = go old.nexts.items shares nexts are.linked
   where
-    go : (ns : List ℕ) → IfSome (slice_get ns 0) (λ next. (e : Endpoint) → share_in new.shares e ≡ cond (same_endpoint r.from e) (shrunk (share_in old.shares r.from) next) (share_in old.shares e)) → new.nexts.items ≡ drop 1 ns → AreLinked first ns (r ∷ rs) → AreSourced ((first + 1) % 2 ^ 64) new rs
+    go : (ns : List ℕ) → IfSome (slice_get ns 0) (λ next. (e : Endpoint) → share_in new.shares e ≡ cond (is_same r.from e) (shrunk (share_in old.shares r.from) next) (share_in old.shares e)) → new.nexts.items ≡ drop 1 ns → AreLinked first ns (r ∷ rs) → AreSourced ((first + 1) % 2 ^ 64) new rs
     go [] takes left links = absurd links
     go (next ∷ ns) takes left links = record {
-      shared = λ e. takes e ∙ each e (same_endpoint r.from e) refl (are.shared e) ∙ ap share_of (numbers_from-as (first + 1) ((first + 1) % 2 ^ 64) e rs (omega arith));
+      shared = λ e. takes e ∙ ap (λ b. cond b (shrunk (share_in old.shares r.from) next) (share_in old.shares e)) (is_same-same_endpoint r.from e) ∙ each e (same_endpoint r.from e) refl (are.shared e) ∙ ap share_of (numbers_from-as (first + 1) ((first + 1) % 2 ^ 64) e rs (omega arith));
       linked = subst (λ ls. AreLinked ((first + 1) % 2 ^ 64) ls rs) (sym left) (AreLinked-as (first + 1) ((first + 1) % 2 ^ 64) ns rs (omega arith) links.1);
     }
       where
@@ -244,3 +255,10 @@ AreSourced-rest first old new r rs shares nexts are = go old.nexts.items shares 
             ap (λ (f : Endpoint). shrunk (share_in old.shares f) next) from ∙ ap (λ (o : Option Share). shrunk o next) is
             ∙ share-rest (first % 2 ^ 64) next (numbers_from (first + 1) e rs) (subst (λ (f : Endpoint). IsNext next (numbers_from (first + 1) f rs)) from links.0)
         each e false other is = is
+
+-- the shares and links are those of before
+pub AreSourced-same : (first : ℕ) (old new : Sources) (rs : List Record) → ((e : Endpoint) → share_in new.shares e ≡ share_in old.shares e) → new.nexts ≡ old.nexts → AreSourced first old rs → AreSourced first new rs
+AreSourced-same first old new rs shares nexts are = record {
+  shared = λ e. shares e ∙ are.shared e;
+  linked = subst (λ (b : Buffer ℕ). AreLinked first b.items rs) (sym nexts) are.linked;
+}

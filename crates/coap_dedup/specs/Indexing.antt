@@ -1,19 +1,23 @@
 -- The index of a ring of records.
-use Rattle.std.specs.Prelude.{◌≡◌, ℕ, ◌+◌, ◌<◌, ◌%◌, ◌^◌, if◌then◌else◌, List, [], ◌∷◌, Option, Some, None}
-use Rattle.indexmap.specs.IndexMap.{IndexMap, get, spare}
+use Rattle.std.specs.Prelude.{◌≡◌, ℕ, ◌+◌, ◌%◌, ◌^◌, if◌then◌else◌, List, [], ◌∷◌, Option, Some, None}
+use Rattle.std.specs.declared.cmp.Ordering.{Ordering}
+use Rattle.std.specs.BTreeMap.{BTreeMap, get}
 use Rattle.std.specs.Option.{option_or}
-use Rattle.coap_endpoint.specs.declared.seeded.Seeded.{Seeded}
 use Rattle.coap_dedup.specs.declared.key.Key.{Key}
 use Rattle.coap_dedup.specs.declared.numbers.Numbers.{Numbers}
 use Rattle.coap_dedup.specs.declared.record.Record.{Record}
-use Rattle.coap_dedup.specs.Keys.{same_key}
+use Rattle.coap_dedup.specs.contracts.key.KeyOrd.TheImpl as order
 use Rattle.coap_dedup.specs.Lists.{is_of}
 use Rattle.coap_dedup.specs.Records.{Records, AreRecords}
 use Rattle.coap_dedup.specs.Sources.{AreSourced}
 
+-- the order of the keys in the index
+abbrev pub key_cmp : Key → Key → Ordering
+key_cmp = (order.ghosts).cmp
+
 -- an index: the number of each key in it
 abbrev pub Index : Type 0
-Index = IndexMap Key ℕ Seeded
+Index = BTreeMap Key ℕ
 
 -- The number of the last record with a key, if the first record has this number and each further
 -- one has the next. Numbers wrap around to 0 after the greatest that fits in 64 bits.
@@ -29,20 +33,15 @@ number_of n key (r ∷ rs) =
 pub record AreNumbered (first : ℕ) (index : Index) (records : List Record) : Type 0 where
   pub origin : ℕ
   pub is_first : first ≡ origin % 2 ^ 64
-  pub numbered : (key : Key) → get same_key index key ≡ number_of origin key records
+  pub numbered : (key : Key) → get key_cmp index key ≡ number_of origin key records
 
 -- they are the numbers of these records, by message and by source
 pub record AreNumbersOf (numbers : Numbers) (records : List Record) : Type 0 where
   pub by_message : AreNumbered numbers.first numbers.by_message records
   pub by_source : AreSourced numbers.first numbers.by_source records
 
--- one more number can be added without memory
-pub record CanAdd (numbers : Numbers) : Type 0 where
-  pub by_message : 0 < spare numbers.by_message
-  pub by_source : 0 < spare numbers.by_source.shares
-
 -- what holds for the records in a ring and for their numbers
 pub record AreIndexed (t : Records) (all : Numbers) : Type 0 where
   pub are : AreRecords t
   pub numbers : AreNumbersOf all t.items
-  pub room : all.by_source.nexts.capacity ≡ t.limit
+  pub room : all.by_source.nexts.capacity ≡ t.limit + 1

@@ -1,20 +1,29 @@
 -- Which records are of messages from which endpoint.
-use Rattle.std.specs.Prelude.{◌≡◌, ℕ, ◌+◌, ◌-◌, ◌%◌, ◌^◌, if◌then◌else◌, nat_lt, List, [], ◌∷◌, length, Option, Some, None}
-use Rattle.indexmap.specs.IndexMap.{IndexMap, get}
+use Rattle.std.specs.Prelude.{◌≡◌, ℕ, Bool, ◌+◌, ◌-◌, ◌%◌, ◌^◌, if◌then◌else◌, nat_lt, List, [], ◌∷◌, length, Option, Some, None}
+use Rattle.std.specs.declared.cmp.Ordering.{Ordering}
+use Rattle.std.specs.BTreeMap.{BTreeMap, get}
+use Rattle.std.specs.Ordering.{is_eq}
 use Rattle.coap_endpoint.specs.declared.endpoint.Endpoint.{Endpoint}
-use Rattle.coap_endpoint.specs.declared.seeded.Seeded.{Seeded}
-use Rattle.coap_endpoint.specs.Endpoint.{same_endpoint}
+use Rattle.coap_endpoint.specs.contracts.endpoint.EndpointOrd.TheImpl as order
 use Rattle.coap_dedup.specs.declared.record.Record.{Record}
 use Rattle.coap_dedup.specs.declared.sources.Share.{Share}
 use Rattle.coap_dedup.specs.declared.sources.Sources.{Sources}
 use Rattle.coap_dedup.specs.Lists.{is_from}
 
+-- the order of the endpoints in the map of their shares
+abbrev pub source_cmp : Endpoint → Endpoint → Ordering
+source_cmp = (order.ghosts).cmp
+
+-- they are the same in that order
+abbrev pub is_same : Endpoint → Endpoint → Bool
+is_same a b = is_eq (source_cmp a b)
+
 abbrev pub Shares : Type 0
-Shares = IndexMap Endpoint Share Seeded
+Shares = BTreeMap Endpoint Share
 
 -- the share of an endpoint, if it has one
 abbrev pub share_in : Shares → Endpoint → Option Share
-share_in shares from = get same_endpoint shares from
+share_in shares from = get source_cmp shares from
 
 -- the numbers of an endpoint's records, if the first record has this number and each further one
 -- has the next, modulo 2^64

@@ -1,9 +1,9 @@
 //! Records of messages of one type.
-ghost use Rattle.std.specs.Prelude.{◌≡◌, ◌↔◌, ◌==◌, ◌+◌, ◌-◌, ◌^◌, ◌<◌, None, length, drop, slice_get, not, option_map, false, IfOk, IfErr, OnOk, OnErr};
+ghost use Rattle.std.specs.Prelude.{◌≡◌, ◌↔◌, ◌==◌, ◌+◌, ◌-◌, ◌^◌, ◌<◌, ◌++◌, ◌∷◌, [], None, length, drop, slice_get, not, option_map, false, IfOk, IfErr, OnOk, OnErr};
 ghost use Rattle.std.specs.Option.{option_copied, option_map_or};
 ghost use Rattle.circular_buffer.specs.Buffer.{buffer};
 ghost use Rattle.coap_dedup.specs.declared.error.Refused.TheVariants.{ClientFull, Full};
-ghost use Rattle.coap_dedup.specs.Indexing.{AreNumbersOf, CanAdd};
+ghost use Rattle.coap_dedup.specs.Indexing.{AreNumbersOf};
 ghost use Rattle.coap_endpoint.specs.declared.endpoint.Endpoint.{Endpoint};
 ghost use Rattle.coap_dedup.specs.Lists.{AreApart, AreInOrder, AreUpTo, count_from, is_living, living, record_of};
 ghost use Rattle.coap_dedup.specs.Records.{AreRecords, living_at, living_of, no_records, with_kept};
@@ -25,8 +25,8 @@ use std::marker::Model;
 /// Records of messages of one type, in the order in which they were kept. A contract sees them as a
 /// list, with its limits and their lifetime. Times are in milliseconds and never decrease.
 ///
-/// A lookup and a `keep` cost as much as lookups by message and by source, which are hashed with a
-/// seed, since peers choose both; in addition, each record is released once.
+/// A lookup and a `keep` cost as much as lookups by message and by source in ordered maps, whatever
+/// messages and ports peers choose; in addition, each record is released once.
 pub struct Records {
     /// The records, in a buffer whose capacity is the limit.
     ring: HeapCircularBuffer<Record>,
@@ -88,26 +88,12 @@ impl Records {
     ) -> Result<Records, OutOfMemory>
         ensures empty { IfOk result (λ records. records ≡ no_records limit per_client lifetime) }
     {
-        Records::seeded(alloc, limit, per_client, lifetime, 0)
-    }
-
-    /// No records, like those of `new`. Where their maps put a message or an endpoint depends on
-    /// `seed`, so that whoever doesn't know it can't choose which of them meet there.
-    ///
-    /// # Errors
-    /// Out of memory.
-    pub fn seeded(
-        alloc: Global,
-        limit: usize,
-        per_client: usize,
-        lifetime: u64,
-        seed: u64,
-    ) -> Result<Records, OutOfMemory>
-        ensures empty { IfOk result (λ records. records ≡ no_records limit per_client lifetime) }
-    {
+        let ring = HeapCircularBuffer::with_capacity(alloc, limit)?;
+        let _laws = ring.len();
+        let numbers = Numbers::new(alloc, limit)?;
         Ok(Records {
-            ring: HeapCircularBuffer::with_capacity(alloc, limit)?,
-            numbers: Numbers::new(alloc, limit, seed)?,
+            ring,
+            numbers,
             per_client,
             lifetime,
         })
@@ -201,16 +187,41 @@ impl Records {
         ensures err { OnErr result (self.new ≡ self.old) }
         ensures sound { AreRecords self.new }
     {
+        let _laws = self.ring.len();
         if self.is_full(now) {
             return Err(Refused::Full);
         }
         if self.is_client_full(from, now) {
             return Err(Refused::ClientFull);
         }
-        self.numbers.reserve()?;
-        release_dead(&mut self.ring, &mut self.numbers, self.lifetime, now);
+        self.keep_in_room(from, id, now, reply)?;
+        Ok(())
+    }
+
+    /// Does the same as `keep` where there is room, which isn't looked for again.
+    ///
+    /// # Errors
+    /// Out of memory. Nothing is changed then.
+    pub fn keep_in_room(
+        &mut self,
+        from: Endpoint,
+        id: u16,
+        now: Moment,
+        reply: Option<Seq<u8>>,
+    ) -> Result<(), OutOfMemory>
+        requires new { record_of from id (living_at now self.old) ≡ None }
+        requires in_order { AreUpTo now self.old.items }
+        requires room { length (living_at now self.old) < self.old.limit }
+        requires client_room { living_of from now self.old < self.old.per_client }
+        ensures ok { OnOk result
+            (self.new
+            ≡ with_kept (record { from = from; id = id; at = now; reply = reply }) self.old) }
+        ensures err { OnErr result (self.new ≡ self.old) }
+        ensures sound { AreRecords self.new }
+    {
         let record = Record::new(from, id, now, reply);
-        self.numbers.add(&self.ring, &record);
+        self.numbers.add(&self.ring, &record)?;
+        release_dead(&mut self.ring, &mut self.numbers, self.lifetime, &record);
         let _ = self.ring.try_push_back(record);
         Ok(())
     }
@@ -314,25 +325,25 @@ fn is_first_dead(ring: &HeapCircularBuffer<Record>, lifetime: u64, now: Moment) 
     }
 }
 
-/// Releases the records that have expired.
+/// Releases the records that have expired when the new one is kept, which has its number already.
 fn release_dead(
     ring: &mut HeapCircularBuffer<Record>,
     numbers: &mut Numbers,
     lifetime: u64,
-    now: Moment,
+    new: &Record,
 )
     requires in_order { AreInOrder ring.old.items }
     requires apart { AreApart ring.old.items }
-    requires numbered { AreNumbersOf numbers.old ring.old.items }
-    ensures left { ring.new ≡ buffer (living lifetime now ring.old.items) ring.old.capacity }
-    ensures numbered { AreNumbersOf numbers.new ring.new.items }
-    ensures room { CanAdd numbers.old → CanAdd numbers.new }
+    requires numbered { AreNumbersOf numbers.old (ring.old.items ++ new.now ∷ []) }
+    ensures left { ring.new
+        ≡ buffer (living lifetime new.now.at ring.old.items) ring.old.capacity }
+    ensures numbered { AreNumbersOf numbers.new (ring.new.items ++ new.now ∷ []) }
     ensures capacity { numbers.new.by_source.nexts.capacity
         ≡ numbers.old.by_source.nexts.capacity }
 {
-    'dead: while is_first_dead(ring, lifetime, now) {
+    'dead: while is_first_dead(ring, lifetime, new.at) {
         if let Some(record) = ring.pop_front() {
-            numbers.release_first(&record);
+            numbers.release_first(&record, new);
         }
     }
 }

@@ -1,17 +1,15 @@
 //! Which records are of messages from which endpoint.
-ghost use Rattle.std.specs.Prelude.{◌≡◌, ◌≤◌, ◌<◌, ◌^◌, ◌++◌, ◌∷◌, [], Some, None, false, length, drop, slice_get, slice_set, IfOk, IfSome, IsTrue, IsFalse, if◌then◌else◌};
+ghost use Rattle.std.specs.Prelude.{◌≡◌, ◌+◌, ◌<◌, ◌^◌, ◌++◌, ◌∷◌, [], Some, None, false, length, drop, slice_get, slice_set, IfOk, IfSome, OnErr, OnOk, IsTrue, IsFalse, if◌then◌else◌};
 ghost use Rattle.std.specs.Option.{option_map, option_map_or};
-ghost use Rattle.indexmap.specs.IndexMap.{spare};
 ghost use Rattle.circular_buffer.specs.Buffer.{buffer};
 ghost use Rattle.coap_endpoint.specs.declared.endpoint.Endpoint.{Endpoint};
-ghost use Rattle.coap_endpoint.specs.Endpoint.{same_endpoint};
-ghost use Rattle.coap_dedup.specs.Sources.{AreSourced, grown, place_of, share_in, shrunk};
+ghost use Rattle.coap_dedup.specs.Sources.{AreSourced, grown, is_same, place_of, share_in, shrunk};
 
 use circular_buffer::HeapCircularBuffer;
-use coap_endpoint::{Endpoint, Seeded};
+use coap_endpoint::Endpoint;
 use coap_message::OutOfMemory;
-use indexmap::IndexMap;
 use std::alloc::Global;
+use std::collections::BTreeMap;
 
 /// What an endpoint has of the records.
 #[derive(Clone, Copy)]
@@ -25,7 +23,7 @@ pub(crate) struct Share {
 }
 
 /// The share of each endpoint that has records.
-pub(crate) type Shares = IndexMap<Endpoint, Share, Seeded>;
+pub(crate) type Shares = BTreeMap<Endpoint, Share>;
 
 /// Which records are of messages from which endpoint.
 pub(crate) struct Sources {
@@ -44,19 +42,19 @@ impl Drop for Sources {
 }
 
 impl Sources {
-    /// Those of no records, with room for `limit`. The map has room for twice as many: at most
-    /// half full, it makes room within itself where removals left none, and doesn't grow.
+    /// Those of no records, with room for `limit` and one more.
     ///
     /// # Errors
     /// Out of memory.
-    pub(crate) fn new(alloc: Global, limit: usize, seed: u64) -> Result<Sources, OutOfMemory>
+    pub(crate) fn new(alloc: Global, limit: usize) -> Result<Sources, OutOfMemory>
+        requires few { limit < 2 ^ 63 }
         ensures none { IfOk result (λ sources. AreSourced 0 sources []) }
-        ensures capacity { IfOk result (λ sources. sources.nexts.capacity ≡ limit) }
+        ensures capacity { IfOk result (λ sources. sources.nexts.capacity ≡ limit + 1) }
     {
-        let nexts = HeapCircularBuffer::with_capacity(alloc, limit)?;
-        let room = limit.saturating_mul(2);
-        let shares = IndexMap::with_capacity_and_hasher(alloc, room, Seeded::new(seed))?;
-        Ok(Sources { shares, nexts })
+        Ok(Sources {
+            shares: BTreeMap::new(alloc),
+            nexts: HeapCircularBuffer::with_capacity(alloc, limit + 1)?,
+        })
     }
 
     /// The share of an endpoint, if it has one.
@@ -81,30 +79,36 @@ impl Sources {
     }
 
     /// Adds a record with this number after the others, the first of which has the number `first`.
-    /// Doesn't allocate.
-    pub(crate) fn add(&mut self, from: Endpoint, number: u64, first: u64)
-        requires room { 0 < spare self.old.shares }
+    ///
+    /// # Errors
+    /// Out of memory, which only an endpoint without a share needs. Nothing is changed then.
+    pub(crate) fn add(&mut self, from: Endpoint, number: u64, first: u64) -> Result<(), OutOfMemory>
         requires within { length self.old.nexts.items < self.old.nexts.capacity }
         requires few { IfSome (share_in self.old.shares from) (λ share. share.count < 2 ^ 63) }
-        ensures shares { (e : Endpoint)
+        ensures shares { OnOk result ((e : Endpoint)
             → share_in self.new.shares e
-            ≡ (if same_endpoint from e then
+            ≡ (if is_same from e then
             Some (grown (share_in self.old.shares from) number)
             else
-            share_in self.old.shares e) }
-        ensures nexts { self.new.nexts
+            share_in self.old.shares e)) }
+        ensures nexts { OnOk result (self.new.nexts
             ≡ buffer
             (option_map_or
             (λ share. slice_set self.old.nexts.items (place_of first share.last) number)
             (share_in self.old.shares from)
             self.old.nexts.items
             ++ number ∷ [])
-            self.old.nexts.capacity }
+            self.old.nexts.capacity) }
+        ensures new { OnErr result (share_in self.old.shares from ≡ None) }
+        ensures same_shares { OnErr result ((e : Endpoint)
+            → share_in self.new.shares e ≡ share_in self.old.shares e) }
+        ensures same_nexts { OnErr result (self.new.nexts ≡ self.old.nexts) }
     {
-        if let Some(last) = grow(&mut self.shares, from, number) {
+        if let Some(last) = grow(&mut self.shares, from, number)? {
             link(&mut self.nexts, last.wrapping_sub(first) as usize, number);
         }
         let _ = self.nexts.try_push_back(number);
+        Ok(())
     }
 
     /// Removes the first record, which is of this endpoint, and with its last one its share.
@@ -113,17 +117,16 @@ impl Sources {
         ensures shares { IfSome (slice_get self.old.nexts.items 0) (λ next.
             (e : Endpoint)
             → share_in self.new.shares e
-            ≡ (if same_endpoint from e then
+            ≡ (if is_same from e then
             shrunk (share_in self.old.shares from) next
             else
             share_in self.old.shares e)) }
         ensures nexts { self.new.nexts
             ≡ buffer (drop 1 self.old.nexts.items) self.old.nexts.capacity }
-        ensures room { spare self.old.shares ≤ spare self.new.shares }
     {
         if let Some(next) = self.nexts.pop_front() {
             if shrink(&mut self.shares, from, next) {
-                self.shares.swap_remove(&from);
+                self.shares.remove(&from);
             }
         }
     }
@@ -131,34 +134,35 @@ impl Sources {
 
 /// Adds a record with this number to the share of an endpoint, and returns the number of the one
 /// that was its last.
-fn grow(shares: &mut Shares, from: Endpoint, number: u64) -> Option<u64>
-    requires room { 0 < spare shares.old }
+///
+/// # Errors
+/// Out of memory, which only an endpoint without a share needs. Nothing is changed then.
+fn grow(shares: &mut Shares, from: Endpoint, number: u64) -> Result<Option<u64>, OutOfMemory>
     requires few { IfSome (share_in shares.old from) (λ share. share.count < 2 ^ 63) }
-    ensures last { result ≡ option_map (λ share. share.last) (share_in shares.old from) }
-    ensures grown { (e : Endpoint)
+    ensures last { IfOk result (λ last. last
+        ≡ option_map (λ share. share.last) (share_in shares.old from)) }
+    ensures grown { OnOk result ((e : Endpoint)
         → share_in shares.new e
-        ≡ (if same_endpoint from e then
+        ≡ (if is_same from e then
         Some (grown (share_in shares.old from) number)
         else
-        share_in shares.old e) }
+        share_in shares.old e)) }
+    ensures new { OnErr result (share_in shares.old from ≡ None) }
+    ensures same { OnErr result ((e : Endpoint) → share_in shares.new e ≡ share_in shares.old e) }
 {
-    match shares.get_mut(&from) {
-        Some(share) => {
-            let last = share.last;
-            share.count += 1;
-            share.last = number;
-            Some(last)
-        }
-        None => {
-            let share = Share {
-                count: 1,
-                first: number,
-                last: number,
-            };
-            let _ = shares.insert(from, share);
-            None
-        }
+    let alone = Share {
+        count: 1,
+        first: number,
+        last: number,
+    };
+    let Some(old) = shares.insert(from, alone)? else {
+        return Ok(None);
+    };
+    if let Some(share) = shares.get_mut(&from) {
+        share.count = old.count + 1;
+        share.first = old.first;
     }
+    Ok(Some(old.last))
 }
 
 /// Notes the number of the next record of the same endpoint after the one at this place.
@@ -177,15 +181,14 @@ fn shrink(shares: &mut Shares, from: Endpoint, next: u64) -> bool
     ensures left { IsFalse result
         → (e : Endpoint)
         → share_in shares.new e
-        ≡ (if same_endpoint from e then
+        ≡ (if is_same from e then
         shrunk (share_in shares.old from) next
         else
         share_in shares.old e) }
     ensures last { IsTrue result → shrunk (share_in shares.old from) next ≡ None }
     ensures others { (e : Endpoint)
-        → same_endpoint from e ≡ false
+        → is_same from e ≡ false
         → share_in shares.new e ≡ share_in shares.old e }
-    ensures room { spare shares.new ≡ spare shares.old }
 {
     match shares.get_mut(&from) {
         Some(share) => {
@@ -196,6 +199,6 @@ fn shrink(shares: &mut Shares, from: Endpoint, next: u64) -> bool
             share.first = next;
             false
         }
-        None => false,
+        None => true,
     }
 }

@@ -7,7 +7,7 @@ use Rattle.coap_core.proofs.state.State.open.Goals as goal
 pub accept_request-done-requires-clause-new : goal.accept_request-done-requires-clause-new
 accept_request-done-requires-clause-new g c =
     let new = rw (← c.self.view_is) at c.requires.reply.new in
-    record { unknown = new.unknown; until = new.until }
+    record { unknown = new.unknown; until = new.until; room = new.room }
 
 -- a state is itself, whatever came of a call
 unchanged : {T E : Type 0} (r : Result T E) (w : State) → OnErr r (w ≡ w)
