@@ -155,7 +155,8 @@ impl Port for MemoryPort {
     /// The next turn of the script, or a tick without a wait; see the trait.
     ///
     /// # Errors
-    /// No turn of the script is left. The failure is counted, and nothing else changes.
+    /// No turn of the script is left, which a call without a wait doesn't ask for. The failure is
+    /// counted, and nothing else changes.
     fn next(&mut self, wait: u64, into: &mut Datagram) -> Result<Turn, PortFault>
         requires { self.old.failures < 2 ^ 63 }
         ensures gives { IfOk result (λ turn.

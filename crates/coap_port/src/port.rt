@@ -20,7 +20,7 @@ pub struct Turn {
 /// port in memory states it exactly, a socket can't. It holds its last moment (`clock`, in
 /// milliseconds, 0 at first) and how often `next` failed (`failures`).
 pub trait Port {
-    ghost use Rattle.std.specs.Prelude.{◌≡◌, ◌<◌, ◌+◌, ◌^◌, ℕ, List, Bool, None, IfOk, IsOk, OnOk, OnErr};
+    ghost use Rattle.std.specs.Prelude.{◌≡◌, ◌<◌, ◌+◌, ◌^◌, ℕ, List, Bool, None, IfOk, OnOk, OnErr};
     ghost use Rattle.coap_model.specs.Runs.{Turn};
     ghost use Rattle.coap_endpoint.specs.declared.endpoint.Endpoint.{Endpoint};
     ghost use Rattle.coap_port.specs.Given.{IsOnward, given_by};
@@ -46,14 +46,13 @@ pub trait Port {
     /// `datagram()`, as that of `drive` has: the core then sees that a datagram is too long.
     ///
     /// # Errors
-    /// The port can't be used any more. Never happens without a wait.
+    /// The port can't be used any more.
     fn next(&mut self, wait: u64, into: &mut Datagram) -> Result<Turn, PortFault>
         requires { failures self.old < 2 ^ 63 }
         ensures gives { IfOk result (λ turn.
             gives into.old.room self.old wait (given_by turn into.new.bytes) self.new) }
         ensures onward { IfOk result (IsOnward (clock self.old) (clock self.new)) }
         ensures ticks { wait ≡ 0 → IfOk result (λ turn. turn.from ≡ None) }
-        ensures lasts { wait ≡ 0 → IsOk result }
         ensures room { into.new.room ≡ into.old.room }
         ensures works { OnOk result (failures self.new ≡ failures self.old) }
         ensures fails { OnErr result (failures self.new ≡ failures self.old + 1) };

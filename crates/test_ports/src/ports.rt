@@ -5,7 +5,7 @@ use coap_cache::ListStore;
 use coap_core::{Core, LimitValues, Limits};
 use coap_message::{OutOfMemory, Seq};
 use coap_proxyd::{DriveError, Handed, MemoryPort, Port, Scripted, Stats, drive};
-use coap_target::{Endpoint, Ip, Routes};
+use coap_target::{Endpoint, Ip, RouteError, Routes};
 use std::alloc::{AllocError, Global};
 use std::process::Abort;
 use std::test::*;
@@ -69,10 +69,16 @@ fn failed(stats: Stats) -> Result<Stats, DriveError> {
     Err(DriveError::Port { stats })
 }
 
+fn text(alloc: Global, text: &str) -> Result<String, OutOfMemory> {
+    Ok(String::from_str(alloc, text)?)
+}
+
 /// A core that maps `t` to the origin.
-pub(crate) fn core_of(alloc: Global, limits: Limits) -> Result<Core<ListStore>, OutOfMemory> {
-    let routes = Routes::fixed(alloc)?;
-    Core::new(alloc, (), limits, routes, 1, 0)
+pub(crate) fn core_of(alloc: Global, limits: Limits) -> Result<Core<ListStore>, RouteError> {
+    let prefix = text(alloc, "/t")?;
+    let origin = text(alloc, "coap://127.0.0.1:5690/temp")?;
+    let routes = Routes::new(alloc, &[], &[], &[(prefix, origin)], None)?;
+    Ok(Core::new(alloc, (), limits, routes, 1, 0)?)
 }
 
 /// Drives a core for `turns` turns.
@@ -193,7 +199,7 @@ fn insist_on_core(alloc: Global) -> Result<Core<ListStore>, Fail> {
     let limits = Limits::new(LimitValues::default())?;
     match core_of(alloc, limits) {
         Ok(core) => Ok(core),
-        Err(OutOfMemory) => Ok(core_of(alloc, limits)?),
+        Err(_) => Ok(core_of(alloc, limits)?),
     }
 }
 
