@@ -3,7 +3,7 @@
 use coap_cache::ListStore;
 use coap_core::{ClientCounts, Core, Counts, Event, LimitValues, Limits, Outcome, Report, Storing};
 use coap_message::{Datagram, OutOfMemory};
-use coap_target::{Endpoint, Ip, Routes};
+use coap_target::{Endpoint, Ip, RouteError, Routes};
 use std::alloc::Global;
 use std::process::Abort;
 use std::test::*;
@@ -16,6 +16,17 @@ struct Seen {
     events: u64,
     counts: Counts,
     datagram: usize,
+}
+
+/// Routes that map `/t` to `/temp` of an origin server on this host.
+pub(crate) fn routes(alloc: Global) -> Result<Routes, RouteError> {
+    let prefix = text(alloc, "/t")?;
+    let origin = text(alloc, "coap://127.0.0.1:5690/temp")?;
+    Routes::new(alloc, &[], &[], &[(prefix, origin)], None)
+}
+
+fn text(alloc: Global, text: &str) -> Result<String, OutOfMemory> {
+    Ok(String::from_str(alloc, text)?)
 }
 
 /// A running core, and the datagram that it writes to.
@@ -31,9 +42,9 @@ impl Drop for Run {
 }
 
 impl Run {
-    /// A core with these limits and the fixed route.
-    pub(crate) fn new(alloc: Global, limits: Limits) -> Result<Run, OutOfMemory> {
-        let routes = Routes::fixed(alloc)?;
+    /// A core with these limits and those routes.
+    pub(crate) fn new(alloc: Global, limits: Limits) -> Result<Run, RouteError> {
+        let routes = routes(alloc)?;
         let core = Core::new(alloc, (), limits, routes, 1, 0)?;
         let out = Datagram::new(alloc, core.datagram())?;
         Ok(Run { core, out })
@@ -119,7 +130,7 @@ fn insist_on_new(alloc: Global) -> Result<Run, Fail> {
     })?;
     match Run::new(alloc, limits) {
         Ok(run) => Ok(run),
-        Err(OutOfMemory) => Ok(Run::new(alloc, limits)?),
+        Err(_) => Ok(Run::new(alloc, limits)?),
     }
 }
 

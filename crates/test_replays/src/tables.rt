@@ -200,3 +200,33 @@ fn a_client_has_room_again_when_its_record_expires(rt: HostRuntime) -> Result<()
     assert_eq!(rt; records.keep(from, 2, 145_000, None), Ok(()));
     Ok(())
 }
+
+/// Checks that a message from one client wasn't seen before, or was seen and got no reply.
+fn check_seen(rt: &impl Abort, records: &Records, id: u16, now: u64, is_new: bool) {
+    match records.seen(client(1), id, now) {
+        Seen::New => assert!(rt; is_new),
+        Seen::Again(reply) => assert!(rt; !is_new && reply.is_none()),
+    }
+}
+
+#[test]
+fn a_record_makes_room_when_it_expires(rt: HostRuntime) -> Result<(), Fail> {
+    let mut records = Records::new(rt.alloc(), 2, 2, 10)?;
+    let from = client(1);
+    records.keep(from, 1, 0, None)?;
+    let Seen::New = records.seen(from, 2, 5) else {
+        panic!(rt; "the message was seen before");
+    };
+    records.keep(from, 2, 5, None)?;
+    let Seen::New = records.seen(from, 3, 9) else {
+        panic!(rt; "the message was seen before");
+    };
+    assert_eq!(rt; records.keep(from, 3, 9, None), Err(Refused::Full));
+    let Seen::New = records.seen(from, 3, 10) else {
+        panic!(rt; "the message was seen before");
+    };
+    assert_eq!(rt; records.keep(from, 3, 10, None), Ok(()));
+    check_seen(&rt, &records, 1, 10, true);
+    check_seen(&rt, &records, 2, 10, false);
+    Ok(())
+}
