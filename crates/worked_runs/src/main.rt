@@ -7,18 +7,25 @@
 //! of what must be written agrees with nothing. The last line says how many runs agree in both
 //! stores. The status is 1 if not all do, or there are none. `cd data && ../out/worked_runs` plays
 //! the runs in `data`.
+//!
+//! `worked_runs STORE NAME` is for a program to which memory is refused (`tools/refuse-memory`): it
+//! plays the run `NAME.events` over the store `list` or `map`, gives an event that there was no
+//! memory for again, and prints how the run ended. The status is 1 if it doesn't agree with its
+//! file, and 3 if memory was refused before its first event.
 #![tactic(auto)]
 
 mod expected;
 mod files;
+mod insist;
 mod lines;
 mod run;
 
+use crate::insist::{Ending, insist};
 use coap_cache::{ListStore, LruStore, Store};
 use std::hash::RandomState;
-use std::io::Write;
+use std::io::{ErrorKind, Write};
 use std::process::ExitCode;
-use std::{fs, io};
+use std::{env, fs, io};
 
 /// Plays the run of this file over a store that is made from this seed, and returns whether it
 /// agrees with the file. If not, prints where, with the name of the store.
@@ -63,11 +70,12 @@ fn play(rt: &HostRuntime, name: &str) -> io::Result<bool> {
     Ok(listed && mapped)
 }
 
-fn main(rt: HostRuntime) -> io::Result<ExitCode> {
-    let names = files::run_names(&rt, ".")?;
+/// Plays all runs in the current folder.
+fn play_all(rt: &HostRuntime) -> io::Result<ExitCode> {
+    let names = files::run_names(rt, ".")?;
     let mut agreeing = 0;
     for name in names.iter() {
-        if play(&rt, name.as_str())? {
+        if play(rt, name.as_str())? {
             agreeing += 1;
         }
     }
@@ -77,4 +85,39 @@ fn main(rt: HostRuntime) -> io::Result<ExitCode> {
     } else {
         ExitCode::FAILURE
     })
+}
+
+/// Plays the run with this name over this store, with each event given again that there was no
+/// memory for.
+fn insisted(rt: &HostRuntime, store: &str, name: &str) -> io::Result<Ending> {
+    let file = files::file_of(rt.alloc(), name)?;
+    let events = fs::read(rt, file.as_str())?;
+    if store == "list" {
+        return insist::<ListStore>(rt.alloc(), (), &events);
+    }
+    insist::<LruStore<RandomState>>(rt.alloc(), RandomState::new(rt)?, &events)
+}
+
+/// Prints how such a run ended, and returns the status that goes with it.
+fn said(rt: &HostRuntime, ended: io::Result<Ending>) -> io::Result<ExitCode> {
+    match ended {
+        Ok(Ending::Agrees { again: None }) => println!(rt; "agrees")?,
+        Ok(Ending::Agrees { again: Some(line) }) => println!(rt; "line {line}: given again")?,
+        Ok(Ending::NotStored { line }) => println!(rt; "line {line}: not stored")?,
+        Ok(Ending::Differs { line, why }) => {
+            println!(rt; "line {line}: {why}")?;
+            return Ok(ExitCode::FAILURE);
+        }
+        Err(error) if error.kind() == ErrorKind::OutOfMemory => return Ok(ExitCode::from(3)),
+        Err(error) => return Err(error),
+    }
+    Ok(ExitCode::SUCCESS)
+}
+
+fn main(rt: HostRuntime) -> io::Result<ExitCode> {
+    let words: Vec<String> = env::args(&rt)?.skip(1).collect(rt.alloc())?;
+    match words.as_slice() {
+        [store, name] => said(&rt, insisted(&rt, store.as_str(), name.as_str())),
+        _ => play_all(&rt),
+    }
 }

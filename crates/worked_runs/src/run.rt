@@ -13,6 +13,19 @@ fn plan_of(alloc: Global, words: &[String], config: Option<&[u8]>) -> Result<Pla
     read_plan(alloc, wanted, config)
 }
 
+/// What the program is to do by the words and the configuration of a run.
+///
+/// # Errors
+/// `InvalidData` if no line of the run begins with `# words:`.
+pub(crate) fn planned(alloc: Global, events: &[u8]) -> io::Result<Result<Plan, Fault>> {
+    let Some(words) = events.split(|byte| *byte == b'\n').find_map(words_of) else {
+        return Err(io::Error::from(ErrorKind::InvalidData));
+    };
+    let words = words_in(alloc, words)?;
+    let config = config_of(alloc, events)?;
+    Ok(plan_of(alloc, &words, config.as_deref()))
+}
+
 /// Runs the program with the words, the configuration and the events of a run, over a store that is
 /// made from this seed.
 fn serve_run<W: Write, S: Store + Drop>(
@@ -24,12 +37,7 @@ fn serve_run<W: Write, S: Store + Drop>(
 where
     S::Seed: Drop,
 {
-    let Some(words) = events.split(|byte| *byte == b'\n').find_map(words_of) else {
-        return Err(io::Error::from(ErrorKind::InvalidData));
-    };
-    let words = words_in(alloc, words)?;
-    let config = config_of(alloc, events)?;
-    match plan_of(alloc, &words, config.as_deref()) {
+    match planned(alloc, events)? {
         Ok(plan) => {
             let server = Server::<S>::new(alloc, seed, plan);
             Ok(server.serve_events(events, &mut Output::new(output)))
