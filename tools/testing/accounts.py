@@ -1,6 +1,7 @@
 """What a replay with --explain says of each event: one line for each outcome, and for each cause of a refusal. What is
 expected is worked out by hand."""
 
+import os
 import subprocess
 import tempfile
 
@@ -68,6 +69,34 @@ def an_exchange_and_hits(program):
         (9001, (client(3), message(CON, GET, 8, b"c", [TAG, T])), f"CON GET {HERE} hit 2.03 ETag ab Max-Age 51"),
         (9001, (client(3), message(CON, GET, 8, b"c", [TAG, T])), f"CON GET {HERE} again 2.03 ETag ab Max-Age 51"),
     ])
+
+
+def the_first_answer(program):
+    folder = os.path.join(os.path.dirname(os.path.abspath(__file__)), "..", "..", "examples")
+    with open(os.path.join(folder, "first-run.events"), "rb") as events:
+        done = subprocess.run([*program, "--replay", "--explain", *MAP], stdin=events, capture_output=True, timeout=50)
+    with open(os.path.join(folder, "first-run.explained"), "rb") as stored:
+        expect("what is written", (0, stored.read(), b""), (done.returncode, done.stdout, done.stderr))
+
+
+def a_configuration_that_is_read_once(program):
+    """From a pipe, whose other end is closed once all was written."""
+    get = f"0 0 {client(1)} {message(NON, GET, 1, b'a', [T]).hex().upper()}\n".encode()
+    with tempfile.TemporaryDirectory(prefix="coap-proxyd-test-") as folder:
+        path = os.path.join(folder, "config")
+        os.mkfifo(path)
+        words = [*program, "--replay", "--explain", "--config", path]
+        pipe = subprocess.PIPE
+        with subprocess.Popen(words, stdin=pipe, stdout=pipe, stderr=pipe) as process:
+            with open(path, "w") as file:
+                file.write(f'version = 1\n[[map]]\nprefix = "/t"\norigin = "{HERE}"\n')
+            try:
+                output, errors = process.communicate(get, timeout=20)
+            except subprocess.TimeoutExpired:
+                process.kill()
+                output, errors = process.communicate()
+        said = f"# 1 0 {client(1)} NON GET {HERE} opened\n".encode()
+        expect("what is written", (0, said, b""), (process.returncode, output, errors))
 
 
 def refusals(program):
@@ -269,7 +298,7 @@ def ids_that_run_out(program):
 
 
 CASES = (
-    an_exchange_and_hits, refusals, other_refusals, targets, targets_behind_a_next_proxy, answers_that_are_validated,
+    an_exchange_and_hits, the_first_answer, a_configuration_that_is_read_once, refusals, other_refusals, targets, targets_behind_a_next_proxy, answers_that_are_validated,
     a_confirmable_client, answers_that_are_not_kept, a_silent_origin, full_tables, full_tables_of_waiters_and_records,
     an_answer_that_is_too_large, ids_that_run_out,
 )

@@ -131,7 +131,13 @@ fn put_arrived<S: Store + Drop>(
         Outcome::Answered { storing } => {
             put_answered(line, alloc, bytes, limits.datagram, storing)
         }
-        _ => line.write_all(b" acked"),
+        Outcome::Acked => line.write_all(b" acked"),
+        // a tick's
+        Outcome::SentRequest
+        | Outcome::Resent
+        | Outcome::Delivered
+        | Outcome::GaveUp
+        | Outcome::Idle => Ok(()),
     }
 }
 
@@ -142,7 +148,20 @@ fn put_due(line: &mut Vec<u8>, report: Report, sent: &[u8]) -> io::Result<()> {
         Outcome::Resent => put_sent_to(line, "resent", report, sent),
         Outcome::Delivered => put_sent_to(line, "delivered", report, sent),
         Outcome::GaveUp => line.write_all(b" gave up"),
-        _ => line.write_all(b" idle"),
+        Outcome::Idle => line.write_all(b" idle"),
+        // a datagram's
+        Outcome::Ignored
+        | Outcome::Rejected
+        | Outcome::Again
+        | Outcome::NoRecordRoom
+        | Outcome::Refused(_)
+        | Outcome::Hit
+        | Outcome::Joined
+        | Outcome::Opened
+        | Outcome::Overloaded
+        | Outcome::NoId
+        | Outcome::Answered { .. }
+        | Outcome::Acked => Ok(()),
     }
 }
 

@@ -73,7 +73,7 @@ impl<S: Store + Drop> Server<S> {
         self.serve_events_watched(input, output, &mut Unwatched)
     }
 
-    /// Does the same as `serve_events`, and tells a watcher each turn after its line was written
+    /// Does the same as `serve_events`, and tells a watcher each turn before its line is written
     /// (`replay_watched`).
     ///
     /// # Errors

@@ -50,11 +50,17 @@ fn file(rt: &HostRuntime, path: &Option<String>) -> Result<Option<Vec<u8>>, Faul
     }
 }
 
-/// What the program is to do.
-fn plan(rt: &HostRuntime) -> Result<Plan, Fault> {
+/// The bytes of the configuration, if the words name one. It is read once: it may be a pipe, and it
+/// may be replaced while the program starts.
+fn config(rt: &HostRuntime) -> Result<Option<Vec<u8>>, Fault> {
     let wanted = read_wanted(rt.alloc(), &words(rt)?)?;
-    let file = file(rt, &wanted.settings.config)?;
-    read_plan(rt.alloc(), wanted, file.as_deref())
+    file(rt, &wanted.settings.config)
+}
+
+/// What the program is to do by its words and this configuration.
+fn plan(rt: &HostRuntime, config: Option<&[u8]>) -> Result<Plan, Fault> {
+    let wanted = read_wanted(rt.alloc(), &words(rt)?)?;
+    read_plan(rt.alloc(), wanted, config)
 }
 
 /// A random first Message ID and a random salt.
@@ -81,23 +87,22 @@ fn seed(rt: &HostRuntime) -> Result<RandomState, Fault> {
 }
 
 /// Serves a socket.
-fn serve_socket(rt: &HostRuntime, plan: Plan) -> Result<(), Fault> {
+fn serve_socket(rt: &HostRuntime, plan: Plan, config: Option<&[u8]>) -> Result<(), Fault> {
     let drawn = draw(rt)?;
     match UdpPort::bind(rt, rt.alloc(), plan.local) {
         Ok(mut port) if plan.recording.is_none() => serve(rt, plan, drawn, &mut port),
-        Ok(port) => record(rt, plan, drawn, port),
+        Ok(port) => record(rt, plan, config, drawn, port),
         Err(error) => Err(fault_of(&error, Fault::Socket)),
     }
 }
 
 /// How a recording begins: with the words and the configuration of this run.
-fn header(rt: &HostRuntime, start: Start) -> Result<Vec<u8>, Fault> {
+fn header(rt: &HostRuntime, config: Option<&[u8]>, start: Start) -> Result<Vec<u8>, Fault> {
     let wanted = read_wanted(rt.alloc(), &words(rt)?)?;
-    let config = file(rt, &wanted.settings.config)?;
     let Ok(words) = words_again(rt.alloc(), &wanted.settings) else {
         return Err(Fault::OutOfMemory);
     };
-    let config = config.as_deref().unwrap_or(&[]);
+    let config = config.unwrap_or(&[]);
     match header_of(rt.alloc(), VERSION, start, &words, config) {
         Ok(header) => Ok(header),
         Err(HeaderError::TooLong) => Err(Fault::File),
@@ -106,8 +111,13 @@ fn header(rt: &HostRuntime, start: Start) -> Result<Vec<u8>, Fault> {
 }
 
 /// Creates the file of a recording, with its header.
-fn recording<'a>(rt: &'a HostRuntime, path: &str, start: Start) -> Result<RecordFile<'a>, Fault> {
-    let header = header(rt, start)?;
+fn recording<'a>(
+    rt: &'a HostRuntime,
+    path: &str,
+    config: Option<&[u8]>,
+    start: Start,
+) -> Result<RecordFile<'a>, Fault> {
+    let header = header(rt, config, start)?;
     let written = RecordFile::create(rt, path).and_then(|mut file| {
         file.write_all(&header)?;
         Ok(file)
@@ -116,7 +126,13 @@ fn recording<'a>(rt: &'a HostRuntime, path: &str, start: Start) -> Result<Record
 }
 
 /// Serves a port, and records its turns.
-fn record<P: Port + Drop>(rt: &HostRuntime, plan: Plan, drawn: Start, port: P) -> Result<(), Fault>
+fn record<P: Port + Drop>(
+    rt: &HostRuntime,
+    plan: Plan,
+    config: Option<&[u8]>,
+    drawn: Start,
+    port: P,
+) -> Result<(), Fault>
     requires failures { P.failures port < 2 ^ 63 }
 {
     let start = Start {
@@ -124,7 +140,7 @@ fn record<P: Port + Drop>(rt: &HostRuntime, plan: Plan, drawn: Start, port: P) -
         salt: plan.salt.unwrap_or(drawn.salt),
     };
     let path = plan.recording.as_deref().unwrap_or("");
-    let file = recording(rt, path, start)?;
+    let file = recording(rt, path, config, start)?;
     let Ok(mut recording) = Recording::new(rt.alloc(), port, file) else {
         return Err(Fault::OutOfMemory);
     };
@@ -155,11 +171,11 @@ fn replay(rt: &HostRuntime, plan: Plan) -> Result<(), Fault> {
     server.serve_events(rt.reader(), &mut output)
 }
 
-/// Replays standard input, and says after each event what it did. The routes are read once more for
+/// Replays standard input, and says after each event what it did. The routes are made once more for
 /// that, since those of the plan become the core's.
-fn explain(rt: &HostRuntime, plan: Plan) -> Result<(), Fault> {
+fn explain(rt: &HostRuntime, plan: Plan, config: Option<&[u8]>) -> Result<(), Fault> {
     let (alloc, seed) = (rt.alloc(), seed(rt)?);
-    let Plan { limits, routes, .. } = self::plan(rt)?;
+    let Plan { limits, routes, .. } = self::plan(rt, config)?;
     let mut explainer = Explainer::new(alloc, limits, routes, io::writer(rt));
     let (input, mut output) = (rt.reader(), Output::new(io::writer(rt)));
     let server = Server::<Cache>::new(alloc, seed, plan);
@@ -172,13 +188,15 @@ fn explain(rt: &HostRuntime, plan: Plan) -> Result<(), Fault> {
 
 /// Does what the words and the configuration ask for.
 fn run(rt: &HostRuntime) -> Result<(), Fault> {
-    let plan = plan(rt)?;
+    let config = config(rt)?;
+    let config = config.as_deref();
+    let plan = plan(rt, config)?;
     if plan.explain {
-        explain(rt, plan)
+        explain(rt, plan, config)
     } else if plan.replay {
         replay(rt, plan)
     } else {
-        serve_socket(rt, plan)
+        serve_socket(rt, plan, config)
     }
 }
 
