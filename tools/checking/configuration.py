@@ -93,7 +93,16 @@ def check_hosts(table):
     for name, item in sorted(member(table, "hosts", dict).items()):
         if not isinstance(item.value, str):
             text = f"the address of {name} is {shown(item.value)}, which isn't a text in quotes"
-            yield Finding(item.line, text, f"value hosts.{name}")
+            yield Finding(item.line, text + dotted_hint(name, item), f"value hosts.{name}")
+
+
+def dotted_hint(name, item):
+    """How to write a name with dots, if a host's address is a table: TOML reads such a name as a path."""
+    path = name
+    while isinstance(item.value, dict) and len(item.value) == 1:
+        key, item = next(iter(item.value.items()))
+        path += "." + key
+    return f': a name with dots stands in quotes, "{path}" = "{item.value}"' if isinstance(item.value, str) else ""
 
 
 def check_maps(table):
@@ -242,6 +251,20 @@ def slips_of_limits(table, memory_max):
     for key in OF_CLIENT:
         if key in known:
             yield from slips_of_client(said, limits, key)
+    yield from slips_of_polling(table, said, limits)
+
+
+def slips_of_polling(table, said, limits):
+    """Limits that a client reaches which asks for what is behind each map, all at once every ten seconds, in
+    Confirmable requests from one port. A record of such a request lives for 247 seconds."""
+    number = len(list(maps(table)))
+    records = -(-247 * number // 10)
+    for name, need in (("con_records", records), ("exchanges", number), ("waiters", number)):
+        for key in (name, CLIENT + name):
+            if key in limits and limits[key] < need:
+                text = f"{key} is {limits[key]}" + ("" if key in said else " by default")
+                text += f": a client that polls all {number} maps every ten seconds from one port takes {need}"
+                yield Finding((said[key] if key in said else table.get("limits", table["version"])).line, text)
 
 
 def slips_of_client(said, limits, key):

@@ -1,9 +1,13 @@
 """All that is to be said of a configuration and the words that the program is started with."""
 
+import ipaddress
+
 from checking import configuration, toml_lines
 from checking.configuration import Finding, check_map, faults, maps, slips
 from checking.routes import Origin, Route, host_of, ipv4_of, ipv6_of, is_name, name_of, next_proxy_of, origin_of
 from checking.toml_lines import NotRead, Value
+
+BROADCAST = ipaddress.IPv4Address("255.255.255.255")
 
 
 def check_address(words):
@@ -61,13 +65,31 @@ def places(words, table, known):
         yield None, "-P", next_proxy
 
 
+def kind_of(address):
+    """What kind of address this is, if it is none of a single host that a socket can send to as it stands."""
+    mapped = address.ipv4_mapped if address.version == 6 else None
+    if mapped is not None:
+        return f"is IPv4 in IPv6: write {mapped}"
+    if address.is_multicast or address == BROADCAST:
+        return "is of many hosts, and the answer of none is accepted"
+    if address.is_unspecified:
+        return "is of no host"
+    if address.version == 6 and address.is_link_local:
+        return "is link-local, and there is no way to say on which interface"
+    return None
+
+
 def slips_of_places(words, table, known):
-    """What leads to the proxy itself, or to where its socket can't send, if it is known where it listens."""
+    """What leads to the proxy itself, to no host, or to where its socket can't send."""
     here = local_address(words)
-    if here is None or (words.address is None and words.port is None):
+    if here is None:
         return
     for line, what, place in places(words, table, known):
         there = place.address
+        kind = kind_of(there)
+        if kind:
+            yield Finding(line, f"{what}: {there} {kind}")
+            continue
         if there == here or (here.is_unspecified and (there.is_loopback or there.is_unspecified)):
             if place.port == (words.port or 5683):
                 yield Finding(line, f"{what} leads to the proxy itself")

@@ -53,6 +53,59 @@ SAID = (
         ["error: --map is map 65: there may be 64", "refused: map option"],
     ),
     Said(
+        "a_dotted_name_without_quotes",
+        [],
+        'version = 2\n[hosts]\nsensor.test = "192.0.2.7"\n',
+        [
+            "3: error: the address of sensor is a table, which isn't a text in quotes: a name with dots stands in "
+            'quotes, "sensor.test" = "192.0.2.7"',
+            "refused: value hosts.sensor",
+        ],
+    ),
+    Said(
+        "origins_that_are_no_single_host",
+        ["-A", "::"],
+        "version = 2\n" + "".join(MAP.format(f"/{n}", f"coap://{it}/") for n, it in enumerate((
+            "[fe80::1]", "[::ffff:192.0.2.7]", "[ff02::fd]", "224.0.1.187", "255.255.255.255", "0.0.0.0", "[::]",
+        ))),
+        [
+            "4: warning: map 1: fe80::1 is link-local, and there is no way to say on which interface",
+            "7: warning: map 2: ::ffff:c000:207 is IPv4 in IPv6: write 192.0.2.7",
+            "10: warning: map 3: ff02::fd is of many hosts, and the answer of none is accepted",
+            "13: warning: map 4: 224.0.1.187 is of many hosts, and the answer of none is accepted",
+            "16: warning: map 5: 255.255.255.255 is of many hosts, and the answer of none is accepted",
+            "19: warning: map 6: 0.0.0.0 is of no host",
+            "22: warning: map 7: :: is of no host",
+            "accepted",
+        ],
+    ),
+    Said(
+        "where_it_listens_by_default",
+        [],
+        "version = 2\n" + MAP.format("/a", "coap://[2001:db8::1]/") + MAP.format("/b", "coap://127.0.0.1/"),
+        [
+            "4: warning: map 1: from 0.0.0.0 no IPv6 address is reached",
+            "7: warning: map 2 leads to the proxy itself",
+            "accepted",
+        ],
+    ),
+    Said(
+        "a_client_that_polls_all_maps",
+        [],
+        "version = 2\nlimits = { client_con_records = 1580, waiters = 63 }\n"
+        + "".join(MAP.format(f"/{n}", "coap://192.0.2.7/") for n in range(64)),
+        [
+            "2: warning: client_waiters is 64 by default, but waiters is 63: it has no effect, and one client can use up "
+            "all",
+            "2: warning: client_con_records is 1580: a client that polls all 64 maps every ten seconds from one port "
+            "takes 1581",
+            "2: warning: client_exchanges is 16 by default: a client that polls all 64 maps every ten seconds from one "
+            "port takes 64",
+            "2: warning: waiters is 63: a client that polls all 64 maps every ten seconds from one port takes 64",
+            "accepted",
+        ],
+    ),
+    Said(
         "slashes_at_the_end",
         [],
         "version = 1\n" + MAP.format("/t/", "coap://192.0.2.7/base/") + MAP.format("/", "coap://192.0.2.7/"),
