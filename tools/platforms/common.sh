@@ -12,9 +12,11 @@ must_have_kit() {
     [ -n "$kit" ] || give_up "the kit's rattle isn't in PATH"
 }
 
-# Compiles a file of C for aarch64 against the C library in a folder that `fetch` made: FOLDER FILE OBJECT.
+# Compiles a file of C for aarch64 against the C library in a folder that `fetch` made: FOLDER FILE OBJECT [OPTION..].
 compile_for_aarch64() {
+    library=$1 file=$2 compiled=$3
+    shift 3
     "$kit/toolchain/bin/clang" --target=aarch64-linux-gnu -march=armv8-a --no-default-config -std=c17 -O2 -fPIE \
         -fno-strict-aliasing -ffunction-sections -fdata-sections -Wall -Wextra -Werror -nostdinc \
-        -isystem "$1/include" -c "$2" -o "$3"
+        -isystem "$library/include" "$@" -c "$file" -o "$compiled"
 }
