@@ -3,18 +3,15 @@
 import atexit
 import os
 import shutil
-import struct
 import subprocess
 import tempfile
 import threading
 
+from platforms import elf
 from testing.network import Skipped
 
 TOP = os.path.dirname(os.path.dirname(os.path.dirname(os.path.abspath(__file__))))
 SOURCE = os.path.join(TOP, "tools", "testing", "refusing.c")
-# What an ELF file calls the processors that programs are made for (e_machine), and its entry that names a loader.
-MACHINES = {62: "x86_64", 183: "aarch64"}
-PT_INTERP = 3
 # What refuses requests for memory, for each program that was tested, the programs behind scripts that start them, and
 # the folder with all of these.
 REFUSING, BEHIND, FOLDER, LOCK = {}, {}, [], threading.Lock()
@@ -28,26 +25,22 @@ def folder():
     return FOLDER[0]
 
 
-def read_elf(path):
-    """The beginning of a program of 64 bits, or nothing where it is something else, as a script."""
+def beginning(path):
+    """The first bytes of a program."""
     with open(path, "rb") as file:
-        data = file.read(4096)
-    return data if data[:6] == b"\x7fELF\x02\x01" else b""
+        return file.read(4096)
 
 
 def machine_of(path):
-    """The processor that a program is for, as `uname -m` calls it; that of this machine for a script."""
-    data = read_elf(path)
-    return MACHINES.get(struct.unpack_from("<H", data, 18)[0]) if data else os.uname().machine
+    """The processor that a program is for; that of this machine for a script."""
+    data = beginning(path)
+    return elf.machine_of(data) if elf.is_elf(data) else os.uname().machine
 
 
 def is_static(path):
-    """Whether a program has no loader, so that nothing can be loaded before its C library."""
-    data = read_elf(path)
-    if not data:
-        return False
-    start, size, count = struct.unpack_from("<Q", data, 32) + struct.unpack_from("<HH", data, 54)
-    return PT_INTERP not in (struct.unpack_from("<I", data, start + size * at)[0] for at in range(count))
+    """Whether nothing can be loaded before the C library of a program."""
+    data = beginning(path)
+    return elf.is_elf(data) and elf.is_static(data)
 
 
 def is_emulated(path):
