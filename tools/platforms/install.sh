@@ -28,11 +28,12 @@ supervisor() {
     fi
 }
 
-# Puts a file of this folder where it belongs, with a mode.
+# Puts a file of this folder where it belongs, with a mode, at once: the program may be running.
 put() {
-    mkdir -p "$(dirname "$DESTDIR$2")" && cp "$here/$1" "$DESTDIR$2" && chmod "$3" "$DESTDIR$2" ||
+    to=$DESTDIR$2
+    mkdir -p "$(dirname "$to")" && cp "$here/$1" "$to.new" && chmod "$3" "$to.new" && mv "$to.new" "$to" ||
         give_up "$2 can't be written"
-    echo "$DESTDIR$2"
+    echo "$to"
 }
 
 # Puts a file that belongs to whoever runs the proxy, if it isn't there.
