@@ -6,11 +6,11 @@ import resource
 import subprocess
 import tempfile
 
-from testing import memory, worked
+from testing import memory, programs, worked
 from testing.coap import (
     CON, CONTENT, EMPTY, ETAG, GET, NON, PROXY_URI, RST, UNAVAILABLE, URI_PATH, URI_QUERY, message,
 )
-from testing.network import expect, expect_between
+from testing.network import Skipped, expect, expect_between
 from testing.ranges import CLIENT, KEPT, ORIGIN, Script, endpoint
 from testing.steps import TEMP, max_age, path
 
@@ -122,6 +122,8 @@ def limited():
 
 @case("MapsMore")
 def the_greatest_limits_take_little_address_space(program):
+    if programs.is_emulated(program[-1]):
+        raise Skipped("qemu takes address space of its own")
     with configured(GREATEST) as config:
         words, pipe = [*program, "--replay", "--config", config], subprocess.PIPE
         usual = {"input": b"", "stdout": pipe, "stderr": pipe, "timeout": 20}

@@ -1,28 +1,23 @@
 """What must hold where the program is refused memory: the nth request for it, for each n until none is refused.
 
-The program takes memory from the C library alone (`malloc`, `realloc`). A small library is loaded before that, which
-refuses one request when it is told to (`refusing.c`).
+The program takes memory from the C library alone (`malloc`, `realloc`). What refuses one request when it is told to
+(`refusing.c`) is loaded before that or, for a static program, linked with the same object file.
 """
 
-import atexit
 import functools
 import mmap
 import os
-import shutil
-import subprocess
 import tempfile
-import threading
 import time
 
-from testing import worked
+from testing import programs, worked
 from testing.coap import ACK, CON, CONTENT, DELETED, EMPTY, GET, NON, message, read
 from testing.network import (
-    PATIENCE, Came, Failed, Life, Skipped, case_list, check_response, expect, expect_between,
+    PATIENCE, Came, Failed, Life, case_list, check_response, expect, expect_between,
 )
 from testing.steps import path
 
 CASES, case = case_list()
-SOURCE = os.path.join(os.path.dirname(os.path.abspath(__file__)), "refusing.c")
 START, ORIGIN = b"coap-proxyd: out of memory\n", b"127.0.0.1:5690"
 # More requests for memory than a run makes.
 MANY = 1 << 40
@@ -74,23 +69,6 @@ RUNS = {
     "full_tables": (),
 }
 
-LIBRARY, LOCK = [], threading.Lock()
-
-
-def library():
-    """The path of the library that refuses requests, which is compiled once."""
-    with LOCK:
-        if not LIBRARY:
-            compiler = next((it for it in ("cc", "gcc", "clang") if shutil.which(it)), None)
-            if compiler is None:
-                raise Skipped("there is no C compiler")
-            folder = tempfile.mkdtemp(prefix="coap-proxyd-test-")
-            atexit.register(shutil.rmtree, folder)
-            path = os.path.join(folder, "refusing.so")
-            subprocess.run([compiler, "-O1", "-shared", "-fPIC", "-o", path, SOURCE], check=True)
-            LIBRARY.append(path)
-        return LIBRARY[0]
-
 
 class Refusals:
     """A program that is refused requests for memory: how many requests are left until one is, or 0 for none, and how
@@ -104,9 +82,8 @@ class Refusals:
             self.map = mmap.mmap(file.fileno(), 16)
         self.numbers = memoryview(self.map).cast("Q")
         # A stand-in, which starts the program, isn't refused anything.
-        refused = os.path.realpath(program[-1])
-        settings = f"REFUSED={refused}", f"REFUSALS={name}", f"LD_PRELOAD={library()}"
-        self.program = ["env", *settings, *program]
+        settings, refused = programs.refusing(program[-1])
+        self.program = ["env", f"REFUSALS={name}", *settings, *program[:-1], refused]
 
     def refuse(self, request):
         """Has this request from now on be refused."""

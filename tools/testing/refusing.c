@@ -1,7 +1,8 @@
 /*
- * Refuses one request for memory of the program whose path is REFUSED, where it is loaded before the C library
- * (LD_PRELOAD). The file that REFUSALS names holds two numbers of eight bytes: how many requests are left until one is
- * refused, or 0 for none, and how many were refused.
+ * Refuses one request for memory of the program whose path is REFUSED. It is loaded before the C library (LD_PRELOAD), or
+ * linked into a static program, with LINKED_IN defined and the linker's --wrap=malloc and --wrap=realloc. The file that
+ * REFUSALS names holds two numbers of eight bytes: how many requests are left until one is refused, or 0 for none, and
+ * how many were refused.
  */
 #include <errno.h>
 #include <fcntl.h>
@@ -12,8 +13,16 @@
 #include <sys/mman.h>
 #include <unistd.h>
 
-void *__libc_malloc(size_t size);
-void *__libc_realloc(void *old, size_t size);
+#ifdef LINKED_IN
+#define REFUSING(name) __wrap_##name
+#define REAL(name) __real_##name
+#else
+#define REFUSING(name) name
+#define REAL(name) __libc_##name
+#endif
+
+void *REAL(malloc)(size_t size);
+void *REAL(realloc)(void *old, size_t size);
 
 static volatile uint64_t *numbers;
 
@@ -38,12 +47,12 @@ static int is_refused(void)
     return 1;
 }
 
-void *malloc(size_t size)
+void *REFUSING(malloc)(size_t size)
 {
-    return is_refused() ? NULL : __libc_malloc(size);
+    return is_refused() ? NULL : REAL(malloc)(size);
 }
 
-void *realloc(void *old, size_t size)
+void *REFUSING(realloc)(void *old, size_t size)
 {
-    return is_refused() ? NULL : __libc_realloc(old, size);
+    return is_refused() ? NULL : REAL(realloc)(old, size);
 }

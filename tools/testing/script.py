@@ -64,19 +64,58 @@ def installed(folder, prefix):
     return done.returncode, done.stderr.decode()
 
 
+def copy_sources(folder):
+    """Puts a part of the repository into a folder, in which nothing is built."""
+    for name in ("coap-proxyd", "crates.txt", "docs/coap-proxyd.8"):
+        os.makedirs(os.path.dirname(os.path.join(folder, name)), exist_ok=True)
+        shutil.copy(os.path.join(TOP, name), os.path.join(folder, name))
+    shutil.copytree(os.path.join(TOP, "examples"), os.path.join(folder, "examples"))
+    shutil.copytree(os.path.join(TOP, "crates", "proxyd", "src"), os.path.join(folder, "crates", "proxyd", "src"))
+
+
+def put_program(folder, name, program, noted):
+    """Puts a program into a folder under a name, beside what says which sources it is built from."""
+    path = os.path.join(folder, name)
+    os.makedirs(os.path.dirname(path), exist_ok=True)
+    if os.path.lexists(path):
+        os.remove(path)
+    os.symlink(program, path)
+    with open(os.path.join(os.path.dirname(path), "built-from"), "wb") as file:
+        file.write(noted)
+    return path
+
+
+def which(folder):
+    """The status of the script when it is to say which program it would run, and what it writes."""
+    words = [os.path.join(folder, "coap-proxyd"), "--which"]
+    done = subprocess.run(words, stdin=subprocess.DEVNULL, capture_output=True, text=True, timeout=20)
+    return done.returncode, done.stdout, done.stderr
+
+
+def check_choice(program):
+    """Has the script choose the program in bin/ that is for this machine and starts, and say so where none does."""
+    none = "coap-proxyd: there is no program that is built from these sources\n"
+    machine = os.uname().machine
+    with tempfile.TemporaryDirectory(prefix="coap-proxyd-test-") as folder:
+        copy_sources(folder)
+        noted = sum_in(folder)
+        put_program(folder, "bin/coap-proxyd-other", program[-1], noted)
+        said = f"coap-proxyd: bin/ has no program for this machine, {machine}\n"
+        expect("what is said where bin/ has none", (1, "", said + none), which(folder))
+        path = put_program(folder, f"bin/coap-proxyd-{machine}", "/bin/false", noted)
+        expect("what is said of one that fails", (1, "", f"coap-proxyd: {path} doesn't start here\n" + none), which(folder))
+        put_program(folder, f"bin/coap-proxyd-{machine}", program[-1], noted)
+        expect("which it is", (0, f"{path}\n", ""), which(folder))
+        put_program(folder, f"bin/coap-proxyd-{machine}", program[-1], b"1 2\n")
+        expect("what is said of other sources", (1, "", none), which(folder))
+
+
 def check_install(program):
     """Has the script install a program that was built here, where the one in bin/ is built from other sources."""
     with tempfile.TemporaryDirectory(prefix="coap-proxyd-test-") as folder:
-        for name in ("coap-proxyd", "crates.txt", "docs/coap-proxyd.8"):
-            os.makedirs(os.path.dirname(os.path.join(folder, name)), exist_ok=True)
-            shutil.copy(os.path.join(TOP, name), os.path.join(folder, name))
-        shutil.copytree(os.path.join(TOP, "examples"), os.path.join(folder, "examples"))
-        shutil.copytree(os.path.join(TOP, "crates", "proxyd", "src"), os.path.join(folder, "crates", "proxyd", "src"))
-        for name, noted in (("crates/proxyd/out/proxyd", sum_in(folder)), ("bin/coap-proxyd", b"1 2\n")):
-            os.makedirs(os.path.dirname(os.path.join(folder, name)), exist_ok=True)
-            os.symlink(program[-1], os.path.join(folder, name))
-            with open(os.path.join(folder, os.path.dirname(name), "built-from"), "wb") as file:
-                file.write(noted)
+        copy_sources(folder)
+        put_program(folder, "crates/proxyd/out/proxyd", program[-1], sum_in(folder))
+        put_program(folder, f"bin/coap-proxyd-{os.uname().machine}", program[-1], b"1 2\n")
         prefix = os.path.join(folder, "prefix")
         expect("what comes of it", (0, ""), installed(folder, prefix))
         expect("whether it may run", True, os.access(os.path.join(prefix, "sbin", "coap-proxyd"), os.X_OK))

@@ -1,0 +1,122 @@
+"""What must hold of an image that tools/image makes, and of what tools/ping says."""
+
+import hashlib
+import io
+import json
+import os
+import subprocess
+import sys
+import tarfile
+import tempfile
+import time
+import urllib.error
+import urllib.request
+
+from platforms import elf
+from testing import programs
+from testing.network import Broken, Skipped, case_list, expect, free_port
+
+CASES, case = case_list()
+TOOLS = os.path.dirname(os.path.dirname(os.path.abspath(__file__)))
+
+
+def run_tool(*words):
+    """The status of one of the tools, and what it writes to standard error."""
+    words = [sys.executable, os.path.join(TOOLS, words[0]), *words[1:]]
+    done = subprocess.run(words, stdin=subprocess.DEVNULL, stdout=subprocess.PIPE, stderr=subprocess.PIPE, timeout=50)
+    return done.returncode, done.stderr.decode()
+
+
+# Pings
+
+
+@case("ResetOfAnotherId")
+def a_ping_says_whether_the_proxy_is_there(stage):
+    host, port = stage.proxy()
+    expect("a ping of the proxy", (0, ""), run_tool("ping", host, "--port", str(port)))
+    away = free_port()
+    said = f"ping: no answer from {host}, port {away}\n"
+    expect("a ping of nobody", (1, said), run_tool("ping", host, "--port", str(away)))
+
+
+def status_of(url):
+    """The status that a URL answers with, once it is served."""
+    until = time.monotonic() + 10
+    while True:
+        try:
+            with urllib.request.urlopen(url, timeout=10) as answer:
+                return answer.status
+        except urllib.error.HTTPError as error:
+            return error.code
+        except urllib.error.URLError as error:
+            if time.monotonic() > until:
+                raise Broken(f"{url}: {error.reason}") from error
+            time.sleep(0.05)
+
+
+@case("ResetOfAnotherId")
+def a_probe_by_http_says_whether_the_proxy_is_there(stage):
+    host, port = stage.proxy()
+    for asked, status in ((port, 200), (free_port(), 503)):
+        http = free_port()
+        stage.start([sys.executable, os.path.join(TOOLS, "ping"), host, "--port", str(asked), "--serve", str(http)])
+        expect("the status of a probe", status, status_of(f"http://127.0.0.1:{http}/"))
+
+
+# Images
+
+
+def blob(layout, described):
+    """The bytes of a blob of a layout, which must be as others describe them."""
+    kind, digest = described["digest"].split(":")
+    with open(os.path.join(layout, "blobs", kind, digest), "rb") as file:
+        data = file.read()
+    expect("the digest and the size of a blob", (digest, described["size"]), (hashlib.sha256(data).hexdigest(), len(data)))
+    return data
+
+
+def check_image(layout, path):
+    """Has a layout have one image, with this program and what belongs to it."""
+    with open(os.path.join(layout, "index.json")) as file:
+        index = json.loads(blob(layout, json.load(file)["manifests"][0]))
+    expect("how many images there are", 1, len(index["manifests"]))
+    machine = {"x86_64": "amd64", "aarch64": "arm64"}[programs.machine_of(path)]
+    expect("the machine", (machine, "linux"), tuple(index["manifests"][0]["platform"][it] for it in ("architecture", "os")))
+    manifest = json.loads(blob(layout, index["manifests"][0]))
+    config = json.loads(blob(layout, manifest["config"]))
+    expect("the user", "65534:65534", config["config"]["User"])
+    layer = blob(layout, manifest["layers"][0])
+    expect("the sum of the layer", [f"sha256:{hashlib.sha256(layer).hexdigest()}"], config["rootfs"]["diff_ids"])
+    with tarfile.open(fileobj=io.BytesIO(layer)) as tar:
+        files = {it.name for it in tar.getmembers() if it.isfile()}
+        program = tar.extractfile("coap-proxyd").read()
+    expect("the files", {"coap-proxyd", "etc/coap-proxyd.toml", "usr/share/doc/coap-proxyd/built-from"}, files)
+    with open(path, "rb") as file:
+        expect("whether it holds the program", True, program == file.read())
+
+
+def all_files(folder):
+    """The bytes of all files in a folder, by their names."""
+    found = {}
+    for at, _, names in os.walk(folder):
+        for name in names:
+            with open(os.path.join(at, name), "rb") as file:
+                found[os.path.relpath(os.path.join(at, name), folder)] = file.read()
+    return found
+
+
+def check_images(program):
+    """Has tools/image make an image of a static program, twice with the same bytes, and none of another."""
+    path = os.path.realpath(programs.BEHIND.get(program[-1], program[-1]))
+    if not elf.is_elf(programs.beginning(path)):
+        raise Skipped("the program is a script")
+    with tempfile.TemporaryDirectory(prefix="coap-proxyd-test-") as folder:
+        layouts = [os.path.join(folder, name) for name in ("one", "two")]
+        if not programs.is_static(path):
+            said = f"tools/image: {path} takes a C library, which an image without one doesn't have\n"
+            expect("what is said of a dynamic program", (1, said), run_tool("image", layouts[0], path))
+            return
+        for layout in layouts:
+            expect("what is said", (0, ""), run_tool("image", layout, path))
+        check_image(layouts[0], path)
+        expect("whether both are the same", True, all_files(layouts[0]) == all_files(layouts[1]))
