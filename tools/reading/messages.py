@@ -129,8 +129,8 @@ def told(data):
 
 # ---- what a peer chose
 
-# What prints as itself: ASCII without control characters, a quotation mark and a backslash.
-PLAIN = re.compile(rb"[ !#-\[\]-~]*")
+# What prints as itself.
+PLAIN = re.compile(rb"[ -~]*")
 
 
 def shown_character(character):
@@ -138,20 +138,24 @@ def shown_character(character):
     direction of what follows, and bytes that are no UTF-8."""
     if 0xDC80 <= ord(character) <= 0xDCFF:
         return f"\\x{ord(character) - 0xDC00:02x}"
-    if character in '"\\':
-        return "\\" + character
     return character if character.isprintable() else f"\\u{{{ord(character):04x}}}"
 
 
-def shown(value):
-    """Bytes that a peer chose, as text in one line. What is written from the right to the left stands between marks
-    that keep it from reordering what is around it."""
-    if PLAIN.fullmatch(value):
-        return value.decode("ascii")
-    text = value.decode("utf-8", "surrogateescape")
-    out = "".join(map(shown_character, text))
+def shown_text(text):
+    """A text in one line, of which nothing changes what is around it. Of marks that stand above or below a letter, two
+    at most do. What is written from the right to the left stands between marks that keep it from reordering the rest."""
+    marks, out = 0, []
+    for character in text:
+        marks = marks + 1 if unicodedata.category(character) in ("Mn", "Me") else 0
+        out.append(shown_character(character) if marks <= 2 else f"\\u{{{ord(character):04x}}}")
     from_the_right = any(unicodedata.bidirectional(character) in ("R", "AL", "AN") for character in text)
-    return f"\u2068{out}\u2069" if from_the_right else out
+    return "\u2068{}\u2069".format("".join(out)) if from_the_right else "".join(out)
+
+
+def shown(value):
+    """Bytes that a peer chose, as text that can stand between quotation marks."""
+    text = value.decode("utf-8", "surrogateescape").replace("\\", "\\\\").replace('"', '\\"')
+    return text if PLAIN.fullmatch(value) else shown_text(text)
 
 
 def is_text(value):

@@ -10,6 +10,7 @@ import threading
 from collections import namedtuple
 
 from reading.captures import Bad
+from reading.messages import shown_text
 
 # What a file says before its first event: the words of a replay, the lines of its configuration, when its first moment
 # was, names for endpoints, a title, and whether it was recorded.
@@ -99,9 +100,9 @@ def head_of(path):
             since = moment_of(rest[len("since ") :])
         elif mark == "name:":
             endpoint, _, name = rest.partition(" ")
-            names[endpoint] = name
+            names[endpoint] = shown_text(name)
         elif mark == "title:":
-            title = rest
+            title = shown_text(rest)
     return Head(words, config, since, names, title, recorded)
 
 
