@@ -91,11 +91,11 @@ def digest(text):
     return "'sha256-" + base64.b64encode(hashlib.sha256(text.encode()).digest()).decode() + "'"
 
 
-def filled(name, style, script, texts, data=None):
-    """A page from a template, with its policy. The texts are escaped."""
+def filled(name, style, script, texts, parts):
+    """A page from a template, with its policy. The texts are escaped, other parts are put in as they are."""
     policy = f"default-src 'none'; base-uri 'none'; form-action 'none'; style-src {digest(style)}"
     policy += f"; script-src {digest(script)}" if script else ""
-    pieces = {"POLICY": policy, "STYLE": style, "SCRIPT": script, "DATA": json_text(data)}
+    pieces = {"POLICY": policy, "STYLE": style, "SCRIPT": script, **parts}
     pieces.update({key: escaped(text, {'"': "&quot;"}) for key, text in texts.items()})
     out = []
     for piece in part(name).split("@@"):
@@ -108,4 +108,4 @@ def page(ladder):
     name = ladder.title or "What happened on the wire"
     texts = {"TITLE": name, "SUBTITLE": ladder.subtitle(), "DESCRIPTION": ladder.description()}
     style, script = colours.style() + part("page.css"), "\n".join(map(part, SCRIPTS))
-    return filled("page.html", style, script, texts, data_of(ladder))
+    return filled("page.html", style, script, texts, {"DATA": json_text(data_of(ladder))})

@@ -101,11 +101,13 @@ class Belonging:
         self.came, self.sent, self.same = {}, {}, {}
         self.waiting, self.asked = defaultdict(deque), {}
         self.pending, self.open, self.stored = [], defaultdict(list), {}
-        self.origins, self.given_up = set(), None
+        # who is an origin, a request that was just given up, and the exchange that a row ended
+        self.origins, self.given_up, self.ended = set(), None, None
 
     def take(self, seen):
         """The row of what was seen."""
         self.count += 1
+        self.ended = None
         row = Row(self.count, seen)
         if row.data is None:
             self.given_up = row if row.outcome == "gave up" else None
@@ -163,6 +165,7 @@ class Belonging:
         if exchange is None or exchange.closed:
             return
         exchange.closed = row
+        self.ended = exchange
         if exchange in self.open[exchange.target]:
             self.open[exchange.target].remove(exchange)
         if row.outcome == "answered" and cause_of(row.words).endswith("kept"):

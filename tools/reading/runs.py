@@ -7,6 +7,8 @@ import shutil
 import tempfile
 from collections import defaultdict, deque, namedtuple
 
+from checking.configuration import SHARED, member
+from checking.toml_lines import read_toml
 from reading.captured import TICKS, captured, without_age
 from reading.captures import Bad, datagrams, is_capture
 from reading.replays import PROGRAM, Head, Replay, events_of, head_of, lines_of, outcome_of, replay_words
@@ -29,6 +31,19 @@ def seen_of_event(event, said):
         yield Seen(event.moment, to, False, data, words if event.source is None else "")
 
 
+def limits_of(words):
+    """The limits that all clients share, of a proxy that is started with these words: of its configuration, or else the
+    program's."""
+    limits = {name: default for name, (_, _, default) in SHARED.items()}
+    paths = [words[place + 1] for place, word in enumerate(words[:-1]) if word == "--config"]
+    paths += [word.partition("=")[2] for word in words if word.startswith("--config=")]
+    for path in paths:
+        with open(path, "rb") as file:
+            said = member(read_toml(file.read()).value, "limits", dict)
+        limits.update({name: said[name].value for name in limits if name in said})
+    return limits
+
+
 class EventRun:
     """A run that a file of events has. Where it was recorded, its head says how it was started."""
 
@@ -43,6 +58,10 @@ class EventRun:
 
     def __exit__(self, *_):
         shutil.rmtree(self.folder)
+
+    def limits(self):
+        """The limits of its tables."""
+        return limits_of(self.words)
 
     def lines(self):
         """Its lines. What was recorded may lack the end of its last one."""
@@ -75,6 +94,10 @@ class CaptureRun:
 
     def __exit__(self, *_):
         pass
+
+    def limits(self):
+        """The limits of its tables."""
+        return limits_of(self.words)
 
     def count(self):
         """How many datagrams came."""
