@@ -14,7 +14,7 @@ def width_of(character):
         return 0.36
     if character in WIDE or unicodedata.east_asian_width(character) in "WF":
         return 1.0
-    return 0.68 if character.isupper() else 0.57
+    return 0.68 if character.isupper() else 0.64 if character.isdigit() else 0.59
 
 
 def text_width(text, size):

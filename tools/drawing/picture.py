@@ -6,7 +6,7 @@ from drawing.lines import attributes, element, escaped, fit, head, line, sign, t
 from reading.belonging import sort_of
 
 # Where things are: the column of times, the room between lanes, that for what stands at an arrow, and heights.
-TIMES, LANE, ROOM, EDGE = 92, 118, 310, 66
+TIMES, LANE, ROOM, EDGE = 92, 118, 328, 66
 TOP, STEP, PAUSE, BREAK, BOTTOM = 122, 42, 8, 36, 44
 STYLE = """svg{background:var(--paper)}
 text{font:13px system-ui,-apple-system,"Segoe UI",Roboto,"DejaVu Sans",sans-serif;fill:var(--ink)}
@@ -25,16 +25,19 @@ class Places:
     """Where the lanes of a ladder and its rows are."""
 
     def __init__(self, ladder, scale):
-        longest = max((text_width(ladder.name_of(peer), 13.5) for peer in ladder.clients + ladder.origins), default=0)
-        spread = min(190, max(LANE, longest + 14))
-        self.slanted = len(ladder.clients) > 4
-        self.lane = max(20, 4 * LANE / len(ladder.clients)) if self.slanted else spread
+        longest = max((text_width(ladder.name_of(peer), 13.5) for peer in ladder.clients), default=0)
+        far = max((text_width(ladder.name_of(peer), 13.5) for peer in ladder.origins), default=0)
+        near, far = (round(min(190, max(LANE, it + 14))) for it in (longest, far))
+        # many clients stand closer, with slanted names if these are longer than what is between lanes
+        many = len(ladder.clients) > 4
+        self.lane = round(max(20, min(longest + 12, 4 * LANE / len(ladder.clients)))) if many else near
+        self.slanted = many and longest + 10 > self.lane
         self.x = {peer: TIMES + EDGE + place * self.lane for place, peer in enumerate(ladder.clients)}
         self.left = max(self.x.values(), default=TIMES)
         self.proxy = self.left + ROOM
         self.right = self.proxy + ROOM
-        self.x.update({peer: self.right + place * spread for place, peer in enumerate(ladder.origins)})
-        self.width = self.right + max(0, len(ladder.origins) - 1) * spread + EDGE + 8
+        self.x.update({peer: self.right + place * far for place, peer in enumerate(ladder.origins)})
+        self.width = self.right + max(0, len(ladder.origins) - 1) * far + EDGE + 8
         self.y, self.breaks, self.height = {}, [], TOP
         before = None
         for row in ladder.rows:
@@ -76,7 +79,7 @@ def way(ladder, places, row):
     out = line(start + to * 3, y, tip - to * 4, y, class_="way" + thin) + head(tip, y, to)
     middle, detail, lost = places.middle(row), words.detail_text(row), words.reply_text(row)
     out += text(middle, y - 7, fit(words.head_text(row), ROOM - 24, 13), text_anchor="middle")
-    room = ROOM - 24 - (text_width(" · " + lost, 11.5) if lost else 0)
+    room = ROOM - 18 - (text_width(" · " + lost, 11.5) if lost else 0)
     below = escaped(fit(detail, room, 11.5)) if detail else ""
     if lost:
         below += (" · " if below else "") + element("tspan", lost, class_="lost")
@@ -136,8 +139,9 @@ def lane_head(ladder, places, x, peer, role):
     below = peer if peer and name != peer else ""
     if peer in ladder.clients and places.slanted:
         return text(0, 0, fit(name, 104, 11.5), class_="small", transform=f"translate({x + 3:g} {TOP - 14}) rotate(-50)")
+    role = below if below and text_width(below, 11.5) < places.lane + 4 else role
     out = text(x, TOP - 32, fit(name, 186, 13), class_="name", text_anchor="middle")
-    return out + text(x, TOP - 17, fit(below or role, 186, 11.5), class_="small", text_anchor="middle")
+    return out + text(x, TOP - 17, fit(role, 186, 11.5), class_="small", text_anchor="middle")
 
 
 def lane_heads(ladder, places):

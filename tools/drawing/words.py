@@ -76,9 +76,9 @@ def detail_text(row):
 
 
 def token_text(token):
-    """A token, in the form of the RFC's figures. A long one, as the proxy's are, is cut in its middle."""
+    """A token, in the form of the RFC's figures. Of a long one, as the proxy's are, only its end."""
     digits = token.hex()
-    return f"Token 0x{digits}" if len(digits) <= 8 else f"Token 0x{digits[:4]}…{digits[-4:]}"
+    return f"Token 0x{digits}" if len(digits) <= 8 else f"Token 0x…{digits[-4:]}"
 
 
 def cut(payload, most):
@@ -123,7 +123,9 @@ def trouble_text(row):
 
 def reply_text(row):
     """What is missing at the end of an arrow that got no reply."""
-    return "no reply" if row.is_silent() else ""
+    if not row.is_silent():
+        return ""
+    return "no answer" if row.inward and messages.is_request(row.code) else "no reply"
 
 
 def fields_of(row):

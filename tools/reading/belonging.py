@@ -110,7 +110,7 @@ class Belonging:
         self.ended = None
         row = Row(self.count, seen)
         if row.data is None:
-            self.given_up = row if row.outcome == "gave up" else None
+            self.take_end(row)
         elif row.message is None:
             pass
         elif row.inward:
@@ -118,6 +118,14 @@ class Belonging:
         else:
             self.take_outward(row)
         return row
+
+    def take_end(self, row):
+        """A request that is given up. Where it isn't said which, the answer that follows is to one of its clients."""
+        self.given_up = row if row.outcome == "gave up" else None
+        opened = self.open.get(target_of(row.words)) if self.given_up else None
+        if opened:
+            row.exchange = opened[0]
+            self.close(row)
 
     # What came.
 
@@ -147,7 +155,7 @@ class Belonging:
             exchange = request.exchange = row.exchange = Exchange(self.exchanges, request, row.code)
             self.pending.append(exchange)
             self.open[request.target].append(exchange)
-        elif row.outcome == "joined" and self.open[request.target]:
+        elif row.outcome == "joined" and request.target in self.open:
             exchange = request.exchange = row.exchange = self.open[request.target][-1]
             exchange.members.append(request)
         elif row.outcome == "hit":
@@ -166,8 +174,11 @@ class Belonging:
             return
         exchange.closed = row
         self.ended = exchange
-        if exchange in self.open[exchange.target]:
-            self.open[exchange.target].remove(exchange)
+        same = self.open.get(exchange.target, [])
+        if exchange in same:
+            same.remove(exchange)
+            if not same:
+                del self.open[exchange.target]
         if row.outcome == "answered" and cause_of(row.words).endswith("kept"):
             self.stored[exchange.target] = exchange
 

@@ -57,6 +57,11 @@ function isLeft(place, at) {
   return at.x[rows[place][LANE]] < at.proxy;
 }
 
+// What is missing at the end of an arrow.
+function lostText(row) {
+  return row[LOST] ? row[INWARD] ? "no answer" : "no reply" : "";
+}
+
 function arrow(place, y, at) {
   const row = rows[place], peer = at.x[row[LANE]], noted = row[NOTE] !== 0;
   const [start, end] = row[INWARD] ? [peer, at.proxy] : [at.proxy, peer];
@@ -73,7 +78,7 @@ function arrow(place, y, at) {
 
 // What stands at an arrow: in the middle of it, or, where there is little room, at its side of the page.
 function labels(place, y, at) {
-  const row = rows[place], left = isLeft(place, at), lost = row[LOST] ? "no reply" : "";
+  const row = rows[place], left = isLeft(place, at), lost = lostText(row);
   const middle = left ? (at.left + at.proxy) / 2 : (at.right + at.proxy) / 2;
   const x = at.narrow ? (left ? at.first : at.right) : middle;
   const anchor = at.narrow ? (left ? "start" : "end") : "middle";
@@ -125,7 +130,7 @@ function edges(place, above, y, at) {
 function sentence(place) {
   const row = rows[place], peer = row[LANE] < 0 ? "" : laneOf(place)[0];
   const way = row[LANE] < 0 ? "the proxy" : row[INWARD] ? `${peer} to the proxy` : `the proxy to ${peer}`;
-  const parts = [strings[row[HEAD]], strings[row[DETAIL]], strings[row[NOTE]], row[LOST] ? "no reply" : ""];
+  const parts = [strings[row[HEAD]], strings[row[DETAIL]], strings[row[NOTE]], lostText(row)];
   const again = row[FIRST] >= 0 ? "again, " : "";
   return `${timeText(row[MOMENT])}: ${again}${way}: ${parts.filter(part => part).join("; ")}`;
 }

@@ -34,7 +34,7 @@ function relations(place) {
   if (row[TARGET]) pairs.push(["Target", strings[row[TARGET]]]);
   if (row[WORDS]) pairs.push(["The proxy", strings[row[WORDS]]]);
   if (row[FIRST] >= 0) pairs.push(["Again", `as at ${at(rows[row[FIRST]][MOMENT])}`]);
-  if (row[LOST]) pairs.push(["No reply", "none is in this file before it was sent again, or at all"]);
+  if (row[LOST]) pairs.push([row[INWARD] ? "No answer" : "No reply", "none is in this file before it was sent again, or at all"]);
   const kept = row[SOURCE] ? (byExchange.get(row[SOURCE]) || []).find(it => partOf(it, WORDS).endsWith(" kept")) : undefined;
   if (kept !== undefined) pairs.push(["From", `the answer that was kept last for this target, at ${at(rows[kept][MOMENT])}`]);
   return pairs;
