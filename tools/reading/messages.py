@@ -148,8 +148,9 @@ def shown_text(text):
     for character in text:
         marks = marks + 1 if unicodedata.category(character) in ("Mn", "Me") else 0
         out.append(shown_character(character) if marks <= 2 else f"\\u{{{ord(character):04x}}}")
-    from_the_right = any(unicodedata.bidirectional(character) in ("R", "AL", "AN") for character in text)
-    return "\u2068{}\u2069".format("".join(out)) if from_the_right else "".join(out)
+    shown_so = "".join(out)
+    from_the_right = any(unicodedata.bidirectional(character) in ("R", "AL", "AN") for character in shown_so)
+    return f"\u2068{shown_so}\u2069" if from_the_right else shown_so
 
 
 def shown(value):
