@@ -8,10 +8,31 @@ from reading.counting import SORTS
 
 # The width of a chart, and the room at its left and its right for what stands at its axes.
 WIDTH, LEFT, RIGHT, TOP, BOTTOM = 1000, 56, 16, 14, 26
+# The room for the names of origins, and the height of one.
+LABEL, ROW = 190, 26
 STEPS = (1, 2, 5, 10)
 # Lengths between marks on an axis of time, in milliseconds.
-TIMES = (100, 200, 500, 1000, 2000, 5000, 10_000, 30_000, 60_000, 120_000, 300_000, 600_000, 1_800_000, 3_600_000,
-         10_800_000, 21_600_000, 43_200_000, 86_400_000, 604_800_000)
+TIMES = (
+    100,
+    200,
+    500,
+    1000,
+    2000,
+    5000,
+    10_000,
+    30_000,
+    60_000,
+    120_000,
+    300_000,
+    600_000,
+    1_800_000,
+    3_600_000,
+    10_800_000,
+    21_600_000,
+    43_200_000,
+    86_400_000,
+    604_800_000,
+)
 
 
 def nice_step(most, count):
@@ -23,7 +44,9 @@ def nice_step(most, count):
 def frame(name, words, content, height, width=WIDTH):
     """A chart with its name and what a reader hears of it."""
     inside = title(name) + element("desc", escaped(words)) + content
-    return element("svg", inside, viewBox=f"0 0 {width} {height}", class_="chart", role="img", aria_label=f"{name}. {words}")
+    return element(
+        "svg", inside, viewBox=f"0 0 {width} {height}", class_="chart", role="img", aria_label=f"{name}. {words}"
+    )
 
 
 class TimeAxis:
@@ -106,7 +129,9 @@ def answers_over_time(counts, since):
             high = count / seconds * scale
             y -= high
             if count:
-                bars += element("rect", x=left + 0.5, y=y, width=max(0.5, right - left - 1), height=high, class_=sort + " bar")
+                bars += element(
+                    "rect", x=left + 0.5, y=y, width=max(0.5, right - left - 1), height=high, class_=sort + " bar"
+                )
         if told:
             out.append(element("g", title(f"{time_text(start, since)}: {', '.join(told)}") + bars))
     words = f"At most {rate_text(most)} answers a second."
@@ -137,26 +162,31 @@ def quantile(values, share):
     return values[min(len(values) - 1, int(len(values) * share))]
 
 
+def origin_times(name, times, x, y):
+    """The answer times of an origin in a row: from a tenth to nine tenths of them, their middle, and the longest."""
+    p10, p50, p90 = (quantile(times, share) for share in (0.1, 0.5, 0.9))
+    longest = seconds_text(times[-1])
+    told = f"{name}: half within {seconds_text(p50)}, nine in ten within {seconds_text(p90)}, the longest {longest}"
+    shape = element("rect", x=x(p10), y=y - 5, width=max(2, x(p90) - x(p10)), height=10, rx=5, class_="miss range")
+    shape += line(x(p90), y, x(times[-1]), y, class_="miss whisker") + sign(x(p50), y, "hit")
+    out = text(LABEL - 12, y + 4, fit(name, LABEL - 20, 13), text_anchor="end")
+    out += element("g", title(told) + shape, class_="miss")
+    return out + text(x(times[-1]) + 9, y + 4, longest, class_="small")
+
+
 def answer_times(origins):
-    """The answer times of origins, from the slowest on: from a tenth to nine tenths of them, their middle, the longest."""
-    label, row, named = 190, 26, [(name, sorted(it.times)) for name, it in origins if it.times]
-    height = TOP + row * len(named) + BOTTOM
-    low, high = 0, math.log10(max([10] + [times[-1] for _, times in named]) * 1.3)
-    x = lambda value: label + (math.log10(max(1, value)) - low) / (high - low) * (WIDTH - label - 90)
-    out, bottom = [], height - BOTTOM
+    """The answer times of origins, on a scale on which each mark is ten times the one before."""
+    named = [(name, sorted(it.times)) for name, it in origins if it.times]
+    height = TOP + ROW * len(named) + BOTTOM
+    bottom, high = height - BOTTOM, math.log10(max([10] + [times[-1] for _, times in named]) * 1.3)
+    x = lambda value: LABEL + math.log10(max(1, value)) / high * (WIDTH - LABEL - 90)
+    out = []
     for power in range(0, int(high) + 1):
         out.append(line(x(10**power), TOP, x(10**power), bottom, class_="grid"))
         out.append(text(x(10**power), bottom + 17, seconds_text(10**power), class_="small", text_anchor="middle"))
     for place, (name, times) in enumerate(named):
-        y = TOP + row * (place + 0.5)
-        p10, p50, p90 = (quantile(times, share) for share in (0.1, 0.5, 0.9))
-        told = f"{name}: half within {seconds_text(p50)}, nine in ten within {seconds_text(p90)}, the longest {seconds_text(times[-1])}"
-        shape = element("rect", x=x(p10), y=y - 5, width=max(2, x(p90) - x(p10)), height=10, rx=5, class_="miss range")
-        shape += line(x(p90), y, x(times[-1]), y, class_="miss whisker") + sign(x(p50), y, "hit")
-        out.append(text(label - 12, y + 4, fit(name, label - 20, 13), text_anchor="end"))
-        out.append(element("g", title(told) + shape, class_="miss"))
-        out.append(text(x(times[-1]) + 9, y + 4, seconds_text(times[-1]), class_="small"))
-    words = "For each origin the time from its request to its answer: a dot at the middle, a bar from a tenth to nine tenths."
+        out.append(origin_times(name, times, x, TOP + ROW * (place + 0.5)))
+    words = "For each origin the time from a request to its answer: the middle, and from a tenth to nine tenths."
     return frame("Answer times of origins", words, "".join(out), height)
 
 
@@ -170,7 +200,9 @@ def share_bar(sorts, most, width=150):
         x += part
     words = ", ".join(f"{count} {sort}" for sort, count in sorts.items() if count) or "no answers"
     inside = title(words) + out
-    return element("svg", inside, viewBox=f"0 0 {width} 14", width=width, height=14, role="img", aria_label=f"{total}: {words}")
+    return element(
+        "svg", inside, viewBox=f"0 0 {width} 14", width=width, height=14, role="img", aria_label=f"{total}: {words}"
+    )
 
 
 def legend(sorts):

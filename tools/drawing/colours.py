@@ -1,5 +1,5 @@
-"""The colours of ladders and charts, in light and in dark. Those of the sorts are told apart by colour-blind people, too
-(they are near those of Okabe and Ito); a shape and words say the same as each colour."""
+"""The colours of ladders and charts, in light and in dark. Colour-blind people tell those of the sorts apart, too (they
+are near those of Okabe and Ito); a shape and words say the same as each colour."""
 
 # For each name the colour in light, and the one in dark.
 COLOURS = {

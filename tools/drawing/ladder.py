@@ -35,7 +35,12 @@ class Ladder:
         count = lambda number, name: f"{number:,} {name}{'' if number == 1 else 's'}"
         who = f"{count(len(self.clients), 'client')}, the proxy and {count(len(self.origins), 'origin')}"
         sorts = [sort_of(row) for row in self.rows if row.request and row.inward and not row.first and row.message.code]
-        named = (("hit", "from the cache"), ("miss", "asked of an origin"), ("validation", "validated"), ("error", "refused"))
+        named = (
+            ("hit", "from the cache"),
+            ("miss", "asked of an origin"),
+            ("validation", "validated"),
+            ("error", "refused"),
+        )
         told = [f"{sorts.count(sort):,} {name}" for sort, name in named if sorts.count(sort)]
         return f"A ladder of {who}; {count(len(sorts), 'request')}: {', '.join(told) or 'none'}."
 

@@ -1,16 +1,10 @@
 """A ladder as a page: one HTML file with its data and its script, which asks the network for nothing. The script draws
 only what is seen. All that peers chose is data: the page's policy runs no other script than its own."""
 
-import base64
-import hashlib
-import json
-import os
-
 from drawing import colours, words
-from drawing.lines import escaped
+from drawing.parts import filled, json_text, part
 from reading.belonging import sort_of
 
-FOLDER = os.path.join(os.path.dirname(os.path.abspath(__file__)), "page")
 SCRIPTS = ("places.js", "marks.js", "panel.js", "main.js")
 SORTS = ("plain", "hit", "miss", "validation", "error")
 
@@ -74,38 +68,10 @@ def data_of(ladder):
     }
 
 
-def json_text(data):
-    """Data as JSON that ends no element of HTML."""
-    text = json.dumps(data, separators=(",", ":"))
-    return text.replace("<", "\\u003c").replace(">", "\\u003e").replace("&", "\\u0026")
-
-
-def part(name):
-    """A part of the page."""
-    with open(os.path.join(FOLDER, name), encoding="utf-8") as file:
-        return file.read()
-
-
-def digest(text):
-    """What a policy allows a style sheet or a script by."""
-    return "'sha256-" + base64.b64encode(hashlib.sha256(text.encode()).digest()).decode() + "'"
-
-
-def filled(name, style, script, texts, parts):
-    """A page from a template, with its policy. The texts are escaped, other parts are put in as they are."""
-    policy = f"default-src 'none'; base-uri 'none'; form-action 'none'; style-src {digest(style)}"
-    policy += f"; script-src {digest(script)}" if script else ""
-    pieces = {"POLICY": policy, "STYLE": style, "SCRIPT": script, **parts}
-    pieces.update({key: escaped(text, {'"': "&quot;"}) for key, text in texts.items()})
-    out = []
-    for piece in part(name).split("@@"):
-        out.append(pieces[piece] if len(out) % 2 else piece)
-    return "".join(out)
-
-
 def page(ladder):
     """A ladder as HTML."""
     name = ladder.title or "What happened on the wire"
     texts = {"TITLE": name, "SUBTITLE": ladder.subtitle(), "DESCRIPTION": ladder.description()}
-    style, script = colours.style() + part("page.css"), "\n".join(map(part, SCRIPTS))
+    style = colours.style() + part("marks.css") + part("page.css")
+    script = "\n".join(map(part, SCRIPTS))
     return filled("page.html", style, script, texts, {"DATA": json_text(data_of(ladder))})

@@ -3,22 +3,13 @@
 from drawing import colours, words
 from drawing.ladder import IDLE
 from drawing.lines import attributes, element, escaped, fit, head, line, sign, text, text_width, title
+from drawing.parts import part
 from reading.belonging import sort_of
 
 # Where things are: the column of times, the room between lanes, that for what stands at an arrow, and heights.
 TIMES, LANE, ROOM, EDGE = 92, 118, 328, 66
 TOP, STEP, PAUSE, BREAK, BOTTOM = 122, 42, 8, 36, 44
-STYLE = """svg{background:var(--paper)}
-text{font:13px system-ui,-apple-system,"Segoe UI",Roboto,"DejaVu Sans",sans-serif;fill:var(--ink)}
-.small{font-size:11.5px;fill:var(--soft)}.time{font-size:11.5px;fill:var(--soft);font-variant-numeric:tabular-nums}
-.title{font-size:17px;font-weight:650}.name{font-weight:600}.note{font-weight:600}.lost{font-weight:600;fill:var(--error)}
-.life{stroke:var(--line);stroke-width:1.5;fill:none}.proxy{stroke-width:3}.cut{stroke-dasharray:1.5 5}
-.way{stroke:currentColor;stroke-width:1.8;fill:none}.again .way{stroke-dasharray:6 4}.thin{stroke-width:1.1}
-.tie{stroke:currentColor;stroke-width:1;fill:none;opacity:.75}
-.head,.full{fill:currentColor}.ring{fill:var(--paper);stroke:currentColor;stroke-width:2}
-.cross{stroke:currentColor;stroke-width:2.6;stroke-linecap:round;fill:none}
-.hit{color:var(--hit)}.miss{color:var(--miss)}.validation{color:var(--validation)}.error{color:var(--error)}
-.plain{color:var(--plain)}.sheet{fill:var(--paper)}.band{fill:var(--panel)}"""
+STYLE = "svg{background:var(--paper)}.title{font-size:17px;font-weight:650}.sheet{fill:var(--paper)}"
 
 
 class Places:
@@ -103,8 +94,13 @@ def note(places, row):
         return ""
     y, free = places.y[row.number], 1 if row.peer is None or places.x[row.peer] < places.proxy else -1
     sort = sort_of(row) if row.outcome != "again" else "plain"
-    at = text(places.proxy + free * 14, y + 4.5, fit(words_here, ROOM - 30, 13), class_="note",
-              text_anchor="start" if free > 0 else "end")
+    at = text(
+        places.proxy + free * 14,
+        y + 4.5,
+        fit(words_here, ROOM - 30, 13),
+        class_="note",
+        text_anchor="start" if free > 0 else "end",
+    )
     return sign(places.proxy, y, sort) + at
 
 
@@ -138,7 +134,9 @@ def lane_head(ladder, places, x, peer, role):
     name = ladder.name_of(peer) if peer else "coap-proxyd"
     below = peer if peer and name != peer else ""
     if peer in ladder.clients and places.slanted:
-        return text(0, 0, fit(name, 104, 11.5), class_="small", transform=f"translate({x + 3:g} {TOP - 14}) rotate(-50)")
+        return text(
+            0, 0, fit(name, 104, 11.5), class_="small", transform=f"translate({x + 3:g} {TOP - 14}) rotate(-50)"
+        )
     role = below if below and text_width(below, 11.5) < places.lane + 4 else role
     out = text(x, TOP - 32, fit(name, 186, 13), class_="name", text_anchor="middle")
     return out + text(x, TOP - 17, fit(role, 186, 11.5), class_="small", text_anchor="middle")
@@ -180,16 +178,28 @@ def picture(ladder, scale=None):
     as they have room."""
     places = Places(ladder, scale)
     size = {"viewBox": f"0 0 {places.width:g} {places.height:g}", "width": places.width, "height": places.height}
-    start = {"xmlns": "http://www.w3.org/2000/svg", **size, "role": "graphics-document document",
-             "aria_labelledby": "name", "aria_describedby": "about", "direction": "ltr"}
+    start = {
+        "xmlns": "http://www.w3.org/2000/svg",
+        **size,
+        "role": "graphics-document document",
+        "aria_labelledby": "name",
+        "aria_describedby": "about",
+        "direction": "ltr",
+    }
     name = ladder.title or "What happened on the wire"
     parts = [
-        f"<svg{attributes(start)}>", title(name, id="name"), element("desc", escaped(ladder.description()), id="about"),
-        f"<style>{colours.style()}{STYLE}</style>",
+        f"<svg{attributes(start)}>",
+        title(name, id="name"),
+        element("desc", escaped(ladder.description()), id="about"),
+        f"<style>{colours.style()}{part('marks.css')}{STYLE}</style>",
         element("rect", class_="sheet", width="100%", height="100%"),
         text(18, 34, fit(name, places.width - 36, 17), class_="title"),
         text(18, 54, fit(ladder.subtitle(), places.width - 36, 11.5), class_="small"),
-        times(ladder, places), lifelines(ladder, places), *lane_heads(ladder, places),
-        *(drawn_row(ladder, places, row) for row in ladder.rows), legend(places), "</svg>",
+        times(ladder, places),
+        lifelines(ladder, places),
+        *lane_heads(ladder, places),
+        *(drawn_row(ladder, places, row) for row in ladder.rows),
+        legend(places),
+        "</svg>",
     ]
     return "\n".join(part for part in parts if part) + "\n"

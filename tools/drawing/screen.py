@@ -1,16 +1,14 @@
-"""What a terminal shows of a running proxy's counts: lines of text with a style for each, at most so many columns wide."""
+"""What a terminal shows of a running proxy's counts: lines of text, each with a style, at most so many columns wide."""
 
 import ipaddress
 import time
 
 from drawing.words import seconds_text
+from drawing.worst import ANSWERED, is_turned, worst_maps, worst_origins
 
 # The styles of lines, which a terminal shows as it can.
 PLAIN, STRONG, GOOD, BAD, SOFT = "plain", "strong", "good", "bad", "soft"
 FULL, EMPTY, PARTS = "█", "░", " ▏▎▍▌▋▊▉"
-# The outcomes of requests that are answered, and those of the others that a client is turned away with.
-ANSWERED = ("hit", "joined", "opened")
-TURNED = ("overloaded", "no_record_room", "no_id")
 # From which part of its limit on a table is near to it.
 NEAR = 0.8
 
@@ -78,27 +76,29 @@ class Frame:
     def requests(self):
         """Requests by outcome, and how many come from the cache."""
         totals, rates = self.now.by("requests_total", "outcome"), self.rates("requests_total", "outcome")
-        answered = sum(rates.get(name, 0) for name in ANSWERED)
-        hits, whole = (rates.get("hit", 0), answered) if answered else (totals.get("hit", 0), sum(totals.get(name, 0) for name in ANSWERED))
+        used = rates if any(rates.get(name) for name in ANSWERED) else totals
+        hits, whole = used.get("hit", 0), sum(used.get(name, 0) for name in ANSWERED)
+        share = bar(hits / whole if whole else 0, self.width - 20, self.plain)
         self.put("")
-        part = hits / whole if whole else 0
-        self.put(f"hit rate  {share_text(hits, whole)}  {bar(part, self.width - 20, self.plain)}", STRONG)
+        self.put(f"hit rate  {share_text(hits, whole)}  {share}", STRONG)
         self.put("")
-        cells = []
-        for name, total in totals.items():
-            turned = name in TURNED or name.startswith("refused")
-            if total or name in ANSWERED:
-                cells.append((f"{name.replace('_', ' '):<15}{rate(rates[name]):>8}/s{total:>13,.0f}", turned and rates[name] > 0))
-        half = (len(cells) + 1) // 2
+        names = [name for name, total in totals.items() if total or name in ANSWERED]
+        half = (len(names) + 1) // 2
         for place in range(half):
-            pair = cells[place::half]
-            self.put("  ".join(cell for cell, _ in pair), BAD if any(bad for _, bad in pair) else PLAIN)
+            pair = names[place::half]
+            cells = (f"{name.replace('_', ' '):<15}{rate(rates[name]):>8}/s{totals[name]:>13,.0f}" for name in pair)
+            self.put("  ".join(cells), BAD if any(is_turned(name) and rates[name] for name in pair) else PLAIN)
 
     def traffic(self):
         """Datagrams, and what goes wrong with them."""
-        names = (("datagrams_received_total", "came"), ("datagrams_sent_total", "sent"),
-                 ("retransmissions_total", "resent"), ("given_up_total", "gave up"),
-                 ("send_faults_total", "not sent"), ("lost_turns_total", "lost"))
+        names = (
+            ("datagrams_received_total", "came"),
+            ("datagrams_sent_total", "sent"),
+            ("retransmissions_total", "resent"),
+            ("given_up_total", "gave up"),
+            ("send_faults_total", "not sent"),
+            ("lost_turns_total", "lost"),
+        )
         self.put("")
         cells = [f"{word} {rate(self.rate_of(name))}" for name, word in names]
         faults = any(self.rate_of(name) for name, _ in names[3:])
@@ -115,8 +115,8 @@ class Frame:
             numbers = f"{count:>11,.0f} of {limit:>11,.0f}  {part:4.0%}"
             near = part >= NEAR and name not in ("cached_bytes", "entries")
             mark = "!" if near else " "
-            line = f"{name.replace('_', ' '):<13}{mark}{bar(part, self.width - 17 - len(numbers), self.plain)} {numbers}"
-            self.put(line, BAD if near else PLAIN)
+            shown = bar(part, self.width - 17 - len(numbers), self.plain)
+            self.put(f"{name.replace('_', ' '):<13}{mark}{shown} {numbers}", BAD if near else PLAIN)
 
     def group_rates(self, label):
         """For each value of a label the rates and the sums of its metrics."""
@@ -126,46 +126,34 @@ class Frame:
             yield name, sums, {key: self.since(value, earlier.get(key, 0)) for key, value in sums.items()}
 
     def maps(self):
-        """The maps, the worst first: those that turn most away, then those that are asked for most in vain."""
-        found = []
-        for name, sums, rates in self.group_rates("map"):
-            by_outcome = lambda values, names: sum(value for key, value in values.items() if set(key[1:]) & set(names))
-            refused = {part for key in sums for part in key[1:] if part.startswith("refused")}
-            used = rates if by_outcome(rates, ANSWERED) else sums
-            found.append((by_outcome(rates, {*TURNED, *refused}), by_outcome(rates, ("opened",)), name,
-                          by_outcome(used, ("hit",)), by_outcome(used, ANSWERED), by_outcome(rates, ANSWERED)))
+        """The maps, the worst first."""
+        found = worst_maps(self.group_rates("map"))
         if not found:
             return
+        room = self.width - 45
         self.put("")
-        room = self.width - 46
-        self.put(f"{'map, the worst first':<{room}}{'from cache':>12}{'asked/s':>11}{'to origin/s':>12}{'turned':>10}", SOFT)
-        for turned, opened, name, hits, whole, asked in sorted(found, key=lambda it: (-it[0], -it[1], it[2])):
-            line = f"{short(name, room - 1):<{room}}{share_text(hits, whole):>12}{rate(asked):>11}{rate(opened):>12}{rate(turned):>10}"
-            self.put(line, BAD if turned else PLAIN)
+        heads = f"{'from cache':>12}{'asked/s':>11}{'to origin/s':>12}{'turned':>10}"
+        self.put(f"{'map, the worst first':<{room}}{heads}", SOFT)
+        for it in found:
+            numbers = f"{share_text(it.hits, it.whole):>12}{rate(it.asked):>11}{rate(it.opened):>12}"
+            numbers += f"{rate(it.turned):>10}"
+            self.put(f"{short(it.name, room - 1):<{room}}{numbers}", BAD if it.turned else PLAIN)
 
     def origins(self):
-        """The origins, the worst first: those that are given up, then those that are asked again, then the slow."""
-        found = []
-        for name, sums, rates in self.group_rates("origin"):
-            of = lambda values, *words: sum(value for key, value in values.items() if any(word in key[0] for word in words))
-            errors = sum(value for key, value in rates.items() if "answers" in key[0] and key[-1][:1] in "45")
-            time_sum = of({key: value for key, value in sums.items() if key[0].endswith("_sum")}, "")
-            time_count = of({key: value for key, value in sums.items() if key[0].endswith("_count")}, "")
-            silent = max((value for key, value in sums.items() if "since" in key[0]), default=None)
-            asked = of({key: value for key, value in rates.items() if "retrans" not in key[0]}, "request")
-            found.append((of(rates, "given_up", "gave_up"), of(sums, "given_up", "gave_up"), of(rates, "retrans", "resent"),
-                          time_sum / time_count if time_count else 0, name, asked, errors, silent))
+        """The origins, the worst first."""
+        found = worst_origins(self.group_rates("origin"))
         if not found:
             return
-        self.put("")
         room = self.width - 56
+        self.put("")
         heads = f"{'asked/s':>9}{'again/s':>9}{'errors/s':>10}{'gave up':>9}{'mean':>9}{'silent':>10}"
         self.put(f"{'origin, worst first':<{room}}{heads}", SOFT)
-        for rated, total, again, mean, name, asked, errors, silent in sorted(found, key=lambda it: (*(-part for part in it[:4]), it[4])):
-            last = "-" if silent is None else short(seconds_text(int(silent) * 1000), 9)
-            took = seconds_text(round(mean * 1000)) if mean else "-"
-            line = f"{short(endpoint_text(name), room - 1):<{room}}{rate(asked):>9}{rate(again):>9}{rate(errors):>10}{total:>9,.0f}{took:>9}{last:>10}"
-            self.put(line, BAD if rated else PLAIN)
+        for it in found:
+            silent = "-" if it.silent is None else short(seconds_text(int(it.silent) * 1000), 9)
+            mean = "-" if it.mean is None else seconds_text(round(it.mean * 1000))
+            numbers = f"{rate(it.asked):>9}{rate(it.again):>9}{rate(it.errors):>10}{it.given_up_in_all:>9,.0f}"
+            line = f"{short(endpoint_text(it.name), room - 1):<{room}}{numbers}{mean:>9}{silent:>10}"
+            self.put(line, BAD if it.given_up else PLAIN)
 
 
 def endpoint_text(text):

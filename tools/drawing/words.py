@@ -14,8 +14,12 @@ SOME = 24
 PLAIN = ("", "acked", "sent", "delivered", "idle", "unknown")
 # What the outcomes are called that a peer is not to blame for, in a list of what went wrong.
 DROPPED = {
-    "no record room": "dropped: no record room", "no id": "dropped: no id", "out of memory": "dropped: out of memory",
-    "gave up": "gave up", "rejected": "rejected", "ignored": "ignored",
+    "no record room": "dropped: no record room",
+    "no id": "dropped: no id",
+    "out of memory": "dropped: out of memory",
+    "gave up": "gave up",
+    "rejected": "rejected",
+    "ignored": "ignored",
 }
 LEFT = re.compile(r"Max-Age (\d+)")
 
@@ -67,8 +71,11 @@ def detail_text(row):
         return ""
     parts = [token_text(it.token)] if it.token else []
     for code in TELLING:
-        parts += [f"{messages.option_name(code)} {messages.option_value(code, value)}"
-                  for number, value in it.options if number == code]
+        parts += [
+            f"{messages.option_name(code)} {messages.option_value(code, value)}"
+            for number, value in it.options
+            if number == code
+        ]
     if it.payload:
         more = ".." if len(it.payload) > SOME else ""
         parts.append(messages.quoted(cut(it.payload, SOME)) + more)
@@ -134,8 +141,12 @@ def fields_of(row):
     if it is None:
         return []
     fields = [
-        ("Type", {CON: "CON, Confirmable", messages.NON: "NON, Non-confirmable", ACK: "ACK, Acknowledgement"}.get(
-            it.kind, "RST, Reset")),
+        (
+            "Type",
+            {CON: "CON, Confirmable", messages.NON: "NON, Non-confirmable", ACK: "ACK, Acknowledgement"}.get(
+                it.kind, "RST, Reset"
+            ),
+        ),
         ("Code", f"{messages.code_text(it.code)} {messages.CODES.get(it.code, '')}".rstrip()),
         ("Message ID", f"0x{it.message_id:04x} ({it.message_id})"),
         ("Token", f"0x{it.token.hex()}" if it.token else "empty"),

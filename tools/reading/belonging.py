@@ -19,8 +19,20 @@ class Row:
     """A datagram, or something that the proxy did without one, with what belongs to it."""
 
     __slots__ = (
-        "number", "moment", "peer", "inward", "data", "message", "words", "outcome", "first", "later", "last", "replied",
-        "request", "exchange",
+        "number",
+        "moment",
+        "peer",
+        "inward",
+        "data",
+        "message",
+        "words",
+        "outcome",
+        "first",
+        "later",
+        "last",
+        "replied",
+        "request",
+        "exchange",
     )
 
     def __init__(self, number, seen):
@@ -130,6 +142,7 @@ class Belonging:
     # What came.
 
     def take_inward(self, row):
+        """A datagram that came."""
         it = row.message
         if it.kind in (ACK, RST):
             self.reply(self.sent.get((row.peer, it.message_id)), row)
@@ -147,6 +160,7 @@ class Belonging:
         self.find_same(row, not messages.is_request(it.code))
 
     def take_request(self, row):
+        """A client's request."""
         self.requests += 1
         request = row.request = Request(self.requests, row)
         self.waiting[row.peer, row.message.token].append(row)
@@ -162,6 +176,7 @@ class Belonging:
             request.source = self.stored.get(request.target)
 
     def take_response(self, row):
+        """A response of an origin, which belongs to the request with its token."""
         asked = self.asked.get((row.peer, row.message.token))
         if asked:
             row.exchange = asked.exchange
@@ -185,6 +200,7 @@ class Belonging:
     # What was sent.
 
     def take_outward(self, row):
+        """A datagram that was sent."""
         it = row.message
         if it.kind in (ACK, RST):
             self.reply(self.came.get((row.peer, it.message_id)), row)
@@ -214,7 +230,9 @@ class Belonging:
         target = asked_target(row.message, row.peer)
         same = [it for it in self.pending if it.code == row.code]
         found = next((it for it in same if it.target == target), None)
-        found = found or next((it for it in same if path_of(it.target) == path_of(target)), None) or next(iter(same), None)
+        found = (
+            found or next((it for it in same if path_of(it.target) == path_of(target)), None) or next(iter(same), None)
+        )
         if found is None:
             self.exchanges += 1
             return Exchange(self.exchanges, None, row.code)

@@ -7,8 +7,8 @@ from reading import messages
 from reading.captures import Bad
 from reading.replays import replayed
 
-# A capture that was replayed: the proxy's endpoint, its datagrams, the moment of the first, the lines of the replay, its
-# first Message ID and salt, and what the program said.
+# A capture that was replayed: the proxy's endpoint, its datagrams, the moment of the first, the lines of the replay,
+# its first Message ID and salt, and what the program said.
 Captured = namedtuple("Captured", "proxy found start lines first salt said")
 
 # The greatest draw, in milliseconds, which is taken where no retransmission shows another.

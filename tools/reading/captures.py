@@ -4,7 +4,8 @@ import struct
 from collections import namedtuple
 
 Datagram = namedtuple("Datagram", "at source to data")
-# The first bytes of a file in the older format: its byte order, and whether it counts nanoseconds. And those of the newer.
+# The first bytes of a file in the older format, with its byte order and whether it counts nanoseconds, and those of one
+# in the newer.
 OLDER = {
     b"\xd4\xc3\xb2\xa1": ("<", False), b"\xa1\xb2\xc3\xd4": (">", False),
     b"\x4d\x3c\xb2\xa1": ("<", True), b"\xa1\xb2\x3c\x4d": (">", True),

@@ -12,7 +12,7 @@ CLOCK = re.compile(r"(\d{1,2}):(\d\d)(?::(\d\d(?:\.\d+)?))?")
 
 
 def moment_since(text, since):
-    """The moment that a word such as 12.5 (seconds) or 14:03:05 (a time of day in UTC, the first one since) names."""
+    """The moment that a word such as 12.5 (seconds) or 14:03:05 (the next such time of day in UTC) names."""
     clock = CLOCK.fullmatch(text)
     if clock is None:
         try:
@@ -26,7 +26,7 @@ def moment_since(text, since):
 
 
 class Choice:
-    """What is chosen: clients and origins by their endpoints, targets by a part of them, moments from one to another."""
+    """What is chosen: clients and origins by their endpoints, targets by a part of them, moments between two."""
 
     def __init__(self, clients=(), origins=(), targets=(), first=None, last=None):
         self.clients, self.origins, self.targets = set(clients), set(origins), tuple(targets)
@@ -54,7 +54,9 @@ class Choice:
         target = exchange.target if exchange else request.target if request else ""
         return (
             self.has_client(row)
-            and (not self.origins or row.peer in self.origins or exchange is not None and exchange.origin in self.origins)
+            and (
+                not self.origins or row.peer in self.origins or exchange is not None and exchange.origin in self.origins
+            )
             and (not self.targets or any(it in target for it in self.targets))
         )
 

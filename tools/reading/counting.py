@@ -108,8 +108,11 @@ class Tables:
     def wait(self, row):
         """A client waits until it has its answer, and acknowledged that if it is Confirmable, or is given up."""
         if row.outcome == "gave up":
-            late = (number for number, it in self.waiters.items()
-                    if it.request.answered and row.moment - it.request.answered.moment >= PATIENCE)
+            late = (
+                number
+                for number, it in self.waiters.items()
+                if it.request.answered and row.moment - it.request.answered.moment >= PATIENCE
+            )
             self.waiters.pop(next(late, None), None)
         if row.request is None or row.request.outcome not in ("opened", "joined"):
             return

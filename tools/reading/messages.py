@@ -16,7 +16,8 @@ URI_HOST, ETAG, IF_NONE_MATCH, OBSERVE, URI_PORT, LOCATION_PATH, URI_PATH, CONTE
 MAX_AGE, URI_QUERY, ACCEPT, BLOCK2, BLOCK1, PROXY_URI, PROXY_SCHEME, SIZE1 = 14, 15, 17, 23, 27, 35, 39, 60
 
 KINDS = ("CON", "NON", "ACK", "RST")
-# The name of each method and each code of a response (RFC 7252, 12.1; RFC 7959, 6; RFC 8132, 3; RFC 8516, 4; RFC 8768, 4).
+# The name of each method and each code of a response (RFC 7252, 12.1; RFC 7959, 6; RFC 8132, 3; RFC 8516, 4; RFC 8768,
+# 4).
 CODES = {
     EMPTY: "Empty", GET: "GET", POST: "POST", PUT: "PUT", DELETE: "DELETE", 5: "FETCH", 6: "PATCH", 7: "iPATCH",
     CREATED: "Created", DELETED: "Deleted", VALID: "Valid", CHANGED: "Changed", CONTENT: "Content", 0x5F: "Continue",
@@ -28,8 +29,8 @@ CODES = {
     UNAVAILABLE: "Service Unavailable", GATEWAY_TIMEOUT: "Gateway Timeout", NOT_SUPPORTED: "Proxying Not Supported",
     0xA8: "Hop Limit Reached",
 }
-# The name and the form of each option (RFC 7252, 5.10; RFC 7641, 2; RFC 7959, 2.1; RFC 7967, 2; RFC 8613, 2; RFC 8768, 3;
-# RFC 9175, 2 and 3; RFC 9177, 4).
+# The name and the form of each option (RFC 7252, 5.10; RFC 7641, 2; RFC 7959, 2.1; RFC 7967, 2; RFC 8613, 2; RFC 8768,
+# 3; RFC 9175, 2 and 3; RFC 9177, 4).
 OPTIONS = {
     1: ("If-Match", "opaque"), URI_HOST: ("Uri-Host", "text"), ETAG: ("ETag", "opaque"),
     IF_NONE_MATCH: ("If-None-Match", "empty"), OBSERVE: ("Observe", "number"), URI_PORT: ("Uri-Port", "number"),
@@ -124,7 +125,8 @@ def told(data):
     except ValueError as error:
         return f"{data.hex() or 'no bytes'} ({error})"
     options = ", ".join(f"{number}: {value.hex() or 'empty'}" for number, value in it.options)
-    return f"{KINDS[it.kind]} {code_text(it.code)} {it.message_id:04x} token {it.token.hex()} [{options}] {it.payload!r}"
+    head = f"{KINDS[it.kind]} {code_text(it.code)} {it.message_id:04x}"
+    return f"{head} token {it.token.hex()} [{options}] {it.payload!r}"
 
 
 # ---- what a peer chose
@@ -143,7 +145,7 @@ def shown_character(character):
 
 def shown_text(text):
     """A text in one line, of which nothing changes what is around it. Of marks that stand above or below a letter, two
-    at most do. What is written from the right to the left stands between marks that keep it from reordering the rest."""
+    at most do. What is written from the right to the left stands between marks that keep it from moving the rest."""
     marks, out = 0, []
     for character in text:
         marks = marks + 1 if unicodedata.category(character) in ("Mn", "Me") else 0

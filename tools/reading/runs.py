@@ -1,5 +1,5 @@
-"""Runs of the proxy: what came and what was sent, in order, with the program's words, from a recording, a file of events
-or a capture."""
+"""Runs of the proxy: what came and what was sent, in order, with the program's words, from a recording, a file of
+events or a capture."""
 
 import itertools
 import os

@@ -26,8 +26,16 @@ class WebSocket:
     def __init__(self, port, path):
         self.socket = socket.create_connection(("127.0.0.1", port), PATIENCE)
         key = base64.b64encode(os.urandom(16)).decode()
-        lines = (f"GET {path} HTTP/1.1", f"Host: 127.0.0.1:{port}", "Upgrade: websocket", "Connection: Upgrade",
-                 f"Sec-WebSocket-Key: {key}", "Sec-WebSocket-Version: 13", "", "")
+        lines = (
+            f"GET {path} HTTP/1.1",
+            f"Host: 127.0.0.1:{port}",
+            "Upgrade: websocket",
+            "Connection: Upgrade",
+            f"Sec-WebSocket-Key: {key}",
+            "Sec-WebSocket-Version: 13",
+            "",
+            "",
+        )
         self.socket.sendall("\r\n".join(lines).encode())
         self.stream = self.socket.makefile("rb")
         if b" 101 " not in self.stream.readline():
@@ -39,8 +47,11 @@ class WebSocket:
         """Sends a text in one frame, masked as a client must."""
         data, mask = text.encode(), os.urandom(4)
         count = len(data)
-        head = bytes([0x81, 0x80 | count]) if count < 126 else (
-            struct.pack(">BBH", 0x81, 0xFE, count) if count < 65_536 else struct.pack(">BBQ", 0x81, 0xFF, count))
+        head = (
+            bytes([0x81, 0x80 | count])
+            if count < 126
+            else (struct.pack(">BBH", 0x81, 0xFE, count) if count < 65_536 else struct.pack(">BBQ", 0x81, 0xFF, count))
+        )
         self.socket.sendall(head + mask + bytes(byte ^ mask[place % 4] for place, byte in enumerate(data)))
 
     def receive(self):
@@ -68,10 +79,25 @@ class Browser:
         program = shutil.which("chromium")
         if program is None:
             raise Skipped("chromium isn't installed")
-        self.folder, self.size, self.number, self.events = tempfile.mkdtemp(prefix="coap-proxyd-browser-"), (width, height), 0, []
-        words = [program, "--headless=new", "--no-sandbox", "--disable-gpu", "--remote-debugging-port=0",
-                 "--no-first-run", "--disable-background-networking", "--disable-dev-shm-usage",
-                 f"--user-data-dir={self.folder}", f"--window-size={width},{height}", "about:blank"]
+        self.folder, self.size, self.number, self.events = (
+            tempfile.mkdtemp(prefix="coap-proxyd-browser-"),
+            (width, height),
+            0,
+            [],
+        )
+        words = [
+            program,
+            "--headless=new",
+            "--no-sandbox",
+            "--disable-gpu",
+            "--remote-debugging-port=0",
+            "--no-first-run",
+            "--disable-background-networking",
+            "--disable-dev-shm-usage",
+            f"--user-data-dir={self.folder}",
+            f"--window-size={width},{height}",
+            "about:blank",
+        ]
         self.errors = open(os.path.join(self.folder, "errors"), "w+b")
         self.process = subprocess.Popen(words, stdout=subprocess.DEVNULL, stderr=self.errors, start_new_session=True)
 
@@ -124,7 +150,9 @@ class Browser:
         """Opens a file, and returns after how many seconds it was loaded and drawn."""
         started = time.monotonic()
         self.ask("Page.navigate", url=f"file://{os.path.abspath(path)}{fragment}")
-        self.evaluate("new Promise(done => document.readyState === 'complete' ? done() : addEventListener('load', done))")
+        self.evaluate(
+            "new Promise(done => document.readyState === 'complete' ? done() : addEventListener('load', done))"
+        )
         self.evaluate("new Promise(done => requestAnimationFrame(() => setTimeout(done)))")
         return time.monotonic() - started
 
@@ -145,12 +173,16 @@ class Browser:
         """Points at a place."""
         self.ask("Input.dispatchMouseEvent", type="mouseMoved", x=x, y=y)
 
+    def middle(self, selector):
+        """Where the middle of an element is."""
+        box = f"document.querySelector({json.dumps(selector)}).getBoundingClientRect()"
+        return self.evaluate(f"(it => [it.x + it.width / 2, it.y + it.height / 2])({box})")
+
     def click(self, selector):
         """Clicks the middle of an element."""
-        box = self.evaluate(f"(it => [it.x + it.width / 2, it.y + it.height / 2])"
-                            f"(document.querySelector({json.dumps(selector)}).getBoundingClientRect())")
+        x, y = self.middle(selector)
         for kind in ("mousePressed", "mouseReleased"):
-            self.ask("Input.dispatchMouseEvent", type=kind, x=box[0], y=box[1], button="left", clickCount=1)
+            self.ask("Input.dispatchMouseEvent", type=kind, x=x, y=y, button="left", clickCount=1)
 
     def media(self, scheme):
         """Has the reader prefer light or dark."""
@@ -170,7 +202,9 @@ class Browser:
         """What the page threw, and what its policy refused."""
         self.evaluate("0")
         found = [it for it in self.events if it["method"] == "Runtime.exceptionThrown"]
-        found += [it for it in self.events if it["method"] == "Log.entryAdded" and it["params"]["entry"]["level"] == "error"]
+        found += [
+            it for it in self.events if it["method"] == "Log.entryAdded" and it["params"]["entry"]["level"] == "error"
+        ]
         return found
 
     def requests(self):

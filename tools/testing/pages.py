@@ -1,4 +1,4 @@
-"""The pages of tools/ladder in a browser, where chromium is installed: what is seen, pointed at, clicked, searched and typed."""
+"""The pages of tools/ladder in a browser, where chromium is installed: what is seen, pointed at, clicked and typed."""
 
 import os
 import subprocess
@@ -8,13 +8,10 @@ import tempfile
 from drawing import page
 from drawing.picture import picture
 from drawing.summary import summary
-from reading.messages import shown_text
 from testing.browser import Browser
 from testing.coap import ACK, CON, CONTENT, GET, MAX_AGE, NON, message
+from testing.drawn import LADDER, ODD, PICTURES, SLEEPING, counts_of_file, limits, odd_names, odd_run, rows_of, written
 from testing.network import expect, expect_between
-from testing.pictures import (
-    LADDER, ODD, PICTURES, SLEEPING, counts_of_file, elements_of, limits, odd_run, rows_of, written,
-)
 from testing.steps import T
 
 # In how many seconds a page of so many datagrams opens.
@@ -54,9 +51,7 @@ def sleeping_page(program):
 
 def row_at(browser, place):
     """Where a row is seen."""
-    return browser.evaluate(
-        f"(it => [it.x + it.width / 2, it.y + it.height / 2])(document.getElementById('row-{place}').getBoundingClientRect())"
-    )
+    return browser.middle(f"#row-{place}")
 
 
 def panel(browser, name="datagram"):
@@ -68,8 +63,18 @@ def a_pointer_shows_and_lights(program):
     with Opened(sleeping_page(program)) as browser:
         browser.point(*row_at(browser, 3))
         shown = panel(browser)
-        for part in ("valve, 192.0.2.50:5683 → proxy", "2.290 s", "2.05 Content", "0x0001 (1)", "Max-Age\n60", '"21 C"', "21 bytes",
-                     "answered 2.05 kept", "coap://192.0.2.50/goal", "0000  68 45 00 01 00 00 00 00"):
+        for part in (
+            "valve, 192.0.2.50:5683 → proxy",
+            "2.290 s",
+            "2.05 Content",
+            "0x0001 (1)",
+            "Max-Age\n60",
+            '"21 C"',
+            "21 bytes",
+            "answered 2.05 kept",
+            "coap://192.0.2.50/goal",
+            "0000  68 45 00 01 00 00 00 00",
+        ):
             expect(f"whether {part!r} is shown", True, part in shown)
         browser.click("#row-2")
         expect("what belongs to what is sent again", [0, 1, 2, 3, 4], browser.evaluate(LIT))
@@ -79,7 +84,11 @@ def a_pointer_shows_and_lights(program):
         browser.click("#row-9")
         expect("what belongs to a validation", [9, 10, 11, 12], browser.evaluate(LIT))
         expect("what is lit", 4, browser.evaluate("document.querySelectorAll('.shade').length"))
-        expect("what a screen reader is told", True, "phone to the proxy" in browser.evaluate("document.getElementById('said').textContent"))
+        expect(
+            "what a screen reader is told",
+            True,
+            "phone to the proxy" in browser.evaluate("document.getElementById('said').textContent"),
+        )
 
 
 def keys_do_all_that_a_pointer_does(program):
@@ -97,7 +106,11 @@ def keys_do_all_that_a_pointer_does(program):
         expect("the next of what is lit", 11, browser.evaluate("state.on"))
         before = browser.evaluate("view.height")
         browser.key("s", "s")
-        expect("whether time is to scale", True, browser.evaluate("view.scaled && view.cuts.length === 0") and before != browser.evaluate("view.height"))
+        expect(
+            "whether time is to scale",
+            True,
+            browser.evaluate("view.scaled && view.cuts.length === 0") and before != browser.evaluate("view.height"),
+        )
         browser.key("s", "s")
         browser.key("/", "/")
         for character in "2.04":
@@ -114,8 +127,17 @@ def keys_do_all_that_a_pointer_does(program):
 
 def a_search_shows_only_what_belongs(program):
     with Opened(sleeping_page(program)) as browser:
-        for text, found, belonging in (("phone hit", 1, 3), ("display", 6, 11), ("put /goal", 2, 4), ("0xcd", 2, 4), ("nothing", 0, 0)):
-            browser.evaluate(f"document.getElementById('words').value = '{text}', document.getElementById('only').checked = true, look()")
+        for text, found, belonging in (
+            ("phone hit", 1, 3),
+            ("display", 6, 11),
+            ("put /goal", 2, 4),
+            ("0xcd", 2, 4),
+            ("nothing", 0, 0),
+        ):
+            browser.evaluate(
+                f"document.getElementById('words').value = '{text}';"
+                "document.getElementById('only').checked = true; look()"
+            )
             expect(f"what is found of {text}", found, browser.evaluate("search.places.length"))
             expect(f"what is shown of {text}", belonging, browser.evaluate(SHOWN))
         browser.click("#only")
@@ -128,8 +150,16 @@ def what_went_wrong_is_found_by_a_click(program):
     _, ladder = rows_of(program, os.path.join(PICTURES, "trying-incident.events"))
     with Opened(page.page(ladder)) as browser:
         told = panel(browser, "troubles")
-        expect("what is told", True, "5.03 Service Unavailable 127.0.0.1:40001" in told and "overloaded 5.03 exchanges 2/2" in told)
-        expect("the worst kind", "5.03 Service Unavailable 1", browser.evaluate("document.querySelector('.kinds button').textContent"))
+        expect(
+            "what is told",
+            True,
+            "5.03 Service Unavailable 127.0.0.1:40001" in told and "overloaded 5.03 exchanges 2/2" in told,
+        )
+        expect(
+            "the worst kind",
+            "5.03 Service Unavailable 1",
+            browser.evaluate("document.querySelector('.kinds button').textContent"),
+        )
         browser.click(".kinds button")
         expect("how many of a kind", 1, browser.evaluate("document.querySelectorAll('#troubles li').length"))
         browser.click("#troubles li button")
@@ -159,9 +189,16 @@ def a_long_page_opens_at_once(program):
         with Browser() as browser:
             expect_between("seconds until it is drawn", 0, SECONDS, browser.open(out))
             expect("how many datagrams there are", MANY, browser.evaluate("rows.length"))
-            expect_between("how many elements are drawn", 100, 2_000, browser.evaluate("document.querySelectorAll('#sheet *').length"))
+            expect_between(
+                "how many elements are drawn",
+                100,
+                2_000,
+                browser.evaluate("document.querySelectorAll('#sheet *').length"),
+            )
             browser.evaluate("choose(40000, true)")
-            expect("whether a late row is drawn", True, browser.evaluate("document.getElementById('row-40000') !== null"))
+            expect(
+                "whether a late row is drawn", True, browser.evaluate("document.getElementById('row-40000') !== null")
+            )
             expect("faults", [], browser.faults())
 
 
@@ -169,16 +206,24 @@ def odd_bytes_stay_text_in_a_browser(program):
     with tempfile.TemporaryDirectory(prefix="coap-proxyd-test-") as folder:
         _, ladder = rows_of(program, odd_run(folder))
         counts = counts_of_file(program, odd_run(folder))
-    ladder.names = {peer: shown_text(value.decode("utf-8", "surrogateescape")) for peer, (value, _) in zip(ladder.clients, ODD)}
+    ladder.names = odd_names(ladder)
     ladder.title = ODD[0][1]
     with Opened(page.page(ladder)) as browser:
-        known = browser.evaluate("[...new Set([...document.querySelectorAll('body *')].map(it => it.localName))].sort().join(' ')")
+        known = browser.evaluate(
+            "[...new Set([...document.querySelectorAll('body *')].map(it => it.localName))].sort().join(' ')"
+        )
         for place, (value, wanted) in enumerate(ODD):
             browser.evaluate(f"lightUp(rows.findIndex(row => row[REQUEST] === {place + 1}))")
             expect(f"whether {value!r} is told", True, f'Uri-Path\n"{wanted}"' in panel(browser))
-        later = browser.evaluate("[...new Set([...document.querySelectorAll('body *')].map(it => it.localName))].sort().join(' ')")
+        later = browser.evaluate(
+            "[...new Set([...document.querySelectorAll('body *')].map(it => it.localName))].sort().join(' ')"
+        )
         expect("elements that came", {"br", "h3", "pre"}, set(later.split()) - set(known.split()))
-        expect("elements in what is drawn", 0, browser.evaluate("document.querySelectorAll('#sheet script, #sheet b, aside script, h1 *').length"))
+        expect(
+            "elements in what is drawn",
+            0,
+            browser.evaluate("document.querySelectorAll('#sheet script, #sheet b, aside script, h1 *').length"),
+        )
         expect("the title", ODD[0][1], browser.evaluate("document.title"))
     with Opened(summary(counts, limits(), None, ladder.names, ladder.title)) as browser:
         expect("scripts", 0, browser.evaluate("document.scripts.length"))
@@ -203,20 +248,43 @@ def pages_fit_a_phone_and_follow_light_and_dark(program):
 
 def a_picture_has_text_and_names(program):
     with Opened(picture(rows_of(program, SLEEPING)[1]), "ladder.svg") as browser:
-        expect("the title", "A valve that sleeps: what reaches it, and what the proxy answers", browser.evaluate("document.querySelector('title').textContent"))
-        expect("the description", "A ladder of 2 clients, the proxy and 1 origin; 6 requests: 2 from the cache, 2 asked of an origin, 2 validated.",
-               browser.evaluate("document.querySelector('desc').textContent"))
+        expect(
+            "the title",
+            "A valve that sleeps: what reaches it, and what the proxy answers",
+            browser.evaluate("document.querySelector('title').textContent"),
+        )
+        expect(
+            "the description",
+            "A ladder of 2 clients, the proxy and 1 origin; 6 requests: 2 from the cache, 2 asked of an origin, "
+            "2 validated.",
+            browser.evaluate("document.querySelector('desc').textContent"),
+        )
         browser.evaluate("getSelection().selectAllChildren(document.documentElement)")
-        expect("whether its text can be selected", True, "ACK [0x7d34] 2.05 Content" in browser.evaluate("getSelection().toString()"))
-        expect("a row", "20.000 s: phone to the proxy: CON [0x7d34] GET /goal; Token 0x71; hit, 42 s left",
-               browser.evaluate("document.querySelector('g.hit title').textContent"))
-        wide = "[...document.querySelectorAll('text')].filter(it => it.getBBox().x < 0 || it.getBBox().x + it.getBBox().width > innerWidth).length"
+        expect(
+            "whether its text can be selected",
+            True,
+            "ACK [0x7d34] 2.05 Content" in browser.evaluate("getSelection().toString()"),
+        )
+        expect(
+            "a row",
+            "20.000 s: phone to the proxy: CON [0x7d34] GET /goal; Token 0x71; hit, 42 s left",
+            browser.evaluate("document.querySelector('g.hit title').textContent"),
+        )
+        wide = (
+            "[...document.querySelectorAll('text')].map(it => it.getBBox())"
+            ".filter(box => box.x < 0 || box.x + box.width > innerWidth).length"
+        )
         browser.resize(1100, 1400)
         expect("texts that stand out", 0, browser.evaluate(wide))
 
 
 CASES = (
-    a_pointer_shows_and_lights, keys_do_all_that_a_pointer_does, a_search_shows_only_what_belongs,
-    what_went_wrong_is_found_by_a_click, a_long_page_opens_at_once, odd_bytes_stay_text_in_a_browser,
-    pages_fit_a_phone_and_follow_light_and_dark, a_picture_has_text_and_names,
+    a_pointer_shows_and_lights,
+    keys_do_all_that_a_pointer_does,
+    a_search_shows_only_what_belongs,
+    what_went_wrong_is_found_by_a_click,
+    a_long_page_opens_at_once,
+    odd_bytes_stay_text_in_a_browser,
+    pages_fit_a_phone_and_follow_light_and_dark,
+    a_picture_has_text_and_names,
 )

@@ -205,7 +205,8 @@ function look() {
 // ---- the buttons above
 
 function showSorts() {
-  const box = document.getElementById("sorts"), texts = {hit: ["Hit", "from the cache"], miss: ["Miss", "asked of the origin"],
+  const box = document.getElementById("sorts");
+  const texts = {hit: ["Hit", "from the cache"], miss: ["Miss", "asked of the origin"],
     validation: ["Validated", "at the origin"], error: ["Error", "went wrong"], plain: ["Other", ""]};
   const counts = new Map(sorts.map(sort => [sort, 0]));
   rows.forEach(row => counts.set(sorts[row[SORT]], counts.get(sorts[row[SORT]]) + 1));

@@ -114,7 +114,8 @@ function edges(place, above, y, at) {
   if (above < 0 || rows[above][MOMENT] !== row[MOMENT]) {
     const x = at.narrow ? (peer && peer[2] ? at.first : at.right) : at.times - 8;
     const anchor = at.narrow && peer && peer[2] ? "start" : "end";
-    out.push(make("text", {x, y: y - (at.narrow ? 8 : -4), class: "time", "text-anchor": anchor}, timeText(row[MOMENT])));
+    const height = y - (at.narrow ? 8 : -4);
+    out.push(make("text", {x, y: height, class: "time", "text-anchor": anchor}, timeText(row[MOMENT])));
   }
   if (!peer || at.narrow) return out;
   if (!peer[2] && !at.namedClients) {
@@ -122,7 +123,8 @@ function edges(place, above, y, at) {
     out.push(make("text", {x: at.times - 8, y: y + 18, class: "small", "text-anchor": "end"}, name));
   }
   if (peer[2] && !at.namedOrigins) {
-    out.push(make("text", {x: at.all - 10, y: y + 4, class: "small", "text-anchor": "end"}, fit(peer[0], 112, fonts.small)));
+    const name = fit(peer[0], 112, fonts.small);
+    out.push(make("text", {x: at.all - 10, y: y + 4, class: "small", "text-anchor": "end"}, name));
   }
   return out;
 }
@@ -175,7 +177,8 @@ function lifelines(from, to, at) {
   const out = inside.map(([top]) => make("rect", {class: "band", x: 0, y: top + 4, width: at.all, height: BREAK - 8}));
   const starts = [from, ...inside.map(([top]) => top + BREAK)], ends = [...inside.map(([top]) => top), to];
   for (const [kind, x] of livesOf(at)) {
-    out.push(make("path", {class: kind, d: starts.map((start, n) => `M${x} ${start}V${Math.max(start, ends[n])}`).join("")}));
+    const parts = starts.map((start, n) => `M${x} ${start}V${Math.max(start, ends[n])}`);
+    out.push(make("path", {class: kind, d: parts.join("")}));
     if (inside.length) {
       out.push(make("path", {class: kind + " cut", d: inside.map(([top]) => `M${x} ${top}v${BREAK}`).join("")}));
     }

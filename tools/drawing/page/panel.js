@@ -34,15 +34,17 @@ function relations(place) {
   if (row[TARGET]) pairs.push(["Target", strings[row[TARGET]]]);
   if (row[WORDS]) pairs.push(["The proxy", strings[row[WORDS]]]);
   if (row[FIRST] >= 0) pairs.push(["Again", `as at ${at(rows[row[FIRST]][MOMENT])}`]);
-  if (row[LOST]) pairs.push([row[INWARD] ? "No answer" : "No reply", "none is in this file before it was sent again, or at all"]);
-  const kept = row[SOURCE] ? (byExchange.get(row[SOURCE]) || []).find(it => partOf(it, WORDS).endsWith(" kept")) : undefined;
-  if (kept !== undefined) pairs.push(["From", `the answer that was kept last for this target, at ${at(rows[kept][MOMENT])}`]);
+  const missing = "none is in this file before it was sent again, or at all";
+  if (row[LOST]) pairs.push([row[INWARD] ? "No answer" : "No reply", missing]);
+  const kept = (byExchange.get(row[SOURCE]) || []).find(it => partOf(it, WORDS).endsWith(" kept"));
+  if (kept === undefined) return pairs;
+  pairs.push(["From", `the answer that was kept last for this target, at ${at(rows[kept][MOMENT])}`]);
   return pairs;
 }
 
 function datagramCard(place) {
   const row = rows[place], size = strings[row[BYTES]].length / 2;
-  const peer = row[LANE] < 0 ? "" : laneOf(place)[0] === laneOf(place)[1] ? laneOf(place)[1] : laneOf(place).slice(0, 2).join(", ");
+  const peer = row[LANE] < 0 ? "" : [...new Set(laneOf(place).slice(0, 2))].join(", ");
   const way = row[LANE] < 0 ? "The proxy" : row[INWARD] ? `${peer} → proxy` : `proxy → ${peer}`;
   const time = timeText(row[MOMENT]) + (data.since === null ? " s" : " UTC");
   const lead = html("p", "lead", html("span", "badge", signAlone(sorts[row[SORT]]), way), html("br"), time);
@@ -58,8 +60,8 @@ function datagramCard(place) {
 function showDatagram(place) {
   const panel = document.getElementById("datagram");
   if (place < 0) {
-    const hint = html("p", "hint", "Point at a datagram to see it decoded. Click it to light up all that belongs to it: ",
-      "what it opened or joined, the answer, and what was sent again. Keys: ?");
+    const hint = html("p", "hint", "Point at a datagram to see it decoded. Click it to light up all that belongs to ",
+      "it: what it opened or joined, the answer, and what was sent again. Keys: ?");
     panel.replaceChildren(html("h2", "", "Datagram"), hint);
     return;
   }
@@ -125,8 +127,9 @@ function showTroubles(choose, on) {
     buttons.append(button);
   }
   const chosen = troubles.all.filter(place => !troubles.kind || partOf(place, TROUBLE) === troubles.kind);
-  const list = html("ul", "list", ...chosen.slice(0, troubles.most).map(place => troubleItem(place, choose, on === place)));
-  panel.replaceChildren(head, buttons, chosen.length ? list : html("p", "hint", "Nothing: each request has its answer."));
+  const items = chosen.slice(0, troubles.most).map(place => troubleItem(place, choose, on === place));
+  const none = html("p", "hint", "Nothing: each request has its answer.");
+  panel.replaceChildren(head, buttons, items.length ? html("ul", "list", ...items) : none);
   if (chosen.length > troubles.most) {
     const more = html("button", "", `${(chosen.length - troubles.most).toLocaleString("en")} more`);
     more.addEventListener("click", () => {

@@ -34,7 +34,7 @@ function timeText(moment) {
   return new Date(data.since + moment).toISOString().slice(11, 23);
 }
 
-// Places all rows that are shown, one below the other: idle times are cut, or time is to scale as far as rows have room.
+// Places all rows that are shown, one below the other: idle times are cut, or time is to scale where rows have room.
 function placeRows() {
   const {shown, step} = view;
   view.tops = new Float64Array(shown.length);
