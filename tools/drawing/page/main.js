@@ -79,6 +79,7 @@ function drawSoon() {
 function drawRuler() {
   const ruler = document.getElementById("ruler"), height = ladder.clientHeight, context = ruler.getContext("2d");
   ruler.height = height;
+  ruler.style.height = `${height}px`;
   const colour = name => getComputedStyle(document.documentElement).getPropertyValue(name);
   const mark = (place, width) => {
     const order = orderOf(place);
@@ -275,7 +276,10 @@ function listen() {
     if (place >= 0 && event.pointerType === "mouse") showDatagram(place);
   });
   sheet.addEventListener("pointerleave", () => showDatagram(state.on));
-  sheet.addEventListener("click", event => lightUp(placeAt(event)));
+  sheet.addEventListener("click", event => {
+    lightUp(placeAt(event));
+    if (state.at.narrow) document.getElementById("datagram").scrollIntoView({block: "nearest", inline: "start"});
+  });
   on("words", "input", look);
   on("only", "change", look);
   on("search", "submit", event => {

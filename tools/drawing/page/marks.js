@@ -85,7 +85,7 @@ function labels(place, y, at) {
   const room = at.narrow ? at.right - at.first - 64 : at.room - 24;
   const head = fit(strings[row[HEAD]], room, fonts.head);
   const out = [make("text", {x, y: y - 7, class: "halo", "text-anchor": anchor}, head)];
-  const detailRoom = (at.narrow ? at.room - 8 : at.room - 24) - (lost ? 62 : 0);
+  const detailRoom = (at.narrow ? (row[NOTE] ? at.room - 8 : room) : at.room - 18) - (lost ? 62 : 0);
   const detail = fit(strings[row[DETAIL]], detailRoom, fonts.small);
   const below = make("text", {x, y: y + 15, class: "small halo", "text-anchor": anchor}, detail);
   if (lost) {

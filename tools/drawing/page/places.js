@@ -82,7 +82,8 @@ function longestName() {
 
 // The distance between the lanes of one side, and whether they have names: where these have no room, all are close.
 function laneGap(count, narrow) {
-  const spread = narrow ? 56 : Math.min(190, Math.max(118, longestName() + 18));
+  const longest = longestName();
+  const spread = narrow ? Math.min(76, Math.max(56, longest + 8)) : Math.min(190, Math.max(118, longest + 18));
   const named = count < 2 || spread * (count - 1) <= (narrow ? 112 : 420);
   const most = narrow ? 40 : 90;
   return {named, gap: count < 2 ? 0 : named ? spread : Math.min(14, most / (count - 1))};
