@@ -5,8 +5,8 @@ import subprocess
 import time
 
 from testing.coap import (
-    ACCEPT, ACK, BAD_GATEWAY, BAD_OPTION, BAD_REQUEST, BLOCK2, CHANGED, CON, CONTENT, CONTENT_FORMAT, EMPTY, ETAG, GET,
-    NON, NOT_ALLOWED, NOT_FOUND, NOT_SUPPORTED, OBSERVE, POST, PROXY_SCHEME, PROXY_URI, RST, URI_HOST, URI_PATH,
+    ACCEPT, ACK, BAD_GATEWAY, BAD_OPTION, BAD_REQUEST, BLOCK2, CHANGED, CON, CONTENT, CONTENT_FORMAT, EMPTY, ETAG, FETCH,
+    GET, NON, NOT_ALLOWED, NOT_FOUND, NOT_SUPPORTED, OBSERVE, OSCORE, POST, PROXY_SCHEME, PROXY_URI, RST, URI_HOST, URI_PATH,
     URI_PORT, URI_QUERY, message, number_bytes,
 )
 from testing.network import Life, Skipped, case_list, expect, expect_between, has_ipv6
@@ -35,6 +35,19 @@ def a_non_confirmable_get_goes_by_a_map(stage):
     answer = origin.answer(asked, CONTENT, [(ETAG, b"\x01"), (CONTENT_FORMAT, b"")])
     client.expect_response(request, CONTENT, [(ETAG, b"\x01"), (CONTENT_FORMAT, b"")], life=Life(60, answer.at))
     client.expect_silence("after the answer")
+
+
+@case("OptionLost", "PayloadChanged")
+def an_oscore_message_goes_by_a_map(stage):
+    """A request protected by OSCORE (RFC 8613) is a POST with option 9, which is safe to forward; what it protects is
+    its payload. A FETCH, which may be protected too, is no method of this proxy."""
+    _, client, origin = stage.mapped()
+    request = client.request(POST, [(OSCORE, b"\x09\x14\x25"), T], b"\x61\x2f\x10\xf1")
+    asked = origin.expect_request(POST, [(OSCORE, b"\x09\x14\x25"), TEMP], b"\x61\x2f\x10\xf1")
+    origin.answer(asked, CHANGED, [(OSCORE, b"")], b"\xdb\xaa\xd1\xe9")
+    client.expect_late(request, CHANGED, [(OSCORE, b"")], b"\xdb\xaa\xd1\xe9")
+    refused = client.request(FETCH, [(OSCORE, b"\x09\x14\x25"), T], b"\x61\x2f\x10\xf1")
+    client.expect_response(refused, NOT_ALLOWED)
 
 
 def get_by_proxy_uri(stage, kind):

@@ -21,7 +21,7 @@ ODD, PLAIN = " !\"#$&'()*;<>?[\\]^`{|}~\x7f", "%+,-./:=@_059AMZamz\u00e9"
 
 def words_of(first):
     """The words behind the version in the first line of a recording."""
-    version, *words = shlex.split(first.removeprefix("# coap-proxyd "))
+    version, *words = shlex.split(first[len("# coap-proxyd ") :])
     expect("whether a version comes first", True, version[0].isdigit())
     return words
 

@@ -11,6 +11,8 @@ from testing.network import PATIENCE, Failed, case_list, expect, expect_between,
 from testing.steps import T, expect_hit, fetch
 
 CASES, case = case_list()
+# An address and a port.
+LISTEN = re.compile(r"(127\.0\.0\.1|\[::1\]):[1-9][0-9]*")
 
 KEYS = (
     "seconds received sent send_faults lost resent gave_up hit joined opened overloaded no_record_room no_id again "
@@ -21,9 +23,10 @@ LINE = re.compile(" ".join(re.escape(key) + "=[0-9]+" + ("/[0-9]+" if key in KEY
 
 
 def metrics(path):
-    """The numbers of a file of counts, by the names of their metrics and their labels. Each metric must have a help and
-    a type above it: that of a counter if its name is one's."""
-    numbers, said = {}, set()
+    """The numbers of a file of counts, by the names of their metrics and their labels but the first, which must say of
+    all where the proxy listens. Each metric must have a help and a type above it: that of a counter if its name is
+    one's."""
+    numbers, said, listens = {}, set(), set()
     with open(path, encoding="ascii") as file:
         for line in file:
             words = line.split()
@@ -34,7 +37,10 @@ def metrics(path):
                 continue
             name = words[0].split("{")[0]
             expect("the help and the type of a metric", True, {("HELP", name), ("TYPE", name)} <= said)
-            numbers[words[0]] = int(words[1])
+            listen, labels = re.fullmatch(r'[a-z_]+\{listen="([^"]*)"(?:,(.*))?\}', words[0]).groups()
+            listens.add(listen)
+            numbers[f"{name}{{{labels}}}" if labels else name] = int(words[1])
+    expect("where it listens", True, len(listens) == 1 and LISTEN.fullmatch(listens.pop()) is not None)
     return numbers
 
 
