@@ -5,6 +5,7 @@ from drawing.ladder import IDLE
 from drawing.lines import attributes, element, escaped, fit, head, line, sign, text, text_width, title
 from drawing.parts import part
 from reading.belonging import sort_of
+from reading.endpoints import short_endpoint
 
 # Where things are: the column of times, the room between lanes, that for what stands at an arrow, and heights.
 TIMES, LANE, ROOM, EDGE = 92, 118, 328, 66
@@ -132,7 +133,7 @@ def lifelines(ladder, places):
 def lane_head(ladder, places, x, peer, role):
     """What stands above a lane. Where lanes are close, it is slanted."""
     name = ladder.name_of(peer) if peer else "coap-proxyd"
-    below = peer if peer and name != peer else ""
+    below = short_endpoint(peer) if peer in ladder.names else ""
     if peer in ladder.clients and places.slanted:
         return text(
             0, 0, fit(name, 104, 11.5), class_="small", transform=f"translate({x + 3:g} {TOP - 14}) rotate(-50)"

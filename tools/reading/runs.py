@@ -1,6 +1,7 @@
 """Runs of the proxy: what came and what was sent, in order, with the program's words, from a recording, a file of
 events or a capture."""
 
+import contextlib
 import itertools
 import os
 import shutil
@@ -74,8 +75,9 @@ class EventRun:
     def seen(self):
         """What was seen, in order."""
         replay = Replay(self.program, self.words)
-        for event, said in zip(events_of(self.lines()), replay.said(self.lines())):
-            yield from seen_of_event(event, said)
+        with contextlib.closing(replay.said(self.lines())) as told:
+            for event, said in zip(events_of(self.lines()), told):
+                yield from seen_of_event(event, said)
         self.fault = replay.fault
 
 
@@ -147,6 +149,9 @@ def open_run(path, words=(), program=None, at=None):
         raise Bad(f"{path} isn't a file")
     with open(path, "rb") as file:
         start = file.read(4)
+    is_told = words or not is_capture(start) and (head_of(path).words or head_of(path).recorded)
+    if not is_told:
+        raise Bad(f"put behind {path} the words that the proxy was started with, such as --map /t=coap://192.0.2.1/")
     if is_capture(start):
         return CaptureRun(path, program, list(words), at)
     return EventRun(path, program, list(words))
