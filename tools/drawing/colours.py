@@ -1,5 +1,5 @@
-"""The colours of ladders and charts, in light and in dark. Those of the sorts have the hues of Okabe and Ito, and are as
-bright as it takes for colour-blind people to tell any two apart; a shape and words say the same as each colour."""
+"""The colours of ladders and charts, in light and in dark. Those of the sorts have the hues of Okabe and Ito, as bright
+as it takes for colour-blind people to tell any two apart; a shape and words say the same as each colour."""
 
 # For each name the colour in light, and the one in dark.
 COLOURS = {

@@ -163,7 +163,10 @@ class Belonging:
         """A client's request."""
         self.requests += 1
         request = row.request = Request(self.requests, row)
-        self.waiting[row.peer, row.message.token].append(row)
+        waiting = self.waiting[row.peer, row.message.token]
+        waiting.append(row)
+        while waiting[0].moment < row.moment - LIFETIME:
+            waiting.popleft()
         if row.outcome == "opened":
             self.exchanges += 1
             exchange = request.exchange = row.exchange = Exchange(self.exchanges, request, row.code)

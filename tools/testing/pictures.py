@@ -318,7 +318,8 @@ def the_colours_are_told_apart(program):
                 apart = sum((a - b) ** 2 for a, b in zip(seen[one], seen[other])) ** 0.5
                 expect_between(f"{one} and {other} for {sight} sight", least, 200, apart)
         paper = colours.COLOURS["paper"][place]
-        for name, contrast in (*((sort, 3) for sort in chosen), ("ink", 7), ("soft", 4.5), ("plain", 4.5), ("error", 4.5)):
+        texts = (("ink", 7), ("soft", 4.5), ("plain", 4.5), ("error", 4.5))
+        for name, contrast in (*((sort, 3) for sort in chosen), *texts):
             bright = sorted(map(brightness, (paper, colours.COLOURS[name][place])))
             expect_between(f"the contrast of {name} (WCAG 2.2, 1.4.3 and 1.4.11)", contrast, 21, bright[1] / bright[0])
 
