@@ -95,10 +95,11 @@ def note(places, row):
         return ""
     y, free = places.y[row.number], 1 if row.peer is None or places.x[row.peer] < places.proxy else -1
     sort = sort_of(row) if row.outcome != "again" else "plain"
+    room = places.width - places.proxy - 24 if free > 0 else places.proxy - TIMES - 24
     at = text(
         places.proxy + free * 14,
         y + 4.5,
-        fit(words_here, ROOM - 30, 13),
+        fit(words_here, room, 13),
         class_="note",
         text_anchor="start" if free > 0 else "end",
     )

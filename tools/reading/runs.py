@@ -17,7 +17,9 @@ from reading.replays import PROGRAM, Head, Replay, events_of, head_of, lines_of,
 # What was seen at a moment in milliseconds: a datagram from a peer (inward) or to it, and what the program says of it.
 # Without a peer it is something that the proxy did without a datagram.
 Seen = namedtuple("Seen", "moment peer inward data words")
-AGREES = "from here on the capture agrees with a replay: what the proxy held before isn't known"
+AGREES = "the replay agrees from here on"
+# What stands before the words of a replay that doesn't agree yet: a capture may begin in the middle of a run.
+PERHAPS = "perhaps "
 
 
 def seen_of_event(event, said):
@@ -135,10 +137,11 @@ class CaptureRun:
             yield Seen(moment, None, False, None, words)
 
     def with_doubt(self, rows, late):
-        """Rows with one that says from where on the replay agrees, if it doesn't from the start."""
-        if late and late < len(rows):
-            rows.insert(late, Seen(rows[late].moment, None, False, None, AGREES))
-        return rows
+        """Rows with one that says from where on the replay agrees, if it doesn't from the start. What the proxy held
+        before isn't known, so what the replay says of it may not be so."""
+        doubted = [it._replace(words=PERHAPS + it.words if it.inward else it.words) for it in rows[:late]]
+        agrees = [Seen(rows[late].moment, None, False, None, AGREES)] if 0 < late < len(rows) else []
+        return doubted + agrees + rows[late:]
 
 
 def open_run(path, words=(), program=None, at=None):

@@ -124,6 +124,25 @@ def a_capture_is_drawn_as_its_replay(program):
         expect("when it was", 1_000_000, seen[1].since)
 
 
+# A Confirmable request for a path without a map, and its answer.
+LATER = b"\n10000 0 127.0.0.1:40002 410100090AB175\n# > 127.0.0.1:40002 618400090A\n"
+
+
+def a_capture_that_begins_late_is_doubted(program):
+    with open(os.path.join(WORKED, "hit_aged.events"), "rb") as file:
+        events = file.read()
+    start = events.index(b"\n9001 ") + 1
+    head = replays.head_of(os.path.join(WORKED, "hit_aged.events"))
+    with tempfile.TemporaryDirectory(prefix="coap-proxyd-test-") as folder:
+        path = os.path.join(folder, "run.pcap")
+        with open(path, "wb") as file:
+            file.write(capture(events[start:] + LATER))
+        rows, _ = rows_of(program, path, replays.deciding_words(head.words))
+    notes = [words.note_text(row) for row in rows]
+    wanted = ["perhaps opened", "not in the replay", "the replay agrees from here on", "refused 4.04 no map", ""]
+    expect("what is said at the proxy", wanted, notes)
+
+
 def what_belongs_to_the_chosen_is_there(program):
     count = lambda **more: len(rows_of(program, SLEEPING, choice=Choice(**more))[0])
     expect("of the display", 5 + 2 + 4, count(clients=["192.0.2.10:40001"]))
@@ -338,7 +357,7 @@ def the_pictures_are_up_to_date(program):
 ENDS = (
     a_valve_that_sleeps_has_each_sort, a_joined_request_belongs_to_the_exchange, a_silent_origin_is_named,
     duplicates_repeat_the_first, who_is_turned_away_is_told_why, a_capture_is_drawn_as_its_replay,
-    what_belongs_to_the_chosen_is_there, a_picture_holds_odd_bytes_as_text, a_page_holds_odd_bytes_as_data,
+    a_capture_that_begins_late_is_doubted, what_belongs_to_the_chosen_is_there, a_picture_holds_odd_bytes_as_text, a_page_holds_odd_bytes_as_data,
     a_summary_counts_each_answer_once, the_colours_are_told_apart, the_pictures_are_up_to_date,
 )
 WRONG = (
