@@ -357,8 +357,9 @@ def the_pictures_are_up_to_date(program):
 ENDS = (
     a_valve_that_sleeps_has_each_sort, a_joined_request_belongs_to_the_exchange, a_silent_origin_is_named,
     duplicates_repeat_the_first, who_is_turned_away_is_told_why, a_capture_is_drawn_as_its_replay,
-    a_capture_that_begins_late_is_doubted, what_belongs_to_the_chosen_is_there, a_picture_holds_odd_bytes_as_text, a_page_holds_odd_bytes_as_data,
-    a_summary_counts_each_answer_once, the_colours_are_told_apart, the_pictures_are_up_to_date,
+    a_capture_that_begins_late_is_doubted, what_belongs_to_the_chosen_is_there, a_picture_holds_odd_bytes_as_text,
+    a_page_holds_odd_bytes_as_data, a_summary_counts_each_answer_once, the_colours_are_told_apart,
+    the_pictures_are_up_to_date,
 )
 WRONG = (
     ("DigitChanged", the_pictures_are_up_to_date), ("CommentLost", who_is_turned_away_is_told_why),
