@@ -10,6 +10,7 @@ import threading
 from collections import namedtuple
 
 from reading.captures import Bad
+from reading.endpoints import plain_endpoint
 from reading.messages import shown_text
 
 # What a file says before its first event: the words of a replay, the lines of its configuration, when its first moment
@@ -100,7 +101,7 @@ def head_of(path):
             since = moment_of(rest[len("since ") :])
         elif mark == "name:":
             endpoint, _, name = rest.partition(" ")
-            names[endpoint] = shown_text(name)
+            names[plain_endpoint(endpoint)] = shown_text(name)
         elif mark == "title:":
             title = shown_text(rest)
     return Head(words, config, since, names, title, recorded)
@@ -113,7 +114,7 @@ def event_of(line):
         return None
     try:
         data = b"" if len(words) == 3 or words[3] == "-" else bytes.fromhex(words[3])
-        return Event(int(words[0]), None if words[2] == "tick" else words[2], data)
+        return Event(int(words[0]), None if words[2] == "tick" else plain_endpoint(words[2]), data)
     except ValueError:
         return None
 

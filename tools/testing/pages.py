@@ -165,6 +165,12 @@ def what_went_wrong_is_found_by_a_click(program):
         browser.click("#troubles li button")
         lit = browser.evaluate(f"{LIT}.map(place => laneOf(place)[0])")
         expect("whose rows are lit", ["127.0.0.1:40001"] * 2, lit)
+        browser.click("#datagram button.only")
+        expect("what is shown of all", 2, browser.evaluate(SHOWN))
+        browser.click("#datagram button.only")
+        browser.evaluate("document.getElementById('words').value = '40007', look()")
+        browser.click(".kinds button")
+        expect("what went wrong for another client", 2, browser.evaluate("troubles.groups.length"))
 
 
 def a_long_run(folder):
