@@ -344,13 +344,12 @@ def the_colours_are_told_apart(program):
 
 
 def the_pictures_are_up_to_date(program):
-    for name in sorted(it[: -len(".events")] for it in os.listdir(PICTURES) if it.endswith(".events")):
+    events = [os.path.join(PICTURES, it) for it in sorted(os.listdir(PICTURES)) if it.endswith(".events")]
+    for run in (SLEEPING, *events):
+        name = os.path.basename(run)[: -len(".events")]
         with open(os.path.join(PICTURES, f"{name}.svg"), encoding="utf-8", newline="") as file:
-            expect(
-                f"whether {name}.svg is as it is drawn",
-                True,
-                file.read() == picture(rows_of(program, os.path.join(PICTURES, f"{name}.events"))[1]),
-            )
+            drawn = picture(rows_of(program, run)[1])
+            expect(f"whether {name}.svg is as it is drawn", True, file.read() == drawn)
 
 
 # What runs the program, and the stand-ins that some of it must find wrong.
