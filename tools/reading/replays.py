@@ -4,6 +4,7 @@ import datetime
 import os
 import re
 import shlex
+import shutil
 import subprocess
 import tempfile
 import threading
@@ -23,7 +24,7 @@ Event = namedtuple("Event", "moment source data")
 Said = namedtuple("Said", "number moment words sent")
 
 TOP = os.path.dirname(os.path.dirname(os.path.dirname(os.path.abspath(__file__))))
-PROGRAM = [os.path.join(TOP, "coap-proxyd")]
+LAUNCHER = os.path.join(TOP, "coap-proxyd")
 # The options that decide what a replay does. A file's head names no other to the program, which might write files.
 DECIDING = ("-P", "--config", "--map", "--id", "--salt")
 OUTCOMES = (
@@ -32,6 +33,20 @@ OUTCOMES = (
 )
 OUTCOME = re.compile(r"(?<!\S)(?:" + "|".join(OUTCOMES) + r")(?!\S)")
 TARGET = re.compile(r"(?<!\S)coaps?://\S+")
+
+
+def built_program():
+    """The program that is from these sources, or, away from these, the one that is installed. None is built for it."""
+    if not os.path.exists(LAUNCHER):
+        installed = shutil.which("coap-proxyd")
+        if installed is None:
+            raise Bad("coap-proxyd isn't installed: --program says where it is")
+        return [installed]
+    which = [LAUNCHER, "--which"]
+    done = subprocess.run(which, stdin=subprocess.DEVNULL, stdout=subprocess.PIPE, stderr=subprocess.PIPE)
+    if done.returncode:
+        raise Bad("no program is from these sources: ./coap-proxyd --build builds it, or --program names another")
+    return [os.fsdecode(done.stdout).strip()]
 
 
 def outcome_of(words):

@@ -12,7 +12,7 @@ from checking.configuration import SHARED, member
 from checking.toml_lines import read_toml
 from reading.captured import TICKS, captured, without_age
 from reading.captures import Bad, datagrams, is_capture
-from reading.replays import PROGRAM, Head, Replay, events_of, head_of, lines_of, outcome_of, replay_words
+from reading.replays import Head, Replay, built_program, events_of, head_of, lines_of, outcome_of, replay_words
 
 # What was seen at a moment in milliseconds: a datagram from a peer (inward) or to it, and what the program says of it.
 # Without a peer it is something that the proxy did without a datagram.
@@ -147,7 +147,6 @@ class CaptureRun:
 def open_run(path, words=(), program=None, at=None):
     """The run of a file, to be used in a `with`. The words are those that the proxy was started with, if the file
     doesn't have them, or others."""
-    program = program or PROGRAM
     if not os.path.isfile(path):
         raise Bad(f"{path} isn't a file")
     with open(path, "rb") as file:
@@ -155,6 +154,7 @@ def open_run(path, words=(), program=None, at=None):
     is_told = words or not is_capture(start) and (head_of(path).words or head_of(path).recorded)
     if not is_told:
         raise Bad(f"put behind {path} the words that the proxy was started with, such as --map /t=coap://192.0.2.1/")
+    program = program or built_program()
     if is_capture(start):
         return CaptureRun(path, program, list(words), at)
     return EventRun(path, program, list(words))

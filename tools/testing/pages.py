@@ -190,7 +190,7 @@ def a_long_run(folder):
 def a_long_page_opens_at_once(program):
     with tempfile.TemporaryDirectory(prefix="coap-proxyd-test-") as folder:
         path, out = a_long_run(folder), os.path.join(folder, "long.html")
-        words = [sys.executable, LADDER, "--program", program[-1], path]
+        words = [sys.executable, LADDER, "--program", program[0], path]
         with open(out, "wb") as file:
             expect("the status", 0, subprocess.run(words, stdout=file, timeout=60).returncode)
         with Browser() as browser:
