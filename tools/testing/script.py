@@ -57,21 +57,31 @@ def check_sum(program):
         expect("which sums are new", [True, False, True, True], [it not in sums[:n] for n, it in enumerate(sums)])
 
 
-def installed(folder, prefix):
-    """The status of the script when it installs under a prefix, and its standard error."""
-    words = [os.path.join(folder, "coap-proxyd"), "--install", prefix]
+def installed(folder, prefix, word="--install"):
+    """The status of the script when it installs under a prefix, or takes that away again, and its standard error."""
+    words = [os.path.join(folder, "coap-proxyd"), word, prefix]
     env = {name: value for name, value in os.environ.items() if name != "DESTDIR"}
     done = subprocess.run(words, stdin=subprocess.DEVNULL, capture_output=True, env=env, timeout=20)
     return done.returncode, done.stderr.decode()
 
 
+def read(*names):
+    """The text of a file in a folder."""
+    with open(os.path.join(*names), encoding="utf-8") as file:
+        return file.read()
+
+
+def left_in(folder):
+    """The files and folders below a folder."""
+    return sorted(os.path.relpath(os.path.join(at, name), folder) for at, *names in os.walk(folder) for name in sum(names, []))
+
+
 def copy_sources(folder):
     """Puts a part of the repository into a folder, in which nothing is built."""
-    for name in ("coap-proxyd", "crates.txt", "docs/coap-proxyd.8"):
-        os.makedirs(os.path.dirname(os.path.join(folder, name)), exist_ok=True)
-        shutil.copy(os.path.join(TOP, name), os.path.join(folder, name))
-    shutil.copytree(os.path.join(TOP, "examples"), os.path.join(folder, "examples"))
-    shutil.copytree(os.path.join(TOP, "crates", "proxyd", "src"), os.path.join(folder, "crates", "proxyd", "src"))
+    for name in ("coap-proxyd", "crates.txt"):
+        shutil.copy(os.path.join(TOP, name), folder)
+    for name in ("docs", "examples", "tools", os.path.join("crates", "proxyd", "src")):
+        shutil.copytree(os.path.join(TOP, name), os.path.join(folder, name))
 
 
 def put_program(folder, name, program, noted):
@@ -128,6 +138,30 @@ def check_stale(program):
         expect("what is said", (1, "", f"{said}{path} runs as it is\n"), (done.returncode, done.stdout, done.stderr))
 
 
+def check_installed(program, prefix):
+    """Has no file that was installed name a place elsewhere, and its configuration and its tools work there."""
+    unit = read(prefix, "lib", "systemd", "system", "coap-proxyd.service")
+    expect("where the unit has it", True, f"\nExecStart={prefix}/sbin/coap-proxyd " in unit)
+    texts = {name: read(prefix, name) for name in left_in(prefix) if name.endswith((".conf", ".service", ".8", ".md"))}
+    expect("who names another prefix", [], [name for name, text in texts.items() if "/usr/local/" in text])
+    config = os.path.join(prefix, "etc", "coap-proxyd.toml")
+    words = [*program, "--replay", "--config", config]
+    expect("what the program says of it", 0, subprocess.run(words, stdin=subprocess.DEVNULL, timeout=20).returncode)
+    for name, words, wanted in (("check-config", [config], b"accepted\n"), ("ladder", ["--help"], None), ("watch", ["--help"], None)):
+        tool = os.path.join(prefix, "bin", f"coap-proxyd-{name}")
+        done = subprocess.run([tool, *words], stdin=subprocess.DEVNULL, capture_output=True, timeout=20)
+        expect(f"what {name} does", (0, b""), (done.returncode, done.stderr))
+        expect(f"what {name} says", True, wanted in (None, done.stdout))
+
+
+def check_uninstall(folder, prefix):
+    """Has the script leave a configuration that was changed, and no empty folder."""
+    with open(os.path.join(prefix, "etc", "coap-proxyd.toml"), "a") as file:
+        file.write("# mine\n")
+    expect("what comes of uninstalling", (0, ""), installed(folder, prefix, "--uninstall"))
+    expect("what stays", ["etc", os.path.join("etc", "coap-proxyd.toml")], left_in(prefix))
+
+
 def check_install(program):
     """Has the script install a program that was built here, where the one in bin/ is built from other sources."""
     with tempfile.TemporaryDirectory(prefix="coap-proxyd-test-") as folder:
@@ -137,8 +171,8 @@ def check_install(program):
         prefix = os.path.join(folder, "prefix")
         expect("what comes of it", (0, ""), installed(folder, prefix))
         expect("whether it may run", True, os.access(os.path.join(prefix, "sbin", "coap-proxyd"), os.X_OK))
-        with open(os.path.join(prefix, "lib", "systemd", "system", "coap-proxyd.service")) as file:
-            expect("where the unit has it", True, f"\nExecStart={prefix}/sbin/coap-proxyd " in file.read())
+        check_installed(program, prefix)
+        check_uninstall(folder, prefix)
         refused = "coap-proxyd: the prefix may have letters, digits and / . _ + - alone\n"
         expect("what comes of a blank", (2, refused), installed(folder, f"{prefix} of mine"))
 
