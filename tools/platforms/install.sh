@@ -5,12 +5,12 @@
 #   sh install.sh --remove   takes it away again, but for the configuration
 #
 # With procd (OpenWrt) or OpenRC (Alpine) it installs the program, its configuration and an init script, and with systemd
-# units and the manual, too. With DESTDIR=FOLDER in the environment all goes under that folder, and that says which of the
-# three it has.
+# all that is below usr/ in this folder, and the configuration. With DESTDIR=FOLDER in the environment all goes under that
+# folder, and that says which of the three it has.
 
 here=$(cd "$(dirname "$0")" && pwd) || exit 1
 program=/usr/sbin/coap-proxyd config=/etc/coap-proxyd.toml place=/etc/default/coap-proxyd init=/etc/init.d/coap-proxyd
-units=/usr/lib/systemd/system manual=/usr/share/man/man8/coap-proxyd.8 licence=/usr/share/doc/coap-proxyd/copyright
+licence=/usr/share/doc/coap-proxyd/copyright
 
 give_up() {
     echo "install.sh: $1" >&2
@@ -45,30 +45,51 @@ put_once() {
     fi
 }
 
-install_units() {
-    put "usr/lib/systemd/system/coap-proxyd.service" "$units/coap-proxyd.service" 644
-    put "usr/lib/systemd/system/coap-proxyd@.service" "$units/coap-proxyd@.service" 644
-    put "usr/share/man/man8/coap-proxyd.8" "$manual" 644
+# Puts what any system takes.
+install_program() {
+    put usr/sbin/coap-proxyd "$program" 755
+    put usr/share/doc/coap-proxyd/copyright "$licence" 644
+}
+
+# Prints the files and links below usr/ in this folder.
+all_files() {
+    (cd "$here" && find usr -type f -o -type l)
+}
+
+# Puts all of them where they belong.
+install_files() {
+    all_files | while read -r file; do
+        if [ -L "$here/$file" ]; then
+            mkdir -p "$DESTDIR/${file%/*}" && cp -P "$here/$file" "$DESTDIR/$file" || give_up "/$file can't be written"
+        elif [ -x "$here/$file" ]; then
+            put "$file" "/$file" 755
+        else
+            put "$file" "/$file" 644
+        fi
+    done || exit 1
+    [ -n "$DESTDIR" ] || systemd-sysusers coap-proxyd.conf || echo "systemd-sysusers didn't make the user coap-proxyd"
 }
 
 install_all() {
     "$here/usr/sbin/coap-proxyd" --version > /dev/null 2>&1 || [ -n "$DESTDIR" ] ||
         give_up "the program doesn't start here: this archive is for another processor"
-    put usr/sbin/coap-proxyd "$program" 755
-    put usr/share/doc/coap-proxyd/copyright "$licence" 644
     put_once etc/coap-proxyd.toml "$config"
     put_once etc/default/coap-proxyd "$place"
+    [ "$(supervisor)" = systemd ] || install_program
     case $(supervisor) in
         procd) put examples/coap-proxyd.procd "$init" 755 ;;
         openrc) put examples/coap-proxyd.openrc "$init" 755 ;;
-        systemd) install_units ;;
+        systemd) install_files ;;
         *) echo "This system has none of procd, OpenRC and systemd, so nothing starts it yet." ;;
     esac
 }
 
 remove_all() {
-    for file in "$program" "$licence" "$init" "$units/coap-proxyd.service" "$units/coap-proxyd@.service" "$manual"; do
-        [ ! -e "$DESTDIR$file" ] || rm "$DESTDIR$file" || give_up "$file can't be removed"
+    { all_files; echo "${init#/}"; } | while read -r file; do
+        rm -f "$DESTDIR/$file" || give_up "/$file can't be removed"
+    done || exit 1
+    for folder in lib/coap-proxyd share/coap-proxyd share/doc/coap-proxyd; do
+        [ ! -d "$DESTDIR/usr/$folder" ] || find "$DESTDIR/usr/$folder" -depth -type d -exec rmdir {} + 2> /dev/null
     done
     echo "$DESTDIR$config and $DESTDIR$place stay"
 }
