@@ -7,10 +7,13 @@ import tempfile
 from argparse import Namespace
 from collections import namedtuple
 
+from checking.configuration import LIMITS
 from checking.findings import judge
 from testing.network import expect
 
-SCRIPT = os.path.join(os.path.dirname(os.path.dirname(os.path.abspath(__file__))), "check-config")
+TOOLS = os.path.dirname(os.path.dirname(os.path.abspath(__file__)))
+SCRIPT = os.path.join(TOOLS, "check-config")
+PAGE = os.path.join(os.path.dirname(TOOLS), "docs", "coap-proxyd.toml.5")
 
 # A name, the words, the configuration, and the lines without the file's name.
 Said = namedtuple("Said", "name words text lines")
@@ -228,3 +231,11 @@ def check_said(said):
     expect("what it says", said.lines, done.stdout.decode().replace(f"{path}:", "").splitlines())
     status = {"accepted": 0, "refused": 1, "not judged": 3}[said.lines[-1].partition(":")[0]]
     expect("status", status, done.returncode)
+
+
+def check_page(_):
+    """Has the manual page of configurations tell each limit with its range and its default."""
+    with open(PAGE, encoding="utf-8") as file:
+        lines = set(file.read().splitlines())
+    for key, (least, most, usual) in LIMITS.items():
+        expect(f"whether the page has {key}", True, f".It {key} ({least} to {most}; {usual})" in lines)

@@ -177,15 +177,22 @@ def check_install(program):
         expect("what comes of a blank", (2, refused), installed(folder, f"{prefix} of mine"))
 
 
+def completed_words():
+    """The options that bash completes where no value is due."""
+    return set(re.search(r'-W "(-A [^"]*)"', read(TOP, "examples", "coap-proxyd.bash"))[1].split())
+
+
 def check_options(program):
     """Has the script know each option that the help of a program names, and no other."""
     text = subprocess.run([*program, "--help"], stdout=subprocess.PIPE, text=True, timeout=20).stdout
     options = OPTION.findall(text[text.index("\nOptions:") :])
     expect("how many options there are", True, len(options) > 10)
+    completed = completed_words()
     with tempfile.TemporaryDirectory(prefix="coap-proxyd-test-") as folder:
         for name in ("coap-proxyd", "crates.txt"):
             shutil.copy(os.path.join(TOP, name), folder)
         for option in options:
+            expect(f"whether bash completes {option[:2]}", set(), set(filter(None, option[:2])) - completed - {"-h", "-V"})
             for words in forms(*option):
                 expect(f"what is said of {words}", (1, " nothing is built from these sources yet"), said(folder, words))
         for words in (["--colour"], ["-q"], ["--replay", "run.events"]):
