@@ -177,6 +177,22 @@ def check_install(program):
         expect("what comes of a blank", (2, refused), installed(folder, f"{prefix} of mine"))
 
 
+def check_third_parties(_):
+    """Has the list of what others wrote name each crate of the kit that the program's crates stand on."""
+    uses = {}
+    for line in read(TOP, "crates.txt").splitlines():
+        name, _, others = line.partition("#")[0].partition(":")
+        uses[name.strip()] = others.split()
+    wanted, left = set(), ["proxyd"]
+    while left:
+        crate = left.pop()
+        wanted |= {crate} - set(uses)
+        left += uses.get(crate, [])
+    listed = set(re.findall(r"^\| `(\w+)` \|", read(TOP, "docs", "THIRD_PARTY.md"), re.MULTILINE))
+    expect("how many crates of the kit there are", True, len(wanted) > 5)
+    expect("which of them aren't listed", set(), wanted - listed)
+
+
 def completed_words():
     """The options that bash completes where no value is due."""
     return set(re.search(r'-W "(-A [^"]*)"', read(TOP, "examples", "coap-proxyd.bash"))[1].split())
