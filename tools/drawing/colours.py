@@ -1,5 +1,5 @@
-"""The colours of ladders and charts, in light and in dark. Colour-blind people tell those of the sorts apart, too (they
-are near those of Okabe and Ito); a shape and words say the same as each colour."""
+"""The colours of ladders and charts, in light and in dark. Those of the sorts have the hues of Okabe and Ito, as bright
+as it takes for colour-blind people to tell any two apart; a shape and words say the same as each colour."""
 
 # For each name the colour in light, and the one in dark.
 COLOURS = {
@@ -9,10 +9,10 @@ COLOURS = {
     "soft": ("#566373", "#9fb0c3"),
     "line": ("#c5ced8", "#3b4757"),
     "faint": ("#e6ebf0", "#232c38"),
-    "hit": ("#00875f", "#2fc999"),
-    "miss": ("#0067a6", "#5db8f0"),
-    "validation": ("#a8487f", "#e59ac6"),
-    "error": ("#c24a00", "#ff8f3f"),
+    "hit": ("#059566", "#35e0a0"),
+    "miss": ("#0e3f99", "#4aa0f0"),
+    "validation": ("#ce5bac", "#f29cc8"),
+    "error": ("#c64907", "#f08a35"),
     "plain": ("#66717e", "#9aa8b8"),
     "mark": ("#fff3c4", "#3a3413"),
     "over": ("#17202b0d", "#e7edf412"),

@@ -2,6 +2,7 @@
 
 from drawing import words
 from reading.belonging import sort_of
+from reading.endpoints import short_endpoint
 
 # A time in which nothing happened, in milliseconds, that is cut out.
 IDLE = 1000
@@ -18,7 +19,7 @@ class Ladder:
 
     def name_of(self, peer):
         """What an endpoint is called."""
-        return self.names.get(peer, peer)
+        return self.names.get(peer) or short_endpoint(peer)
 
     def subtitle(self):
         """When the run was, how long, and how much there is of it."""

@@ -4,6 +4,7 @@ only what is seen. All that peers chose is data: the page's policy runs no other
 from drawing import colours, words
 from drawing.parts import filled, json_text, part
 from reading.belonging import sort_of
+from reading.endpoints import short_endpoint
 
 SCRIPTS = ("places.js", "marks.js", "panel.js", "main.js")
 SORTS = ("plain", "hit", "miss", "validation", "error")
@@ -62,7 +63,7 @@ def data_of(ladder):
     rows = [row_data(row, lanes, places, strings) for row in ladder.rows]
     return {
         "since": ladder.since,
-        "lanes": [[ladder.name_of(peer), peer, int(peer in ladder.origins)] for peer in peers],
+        "lanes": [[ladder.name_of(peer), short_endpoint(peer), int(peer in ladder.origins)] for peer in peers],
         "strings": strings.all,
         "rows": rows,
     }

@@ -5,6 +5,7 @@ from drawing.ladder import IDLE
 from drawing.lines import attributes, element, escaped, fit, head, line, sign, text, text_width, title
 from drawing.parts import part
 from reading.belonging import sort_of
+from reading.endpoints import short_endpoint
 
 # Where things are: the column of times, the room between lanes, that for what stands at an arrow, and heights.
 TIMES, LANE, ROOM, EDGE = 92, 118, 328, 66
@@ -94,10 +95,11 @@ def note(places, row):
         return ""
     y, free = places.y[row.number], 1 if row.peer is None or places.x[row.peer] < places.proxy else -1
     sort = sort_of(row) if row.outcome != "again" else "plain"
+    room = places.width - places.proxy - 24 if free > 0 else places.proxy - TIMES - 24
     at = text(
         places.proxy + free * 14,
         y + 4.5,
-        fit(words_here, ROOM - 30, 13),
+        fit(words_here, room, 13),
         class_="note",
         text_anchor="start" if free > 0 else "end",
     )
@@ -132,7 +134,7 @@ def lifelines(ladder, places):
 def lane_head(ladder, places, x, peer, role):
     """What stands above a lane. Where lanes are close, it is slanted."""
     name = ladder.name_of(peer) if peer else "coap-proxyd"
-    below = peer if peer and name != peer else ""
+    below = short_endpoint(peer) if peer in ladder.names else ""
     if peer in ladder.clients and places.slanted:
         return text(
             0, 0, fit(name, 104, 11.5), class_="small", transform=f"translate({x + 3:g} {TOP - 14}) rotate(-50)"

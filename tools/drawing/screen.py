@@ -1,10 +1,10 @@
 """What a terminal shows of a running proxy's counts: lines of text, each with a style, at most so many columns wide."""
 
-import ipaddress
 import time
 
 from drawing.words import seconds_text
 from drawing.worst import ANSWERED, is_turned, worst_maps, worst_origins
+from reading.endpoints import short_endpoint
 
 # The styles of lines, which a terminal shows as it can.
 PLAIN, STRONG, GOOD, BAD, SOFT = "plain", "strong", "good", "bad", "soft"
@@ -152,17 +152,8 @@ class Frame:
             silent = "-" if it.silent is None else short(seconds_text(int(it.silent) * 1000), 9)
             mean = "-" if it.mean is None else seconds_text(round(it.mean * 1000))
             numbers = f"{rate(it.asked):>9}{rate(it.again):>9}{rate(it.errors):>10}{it.given_up_in_all:>9,.0f}"
-            line = f"{short(endpoint_text(it.name), room - 1):<{room}}{numbers}{mean:>9}{silent:>10}"
+            line = f"{short(short_endpoint(it.name), room - 1):<{room}}{numbers}{mean:>9}{silent:>10}"
             self.put(line, BAD if it.given_up else PLAIN)
-
-
-def endpoint_text(text):
-    """An endpoint with an IPv6 address in its short form."""
-    address, _, port = text.rpartition(":")
-    try:
-        return f"[{ipaddress.IPv6Address(address.strip('[]'))}]:{port}"
-    except ValueError:
-        return text
 
 
 def short(text, room):

@@ -4,6 +4,7 @@ from drawing import charts, colours, words
 from drawing.lines import element, escaped
 from drawing.parts import filled, part
 from reading.counting import TABLES
+from reading.endpoints import short_endpoint
 
 # How many rows a table has.
 ROWS = 15
@@ -147,5 +148,5 @@ def summary(counts, limits, since, names, title, remark=""):
     """A run's counts as HTML."""
     style = colours.style() + part("marks.css") + part("summary.css")
     texts = {"TITLE": title or "What a run of the proxy came to", "SUBTITLE": subtitle(counts, since, remark)}
-    inside = body(counts, limits, since, lambda name: names.get(name, name))
+    inside = body(counts, limits, since, lambda name: names.get(name) or short_endpoint(name))
     return filled("summary.html", style, "", texts, {"BODY": inside})

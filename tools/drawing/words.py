@@ -6,6 +6,7 @@ import re
 from reading import messages
 from reading.messages import ACK, CON, EMPTY, KINDS
 from reading.replays import cause_of
+from reading.runs import PERHAPS
 
 # Options that a line has beside the path, in this order, and how many bytes of a payload.
 TELLING = (messages.ETAG, messages.MAX_AGE, messages.OBSERVE, messages.BLOCK2, messages.BLOCK1)
@@ -98,6 +99,8 @@ def cut(payload, most):
 def note_text(row):
     """What is said at the proxy: the outcome and its cause, in the program's words, without what an arrow shows."""
     outcome, cause = row.outcome, cause_of(row.words)
+    if row.words.startswith(PERHAPS) and outcome not in PLAIN:
+        return PERHAPS + outcome
     if outcome == "hit":
         left = LEFT.search(cause)
         return f"hit, {left[1]} s left" if left else "hit"

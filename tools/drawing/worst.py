@@ -46,7 +46,7 @@ def origin_of(name, sums, rates):
     silent = [value for key, value in sums.items() if "since" in key[0]]
     return Origin(
         name, of_names(rates, "given_up", "gave_up"), of_names(sums, "given_up", "gave_up"),
-        of_names(rates, "retrans", "resent"), of_names(rates, "requests"),
+        of_names(rates, "retrans", "resent"), of_names(rates, "requests", "_sent"),
         sum(value for key, value in rates.items() if "answers" in key[0] and key[-1][:1] in "45"),
         of_names(sums, "", end="_sum") / answers if answers else None, max(silent, default=None),
     )

@@ -163,15 +163,20 @@ class Belonging:
         """A client's request."""
         self.requests += 1
         request = row.request = Request(self.requests, row)
-        self.waiting[row.peer, row.message.token].append(row)
+        waiting = self.waiting[row.peer, row.message.token]
+        waiting.append(row)
+        while waiting[0].moment < row.moment - LIFETIME:
+            waiting.popleft()
         if row.outcome == "opened":
             self.exchanges += 1
             exchange = request.exchange = row.exchange = Exchange(self.exchanges, request, row.code)
             self.pending.append(exchange)
             self.open[request.target].append(exchange)
-        elif row.outcome == "joined" and request.target in self.open:
-            exchange = request.exchange = row.exchange = self.open[request.target][-1]
-            exchange.members.append(request)
+        elif row.outcome == "joined":
+            same = [it for it in self.open.get(request.target, ()) if it.code == row.code]
+            if same:
+                request.exchange = row.exchange = same[-1]
+                same[-1].members.append(request)
         elif row.outcome == "hit":
             request.source = self.stored.get(request.target)
 
@@ -189,6 +194,8 @@ class Belonging:
             return
         exchange.closed = row
         self.ended = exchange
+        if exchange in self.pending:
+            self.pending.remove(exchange)
         same = self.open.get(exchange.target, [])
         if exchange in same:
             same.remove(exchange)

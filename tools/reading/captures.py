@@ -3,6 +3,8 @@
 import struct
 from collections import namedtuple
 
+from reading.endpoints import endpoint
+
 Datagram = namedtuple("Datagram", "at source to data")
 # The first bytes of a file in the older format, with its byte order and whether it counts nanoseconds, and those of one
 # in the newer.
@@ -97,13 +99,6 @@ def ip_of(link, data):
         return data[at:] if kind in (b"\x08\x00", b"\x86\xdd") else b""
     heads = {0: 4, 108: 4, 12: 0, 101: 0, 228: 0, 229: 0, 113: 16, 276: 20}
     return data[heads[link] :] if link in heads else b""
-
-
-def endpoint(ip, port):
-    """An endpoint as a replay has it."""
-    if len(ip) == 4:
-        return f"{'.'.join(map(str, ip))}:{port}"
-    return "[" + ":".join(f"{int.from_bytes(ip[n : n + 2], 'big'):x}" for n in range(0, 16, 2)) + f"]:{port}"
 
 
 def datagram(at, packet):

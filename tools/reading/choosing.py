@@ -4,6 +4,7 @@ import re
 
 from reading.belonging import Belonging
 from reading.captures import Bad
+from reading.endpoints import plain_endpoint
 
 # After so many rows, those that can't be chosen any more are forgotten.
 ROUND = 100_000
@@ -29,7 +30,8 @@ class Choice:
     """What is chosen: clients and origins by their endpoints, targets by a part of them, moments between two."""
 
     def __init__(self, clients=(), origins=(), targets=(), first=None, last=None):
-        self.clients, self.origins, self.targets = set(clients), set(origins), tuple(targets)
+        self.clients, self.origins = (set(map(plain_endpoint, some)) for some in (clients, origins))
+        self.targets = tuple(targets)
         self.first, self.last = first, last
 
     def is_all(self):

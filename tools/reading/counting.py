@@ -1,6 +1,6 @@
 """Counts of a run: answers over time, by target and by client, answer times of origins, and how full the tables were.
 
-All is counted while it is read, in memory that doesn't grow with the run."""
+All is counted while it is read. What is kept of datagrams is that of the last minutes, in which they may come again."""
 
 import heapq
 from collections import defaultdict

@@ -4,12 +4,14 @@ import datetime
 import os
 import re
 import shlex
+import shutil
 import subprocess
 import tempfile
 import threading
 from collections import namedtuple
 
 from reading.captures import Bad
+from reading.endpoints import plain_endpoint
 from reading.messages import shown_text
 
 # What a file says before its first event: the words of a replay, the lines of its configuration, when its first moment
@@ -22,7 +24,7 @@ Event = namedtuple("Event", "moment source data")
 Said = namedtuple("Said", "number moment words sent")
 
 TOP = os.path.dirname(os.path.dirname(os.path.dirname(os.path.abspath(__file__))))
-PROGRAM = [os.path.join(TOP, "coap-proxyd")]
+LAUNCHER = os.path.join(TOP, "coap-proxyd")
 # The options that decide what a replay does. A file's head names no other to the program, which might write files.
 DECIDING = ("-P", "--config", "--map", "--id", "--salt")
 OUTCOMES = (
@@ -31,6 +33,20 @@ OUTCOMES = (
 )
 OUTCOME = re.compile(r"(?<!\S)(?:" + "|".join(OUTCOMES) + r")(?!\S)")
 TARGET = re.compile(r"(?<!\S)coaps?://\S+")
+
+
+def built_program():
+    """The program that is from these sources, or, away from these, the one that is installed. None is built for it."""
+    if not os.path.exists(LAUNCHER):
+        installed = shutil.which("coap-proxyd")
+        if installed is None:
+            raise Bad("coap-proxyd isn't installed: --program says where it is")
+        return [installed]
+    which = [LAUNCHER, "--which"]
+    done = subprocess.run(which, stdin=subprocess.DEVNULL, stdout=subprocess.PIPE, stderr=subprocess.PIPE)
+    if done.returncode:
+        raise Bad("no program is from these sources: ./coap-proxyd --build builds it, or --program names another")
+    return [os.fsdecode(done.stdout).strip()]
 
 
 def outcome_of(words):
@@ -100,7 +116,7 @@ def head_of(path):
             since = moment_of(rest[len("since ") :])
         elif mark == "name:":
             endpoint, _, name = rest.partition(" ")
-            names[endpoint] = shown_text(name)
+            names[plain_endpoint(endpoint)] = shown_text(name)
         elif mark == "title:":
             title = shown_text(rest)
     return Head(words, config, since, names, title, recorded)
@@ -113,7 +129,7 @@ def event_of(line):
         return None
     try:
         data = b"" if len(words) == 3 or words[3] == "-" else bytes.fromhex(words[3])
-        return Event(int(words[0]), None if words[2] == "tick" else words[2], data)
+        return Event(int(words[0]), None if words[2] == "tick" else plain_endpoint(words[2]), data)
     except ValueError:
         return None
 

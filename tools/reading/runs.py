@@ -1,6 +1,7 @@
 """Runs of the proxy: what came and what was sent, in order, with the program's words, from a recording, a file of
 events or a capture."""
 
+import contextlib
 import itertools
 import os
 import shutil
@@ -11,12 +12,14 @@ from checking.configuration import SHARED, member
 from checking.toml_lines import read_toml
 from reading.captured import TICKS, captured, without_age
 from reading.captures import Bad, datagrams, is_capture
-from reading.replays import PROGRAM, Head, Replay, events_of, head_of, lines_of, outcome_of, replay_words
+from reading.replays import Head, Replay, built_program, events_of, head_of, lines_of, outcome_of, replay_words
 
 # What was seen at a moment in milliseconds: a datagram from a peer (inward) or to it, and what the program says of it.
 # Without a peer it is something that the proxy did without a datagram.
 Seen = namedtuple("Seen", "moment peer inward data words")
-AGREES = "from here on the capture agrees with a replay: what the proxy held before isn't known"
+AGREES = "the replay agrees from here on"
+# What stands before the words of a replay that doesn't agree yet: a capture may begin in the middle of a run.
+PERHAPS = "perhaps "
 
 
 def seen_of_event(event, said):
@@ -74,8 +77,9 @@ class EventRun:
     def seen(self):
         """What was seen, in order."""
         replay = Replay(self.program, self.words)
-        for event, said in zip(events_of(self.lines()), replay.said(self.lines())):
-            yield from seen_of_event(event, said)
+        with contextlib.closing(replay.said(self.lines())) as told:
+            for event, said in zip(events_of(self.lines()), told):
+                yield from seen_of_event(event, said)
         self.fault = replay.fault
 
 
@@ -133,20 +137,24 @@ class CaptureRun:
             yield Seen(moment, None, False, None, words)
 
     def with_doubt(self, rows, late):
-        """Rows with one that says from where on the replay agrees, if it doesn't from the start."""
-        if late and late < len(rows):
-            rows.insert(late, Seen(rows[late].moment, None, False, None, AGREES))
-        return rows
+        """Rows with one that says from where on the replay agrees, if it doesn't from the start. What the proxy held
+        before isn't known, so what the replay says of it may not be so."""
+        doubted = [it._replace(words=PERHAPS + it.words if it.inward else it.words) for it in rows[:late]]
+        agrees = [Seen(rows[late].moment, None, False, None, AGREES)] if 0 < late < len(rows) else []
+        return doubted + agrees + rows[late:]
 
 
 def open_run(path, words=(), program=None, at=None):
     """The run of a file, to be used in a `with`. The words are those that the proxy was started with, if the file
     doesn't have them, or others."""
-    program = program or PROGRAM
     if not os.path.isfile(path):
         raise Bad(f"{path} isn't a file")
     with open(path, "rb") as file:
         start = file.read(4)
+    is_told = words or not is_capture(start) and (head_of(path).words or head_of(path).recorded)
+    if not is_told:
+        raise Bad(f"put behind {path} the words that the proxy was started with, such as --map /t=coap://192.0.2.1/")
+    program = program or built_program()
     if is_capture(start):
         return CaptureRun(path, program, list(words), at)
     return EventRun(path, program, list(words))

@@ -165,6 +165,12 @@ def what_went_wrong_is_found_by_a_click(program):
         browser.click("#troubles li button")
         lit = browser.evaluate(f"{LIT}.map(place => laneOf(place)[0])")
         expect("whose rows are lit", ["127.0.0.1:40001"] * 2, lit)
+        browser.click("#datagram button.only")
+        expect("what is shown of all", 2, browser.evaluate(SHOWN))
+        browser.click("#datagram button.only")
+        browser.evaluate("document.getElementById('words').value = '40007', look()")
+        browser.click(".kinds button")
+        expect("what went wrong for another client", 2, browser.evaluate("troubles.groups.length"))
 
 
 def a_long_run(folder):
@@ -184,8 +190,9 @@ def a_long_run(folder):
 def a_long_page_opens_at_once(program):
     with tempfile.TemporaryDirectory(prefix="coap-proxyd-test-") as folder:
         path, out = a_long_run(folder), os.path.join(folder, "long.html")
+        words = [sys.executable, LADDER, "--program", program[0], path]
         with open(out, "wb") as file:
-            expect("the status", 0, subprocess.run([sys.executable, LADDER, path], stdout=file, timeout=60).returncode)
+            expect("the status", 0, subprocess.run(words, stdout=file, timeout=60).returncode)
         with Browser() as browser:
             expect_between("seconds until it is drawn", 0, SECONDS, browser.open(out))
             expect("how many datagrams there are", MANY, browser.evaluate("rows.length"))

@@ -2,6 +2,7 @@
 that what peers choose is text in it."""
 
 import html.parser
+import itertools
 import json
 import os
 import re
@@ -9,7 +10,7 @@ import tempfile
 import time
 import xml.etree.ElementTree
 
-from drawing import charts, page, words
+from drawing import charts, colours, page, words
 from drawing.picture import picture
 from drawing.summary import summary
 from reading import captures, messages, replays
@@ -19,7 +20,7 @@ from reading.counting import TABLES
 from testing.captures import capture
 from testing.coap import BLOCK2, CON, CONTENT, GET, MAX_AGE, NON, PUT, URI_PATH, number_bytes
 from testing.drawn import ODD, PICTURES, SLEEPING, WORKED, counts_of_file, limits, odd_names, odd_run, rows_of
-from testing.network import PATIENCE, Failed, case_list, expect
+from testing.network import PATIENCE, Failed, case_list, expect, expect_between
 from testing.statistics import await_metric, metrics
 from testing.steps import T
 
@@ -121,6 +122,25 @@ def a_capture_is_drawn_as_its_replay(program):
         ]
         expect(name, told(worked_rows(program, name)), told(seen[0]))
         expect("when it was", 1_000_000, seen[1].since)
+
+
+# A Confirmable request for a path without a map, and its answer.
+LATER = b"\n10000 0 127.0.0.1:40002 410100090AB175\n# > 127.0.0.1:40002 618400090A\n"
+
+
+def a_capture_that_begins_late_is_doubted(program):
+    with open(os.path.join(WORKED, "hit_aged.events"), "rb") as file:
+        events = file.read()
+    start = events.index(b"\n9001 ") + 1
+    head = replays.head_of(os.path.join(WORKED, "hit_aged.events"))
+    with tempfile.TemporaryDirectory(prefix="coap-proxyd-test-") as folder:
+        path = os.path.join(folder, "run.pcap")
+        with open(path, "wb") as file:
+            file.write(capture(events[start:] + LATER))
+        rows, _ = rows_of(program, path, replays.deciding_words(head.words))
+    notes = [words.note_text(row) for row in rows]
+    wanted = ["perhaps opened", "not in the replay", "the replay agrees from here on", "refused 4.04 no map", ""]
+    expect("what is said at the proxy", wanted, notes)
 
 
 def what_belongs_to_the_chosen_is_there(program):
@@ -279,22 +299,66 @@ def the_tables_of_a_summary_are_those_that_are_held(stage):
     expect("the tables", wanted, shown)
 
 
+# How each kind of colour blindness mixes red, green and blue light, at its strongest (Machado and others, 2009).
+SIGHTS = {
+    "normal": ((1, 0, 0), (0, 1, 0), (0, 0, 1)),
+    "protan": ((0.152, 1.053, -0.205), (0.115, 0.786, 0.099), (-0.004, -0.048, 1.052)),
+    "deutan": ((0.367, 0.861, -0.228), (0.280, 0.673, 0.047), (-0.012, 0.043, 0.969)),
+    "tritan": ((1.256, -0.077, -0.179), (-0.078, 0.931, 0.148), (0.005, 0.691, 0.304)),
+}
+XYZ = ((0.4124, 0.3576, 0.1805), (0.2126, 0.7152, 0.0722), (0.0193, 0.1192, 0.9505))
+
+
+def mixed(matrix, values):
+    """Values that a matrix mixes, none below 0 or above 1."""
+    return [min(1, max(0, sum(a * b for a, b in zip(row, values)))) for row in matrix]
+
+
+def light_of(colour):
+    """The red, green and blue light of a colour such as #0e3f99."""
+    parts = (int(colour[place : place + 2], 16) / 255 for place in (1, 3, 5))
+    return [it / 12.92 if it <= 0.04045 else ((it + 0.055) / 1.055) ** 2.4 for it in parts]
+
+
+def lab_of(light):
+    """Light in the space CIELAB, in which distances are about as great as they look."""
+    root = lambda it: it ** (1 / 3) if it > 0.008856 else 7.787 * it + 16 / 116
+    x, y, z = (root(it / white) for it, white in zip(mixed(XYZ, light), (0.9505, 1, 1.0888)))
+    return 116 * y - 16, 500 * (x - y), 200 * (y - z)
+
+
+def the_colours_are_told_apart(program):
+    brightness = lambda colour: mixed(XYZ, light_of(colour))[1] + 0.05
+    for place, least in ((0, 25), (1, 20)):
+        chosen = {sort: colours.COLOURS[sort][place] for sort, _ in colours.SORTS}
+        for sight, matrix in SIGHTS.items():
+            seen = {sort: lab_of(mixed(matrix, light_of(colour))) for sort, colour in chosen.items()}
+            for one, other in itertools.combinations(seen, 2):
+                apart = sum((a - b) ** 2 for a, b in zip(seen[one], seen[other])) ** 0.5
+                expect_between(f"{one} and {other} for {sight} sight", least, 200, apart)
+        paper = colours.COLOURS["paper"][place]
+        texts = (("ink", 7), ("soft", 4.5), ("plain", 4.5), ("error", 4.5))
+        for name, contrast in (*((sort, 3) for sort in chosen), *texts):
+            bright = sorted(map(brightness, (paper, colours.COLOURS[name][place])))
+            expect_between(f"the contrast of {name} (WCAG 2.2, 1.4.3 and 1.4.11)", contrast, 21, bright[1] / bright[0])
+
+
 def the_pictures_are_up_to_date(program):
-    for name in sorted(it[: -len(".events")] for it in os.listdir(PICTURES) if it.endswith(".events")):
+    events = [os.path.join(PICTURES, it) for it in sorted(os.listdir(PICTURES)) if it.endswith(".events")]
+    for run in (SLEEPING, *events):
+        name = os.path.basename(run)[: -len(".events")]
         with open(os.path.join(PICTURES, f"{name}.svg"), encoding="utf-8", newline="") as file:
-            expect(
-                f"whether {name}.svg is as it is drawn",
-                True,
-                file.read() == picture(rows_of(program, os.path.join(PICTURES, f"{name}.events"))[1]),
-            )
+            drawn = picture(rows_of(program, run)[1])
+            expect(f"whether {name}.svg is as it is drawn", True, file.read() == drawn)
 
 
 # What runs the program, and the stand-ins that some of it must find wrong.
 ENDS = (
     a_valve_that_sleeps_has_each_sort, a_joined_request_belongs_to_the_exchange, a_silent_origin_is_named,
     duplicates_repeat_the_first, who_is_turned_away_is_told_why, a_capture_is_drawn_as_its_replay,
-    what_belongs_to_the_chosen_is_there, a_picture_holds_odd_bytes_as_text, a_page_holds_odd_bytes_as_data,
-    a_summary_counts_each_answer_once, the_pictures_are_up_to_date,
+    a_capture_that_begins_late_is_doubted, what_belongs_to_the_chosen_is_there, a_picture_holds_odd_bytes_as_text,
+    a_page_holds_odd_bytes_as_data, a_summary_counts_each_answer_once, the_colours_are_told_apart,
+    the_pictures_are_up_to_date,
 )
 WRONG = (
     ("DigitChanged", the_pictures_are_up_to_date), ("CommentLost", who_is_turned_away_is_told_why),

@@ -138,7 +138,7 @@ def too_many_are_refused_with_a_hint(program):
             for number in range(2_000_000):
                 file.write(f"{number} 0 127.0.0.1:{1024 + number % 60_000} 5001{number % 65_536:04X}B174\n")
         done = subprocess.run(
-            [sys.executable, LADDER, path], stdout=subprocess.PIPE, stderr=subprocess.PIPE, timeout=50
+            [sys.executable, LADDER, "--program", program[0], path], stdout=subprocess.PIPE, stderr=subprocess.PIPE, timeout=50
         )
         expect("the status and the output", (2, b""), (done.returncode, done.stdout))
         expect(

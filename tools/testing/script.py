@@ -1,6 +1,7 @@
 """The script that runs the program: where none is built, it refuses what the program would refuse, and nothing else. Its
 sum over the sources is that of the program's crates."""
 
+import functools
 import os
 import re
 import shutil
@@ -108,6 +109,23 @@ def check_choice(program):
         expect("which it is", (0, f"{path}\n", ""), which(folder))
         put_program(folder, f"bin/coap-proxyd-{machine}", program[-1], b"1 2\n")
         expect("what is said of other sources", (1, "", none), which(folder))
+
+
+def check_stale(program):
+    """Has the script give the help, and say what can be done, where bin/ is of other sources and there is no kit."""
+    with tempfile.TemporaryDirectory(prefix="coap-proxyd-test-") as folder:
+        copy_sources(folder)
+        path = put_program(folder, f"bin/coap-proxyd-{os.uname().machine}", program[-1], b"1 2\n")
+        env = {**os.environ, "PATH": "/usr/bin:/bin"}
+        run = functools.partial(subprocess.run, stdin=subprocess.DEVNULL, capture_output=True, text=True, timeout=20, env=env)
+        script = os.path.join(folder, "coap-proxyd")
+        for words in (["--help"], ["-A", "::1", "--help"], ["-p", "5683", "--version"]):
+            wanted = run([*program, *words])
+            done = run([script, *words])
+            expect(f"what comes of {words}", (0, wanted.stdout, ""), (done.returncode, done.stdout, done.stderr))
+        done = run([script, "--replay"])
+        said = "coap-proxyd: the sources were changed since bin/ was made, and rt isn't in PATH to build them; "
+        expect("what is said", (1, "", f"{said}{path} runs as it is\n"), (done.returncode, done.stdout, done.stderr))
 
 
 def check_install(program):

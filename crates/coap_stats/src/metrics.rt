@@ -94,20 +94,41 @@ fn put_head(out: &mut Vec<u8>, metric: Metric) -> Result<(), OutOfMemory> {
     put(out, b"\n")
 }
 
-/// Adds a metric that has one number.
-fn put_metric(out: &mut Vec<u8>, metric: Metric, number: u64) -> Result<(), OutOfMemory> {
+/// Adds the label that tells a proxy from others on its host, behind the name of a metric.
+fn put_listen(out: &mut Vec<u8>, name: &str, listen: &str) -> Result<(), OutOfMemory> {
+    put(out, name.as_bytes())?;
+    put(out, b"{listen=\"")?;
+    put(out, listen.as_bytes())?;
+    put(out, b"\"")
+}
+
+/// Adds a metric that has one number: `NAME{listen="LISTEN"} NUMBER`.
+fn put_metric(
+    out: &mut Vec<u8>,
+    listen: &str,
+    metric: Metric,
+    number: u64,
+) -> Result<(), OutOfMemory> {
     put_head(out, metric)?;
-    put(out, metric.name.as_bytes())?;
-    put(out, b" ")?;
+    put_listen(out, metric.name, listen)?;
+    put(out, b"} ")?;
     put_number(out, number)?;
     put(out, b"\n")
 }
 
-/// Adds the line of one of a metric's numbers: `NAME{LABEL="KEY"} NUMBER`.
-fn put_sample(out: &mut Vec<u8>, name: &str, label: &str, word: Word) -> Result<(), OutOfMemory> {
-    put(out, name.as_bytes())?;
-    put(out, b"{")?;
-    put(out, label.as_bytes())?;
+/// A metric that has several numbers, told apart by a label.
+#[derive(Clone, Copy)]
+struct Family<'a> {
+    metric: Metric,
+    label: &'static str,
+    listen: &'a str,
+}
+
+/// Adds the line of one of a metric's numbers: `NAME{listen="LISTEN",LABEL="KEY"} NUMBER`.
+fn put_sample(out: &mut Vec<u8>, family: Family<'_>, word: Word) -> Result<(), OutOfMemory> {
+    put_listen(out, family.metric.name, family.listen)?;
+    put(out, b",")?;
+    put(out, family.label.as_bytes())?;
     put(out, b"=\"")?;
     put(out, word.key.as_bytes())?;
     put(out, b"\"} ")?;
@@ -116,83 +137,90 @@ fn put_sample(out: &mut Vec<u8>, name: &str, label: &str, word: Word) -> Result<
 }
 
 /// Adds the lines of several of a metric's numbers.
-fn put_samples(
-    out: &mut Vec<u8>,
-    metric: Metric,
-    label: &str,
-    words: &[Word],
-) -> Result<(), OutOfMemory> {
+fn put_samples(out: &mut Vec<u8>, family: Family<'_>, words: &[Word]) -> Result<(), OutOfMemory> {
     for word in words {
-        put_sample(out, metric.name, label, *word)?;
+        put_sample(out, family, *word)?;
     }
     Ok(())
 }
 
 /// Adds the metrics that have one number each.
-fn put_traffic(out: &mut Vec<u8>, tally: &Tally) -> Result<(), OutOfMemory> {
-    put_metric(out, UPTIME, tally.last / 1000)?;
-    put_metric(out, RECEIVED, tally.received)?;
-    put_metric(out, SENT, tally.sent)?;
-    put_metric(out, SEND_FAULTS, tally.send_faults)?;
-    put_metric(out, LOST, tally.lost)?;
-    put_metric(out, RESENT, tally.resent)?;
-    put_metric(out, GAVE_UP, tally.gave_up)
+fn put_traffic(out: &mut Vec<u8>, listen: &str, tally: &Tally) -> Result<(), OutOfMemory> {
+    put_metric(out, listen, UPTIME, tally.last / 1000)?;
+    put_metric(out, listen, RECEIVED, tally.received)?;
+    put_metric(out, listen, SENT, tally.sent)?;
+    put_metric(out, listen, SEND_FAULTS, tally.send_faults)?;
+    put_metric(out, listen, LOST, tally.lost)?;
+    put_metric(out, listen, RESENT, tally.resent)?;
+    put_metric(out, listen, GAVE_UP, tally.gave_up)
 }
 
 /// Adds the counts of requests and of answers.
-fn put_outcomes(out: &mut Vec<u8>, tally: &Tally) -> Result<(), OutOfMemory> {
+fn put_outcomes(out: &mut Vec<u8>, listen: &str, tally: &Tally) -> Result<(), OutOfMemory> {
+    let requests = Family {
+        metric: REQUESTS,
+        label: "outcome",
+        listen,
+    };
+    let answers = Family {
+        metric: ANSWERS,
+        label: "storing",
+        listen,
+    };
     put_head(out, REQUESTS)?;
-    put_samples(out, REQUESTS, "outcome", &request_words(&tally.requests))?;
-    put_samples(
-        out,
-        REQUESTS,
-        "outcome",
-        &refusal_words(&tally.requests.refused),
-    )?;
+    put_samples(out, requests, &request_words(&tally.requests))?;
+    put_samples(out, requests, &refusal_words(&tally.requests.refused))?;
     put_head(out, ANSWERS)?;
-    put_samples(out, ANSWERS, "storing", &answer_words(&tally.answers))
+    put_samples(out, answers, &answer_words(&tally.answers))
 }
 
 /// Adds the line of what a proxy holds of one kind, or may hold.
 fn put_share(
     out: &mut Vec<u8>,
+    listen: &str,
     metric: Metric,
-    share: Share,
-    number: u64,
+    (share, number): (Share, u64),
 ) -> Result<(), OutOfMemory> {
+    let family = Family {
+        metric,
+        label: "what",
+        listen,
+    };
     let word = Word {
         key: share.key,
         number,
     };
-    put_sample(out, metric.name, "what", word)
+    put_sample(out, family, word)
 }
 
 /// Adds what a proxy holds, and what it may hold.
-fn put_held(out: &mut Vec<u8>, shares: &[Share]) -> Result<(), OutOfMemory> {
+fn put_held(out: &mut Vec<u8>, listen: &str, shares: &[Share]) -> Result<(), OutOfMemory> {
     put_head(out, HELD)?;
     for share in shares {
-        put_share(out, HELD, *share, share.count)?;
+        put_share(out, listen, HELD, (*share, share.count))?;
     }
     put_head(out, LIMIT)?;
     for share in shares {
-        put_share(out, LIMIT, *share, share.limit)?;
+        put_share(out, listen, LIMIT, (*share, share.limit))?;
     }
     Ok(())
 }
 
 /// Adds the counts as metrics, each with its help and its type: what turns did, by its outcome where
 /// there are several; then what the proxy holds, and its limits. The numbers and their keys are
-/// those of `put_line`.
+/// those of `put_line`. Each has the label `listen`, where this proxy listens, such as
+/// `0.0.0.0:5683`: by that it is told from others on its host.
 ///
 /// # Errors
 /// Out of memory. Part of the text was added then.
 pub fn put_metrics(
     out: &mut Vec<u8>,
+    listen: &str,
     tally: &Tally,
     counts: &Counts,
     limits: &LimitValues,
 ) -> Result<(), OutOfMemory> {
-    put_traffic(out, tally)?;
-    put_outcomes(out, tally)?;
-    put_held(out, &shares(counts, limits))
+    put_traffic(out, listen, tally)?;
+    put_outcomes(out, listen, tally)?;
+    put_held(out, listen, &shares(counts, limits))
 }

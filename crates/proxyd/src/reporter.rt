@@ -2,12 +2,13 @@
 ghost use Rattle.std.specs.Prelude.{◌≡◌, ◌<◌, ◌≤◌, IfOk, IfSome};
 ghost use Rattle.coap_stats.specs.Clock.{period_of};
 
-use coap_core::{Core, Counts, LimitValues};
+use coap_core::{Core, Counts, Endpoint, Ip, LimitValues};
 use coap_message::{LAST_MOMENT, Moment, OutOfMemory};
 use coap_proxyd::{Fault, Plan, Seen, Watch};
 use coap_stats::{StandingClock, Tally, period_end, period_of, put_line, put_metrics};
 use coap_store::Store;
 use std::io::Write;
+use std::net::{IpAddr, Ipv4Addr, Ipv6Addr, SocketAddr};
 use std::{fs, io};
 
 /// A file that is written beside its name, and then takes it, so that it is never read in part.
@@ -15,6 +16,8 @@ use std::{fs, io};
 struct StatsFile {
     path: String,
     beside: String,
+    /// Where the proxy listens, as an address and a port.
+    listen: String,
 }
 
 /// Writes counts once in a period: a line to standard error, and a file. What can't be written
@@ -47,7 +50,18 @@ fn stats_file(rt: &HostRuntime, plan: &Plan) -> Result<Option<StatsFile>, OutOfM
     Ok(Some(StatsFile {
         path: String::from_str(rt.alloc(), path.as_str())?,
         beside: format!(in rt.alloc(); "{path}.tmp")?,
+        listen: listen_text(rt, plan.local)?,
     }))
+}
+
+/// An endpoint as a text, with an IPv6 address in brackets.
+fn listen_text(rt: &HostRuntime, local: Endpoint) -> Result<String, OutOfMemory> {
+    let address = match local.ip {
+        Ip::V4(octets) => IpAddr::V4(Ipv4Addr::from_octets(octets)),
+        Ip::V6(octets) => IpAddr::V6(Ipv6Addr::from_octets(octets)),
+    };
+    let socket = SocketAddr::new(address, local.port);
+    Ok(format!(in rt.alloc(); "{socket}")?)
 }
 
 impl<'a> Reporter<'a> {
@@ -98,7 +112,8 @@ impl<'a> Reporter<'a> {
             return Ok(());
         };
         self.text.clear();
-        if put_metrics(&mut self.text, &self.tally, counts, &self.limits).is_err() {
+        let listen = file.listen.as_str();
+        if put_metrics(&mut self.text, listen, &self.tally, counts, &self.limits).is_err() {
             return Err(io::Error::from(io::ErrorKind::OutOfMemory));
         }
         fs::write(self.rt, file.beside.as_str(), self.text.as_slice())?;

@@ -3,9 +3,9 @@
 use crate::expected::expected_of;
 use crate::run::planned;
 use coap_cache::Store;
-use coap_core::{Core, Counts, Datagram, Event, OutOfMemory, Outcome, Report, Storing};
+use coap_core::{Core, Counts, Datagram, OutOfMemory, Outcome, Report, Storing};
 use coap_lines::{LONGEST, Turn, is_skipped, line_buffer, put_line, read_turn};
-use coap_proxyd::Plan;
+use coap_proxyd::{Plan, Seen};
 use std::alloc::Global;
 use std::io;
 use std::io::ErrorKind;
@@ -106,14 +106,11 @@ impl<S: Store + Drop> Player<S> {
         if self.core.events() >= MOST_EVENTS || self.output.room() < self.core.datagram() {
             return Err("there are too many events, or there is no room for a datagram");
         }
-        let event = match turn.from {
-            Some(from) => Event::Datagram {
-                from,
-                bytes: self.input.bytes(),
-            },
-            None => Event::Tick,
-        };
-        Ok(self.core.step(turn.now, turn.draw, event, &mut self.output))
+        let seen = Seen::begun(turn.now, turn.draw, turn.from, self.input.bytes());
+        Ok(
+            self.core
+                .step(turn.now, turn.draw, seen.event, &mut self.output),
+        )
     }
 
     /// Whether a step with this report takes no memory, as `Core::step` promises.

@@ -95,12 +95,12 @@ function drawRuler() {
 function layOut() {
   const middle = view.shown[firstFrom(view.shown.length, n => view.tops[n] < ladder.scrollTop)];
   const keep = state.on >= 0 ? state.on : middle;
-  state.at = lanePlaces(ladder.clientWidth);
-  view.step = state.at.narrow ? 56 : 44;
   view.shown = [];
   rows.forEach((row, place) => {
     if (state.sorts.has(sorts[row[SORT]]) && (!state.matches || state.matches.has(place))) view.shown.push(place);
   });
+  state.at = lanePlaces(ladder.clientWidth);
+  view.step = state.at.narrow ? 56 : 44;
   placeRows();
   sheet.style.height = `${view.height}px`;
   sheet.style.width = `${state.at.all}px`;
@@ -144,6 +144,16 @@ function putOut() {
   showAll();
   showDatagram(-1);
   showTroubles(lightUp, -1);
+}
+
+// Leaves only what is lit to be seen, or shows all again.
+function toggleLit() {
+  if (state.matches || !state.lit.size) showAll();
+  else {
+    state.matches = new Set(state.lit);
+    layOut();
+  }
+  showDatagram(state.on);
 }
 
 function showAll() {
@@ -192,6 +202,9 @@ function look() {
   if (text !== search.text) {
     search.text = text;
     search.places = matchesOf(text);
+    troubles.found = text.trim() ? new Set(search.places) : null;
+    groupTroubles();
+    showTroubles(lightUp, state.on);
   }
   const found = search.places;
   document.getElementById("found").textContent = text.trim() ? `${found.length.toLocaleString("en")} found` : "";
@@ -247,7 +260,7 @@ const KEYS = {
   "]": () => stepAmong([...state.lit].sort((one, other) => one - other), true),
   "[": () => stepAmong([...state.lit].sort((one, other) => one - other), false),
   e: () => stepAmong(troubles.all, true), E: () => stepAmong(troubles.all, false),
-  s: toggleScale, "+": () => zoom(2), "-": () => zoom(0.5), Escape: putOut,
+  o: toggleLit, s: toggleScale, "+": () => zoom(2), "-": () => zoom(0.5), Escape: putOut,
   "/": () => document.getElementById("words").focus(), "?": () => document.getElementById("keys").showModal(),
 };
 

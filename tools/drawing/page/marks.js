@@ -162,7 +162,7 @@ function shade(order, at) {
 function livesOf(at) {
   let before = -10;
   const out = [["life proxy", at.proxy]];
-  for (const x of [...at.x].sort((one, other) => one - other)) {
+  for (const x of at.sides.flat().map(lane => at.x[lane]).sort((one, other) => one - other)) {
     if (x - before < 3) continue;
     out.push([x - before < 14 ? "life close" : "life", x]);
     before = x;
@@ -201,7 +201,7 @@ function tie(first, again, at) {
 
 // What stands above the lanes of one side: a name for each, or how many there are.
 function sideHeads(at, origin, put) {
-  const here = lanes.map((lane, place) => [lane, place]).filter(([lane]) => lane[2] === origin);
+  const here = at.sides[origin].map(place => [lanes[place], place]);
   const role = origin ? "origin" : "client", named = origin ? at.namedOrigins : at.namedClients;
   const edge = origin ? (at.narrow ? at.all - 14 : at.right - 20) : at.narrow ? 8 : at.first - 6;
   const anchor = origin && at.narrow ? "end" : "start";

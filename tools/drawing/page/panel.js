@@ -57,21 +57,30 @@ function datagramCard(place) {
   return out;
 }
 
+// A button that leaves only what is lit to be seen.
+function litButton() {
+  if (!state.lit.size) return [];
+  const button = html("button", "only", state.matches ? "Show all again" : `Show only what is lit (${state.lit.size})`);
+  button.type = "button";
+  button.addEventListener("click", toggleLit);
+  return [button];
+}
+
 function showDatagram(place) {
-  const panel = document.getElementById("datagram");
+  const panel = document.getElementById("datagram"), head = html("h2", "", "Datagram");
   if (place < 0) {
     const hint = html("p", "hint", "Point at a datagram to see it decoded. Click it to light up all that belongs to ",
       "it: what it opened or joined, the answer, and what was sent again. Keys: ?");
-    panel.replaceChildren(html("h2", "", "Datagram"), hint);
+    panel.replaceChildren(head, hint);
     return;
   }
-  panel.replaceChildren(html("h2", "", "Datagram"), ...datagramCard(place));
+  panel.replaceChildren(head, ...datagramCard(place), ...litButton());
   panel.scrollTop = 0;
 }
 
 // What went wrong: the kinds of it, and each case with its client and its target.
 const SEVERITY = [/^5\./, /^no answer/, /^gave up/, /^dropped/, /^not ack/, /^rejected/, /^4\./, /^ignored/];
-const troubles = {all: [], kinds: new Map(), kind: "", most: 100};
+const troubles = {all: [], kinds: new Map(), groups: [], kind: "", most: 100, found: null};
 
 function severity(kind) {
   const place = SEVERITY.findIndex(pattern => pattern.test(kind));
@@ -85,6 +94,7 @@ function findTroubles() {
     const kind = strings[row[TROUBLE]];
     troubles.kinds.set(kind, (troubles.kinds.get(kind) || 0) + 1);
   });
+  groupTroubles();
 }
 
 // Why a request was turned away, in the program's words, or what it says at the row itself.
@@ -100,13 +110,29 @@ function whoOf(place) {
   return peer === undefined ? "the proxy" : laneOf(peer)[0];
 }
 
-function troubleItem(place, choose, on) {
-  const row = rows[place], peer = whoOf(place), why = causeOf(place);
-  const button = html("button", on ? "on" : "", html("span", "at", timeText(row[MOMENT])),
-    html("span", "who", html("b", "", strings[row[TROUBLE]]), ` ${peer}`),
+// Finds the troubles that are listed: those of one kind, peer, target and cause together, in the order in which they
+// began.
+function groupTroubles() {
+  const groups = new Map();
+  for (const place of troubles.all) {
+    if (troubles.found && !troubles.found.has(place)) continue;
+    if (troubles.kind && partOf(place, TROUBLE) !== troubles.kind) continue;
+    const key = [rows[place][TROUBLE], whoOf(place), rows[place][TARGET], causeOf(place)].join("\n");
+    if (groups.has(key)) groups.get(key).push(place);
+    else groups.set(key, [place]);
+  }
+  troubles.groups = [...groups.values()];
+}
+
+// A line for such troubles. A click goes to the first, the next one to the next.
+function troubleItem(places, choose, on) {
+  const place = places[0], row = rows[place], peer = whoOf(place), why = causeOf(place);
+  const many = places.length > 1 ? html("b", "many", ` × ${places.length.toLocaleString("en")}`) : "";
+  const button = html("button", places.includes(on) ? "on" : "", html("span", "at", timeText(row[MOMENT])),
+    html("span", "who", html("b", "", strings[row[TROUBLE]]), ` ${peer}`, many),
     html("span", "what", [strings[row[TARGET]], why].filter(part => part).join(" · ")));
   button.type = "button";
-  button.addEventListener("click", () => choose(place));
+  button.addEventListener("click", () => choose(places[(places.indexOf(on) + 1) % places.length]));
   return html("li", "", button);
 }
 
@@ -122,14 +148,14 @@ function showTroubles(choose, on) {
     button.addEventListener("click", () => {
       troubles.kind = troubles.kind === kind ? "" : kind;
       troubles.most = 100;
+      groupTroubles();
       showTroubles(choose, on);
     });
     buttons.append(button);
   }
-  const chosen = troubles.all.filter(place => !troubles.kind || partOf(place, TROUBLE) === troubles.kind);
-  const items = chosen.slice(0, troubles.most).map(place => troubleItem(place, choose, on === place));
-  const none = html("p", "hint", "Nothing: each request has its answer.");
-  panel.replaceChildren(head, buttons, items.length ? html("ul", "list", ...items) : none);
+  const chosen = troubles.groups, items = chosen.slice(0, troubles.most).map(places => troubleItem(places, choose, on));
+  const nothing = troubles.all.length ? "None of what is found." : "Nothing: each request has its answer.";
+  panel.replaceChildren(head, buttons, items.length ? html("ul", "list", ...items) : html("p", "hint", nothing));
   if (chosen.length > troubles.most) {
     const more = html("button", "", `${(chosen.length - troubles.most).toLocaleString("en")} more`);
     more.addEventListener("click", () => {

@@ -89,11 +89,19 @@ function laneGap(count, narrow) {
   return {named, gap: count < 2 ? 0 : named ? spread : Math.min(14, most / (count - 1))};
 }
 
+// The lanes of the rows that are shown: those of clients, and those of origins.
+function shownLanes() {
+  const all = new Set(view.shown.map(place => rows[place][LANE]));
+  const places = [...lanes.keys()].filter(lane => all.has(lane));
+  return [places.filter(lane => !lanes[lane][2]), places.filter(lane => lanes[lane][2])];
+}
+
 // Where the lanes are. Where they stand too close for names, each row has its peer's name at the edge.
 function lanePlaces(width) {
-  const clients = lanes.filter(lane => !lane[2]).length, origins = lanes.length - clients;
+  const sides = shownLanes(), [clients, origins] = sides.map(side => side.length);
   const narrow = width < 700, own = laneGap(clients, narrow), other = laneGap(origins, narrow);
-  const it = {narrow, width, gap: own.gap, originGap: other.gap, namedClients: own.named, namedOrigins: other.named};
+  const it = {narrow, width, sides, gap: own.gap, originGap: other.gap, namedClients: own.named,
+    namedOrigins: other.named, x: []};
   it.times = narrow ? 0 : own.named ? 92 : 160;
   const end = narrow ? 28 : other.named ? 66 : 126;
   it.first = it.times + (narrow ? 14 : own.named ? 66 : 12);
@@ -104,6 +112,7 @@ function lanePlaces(width) {
   it.proxy = (it.left + it.right) / 2;
   it.room = it.proxy - it.left;
   it.all = Math.max(width, it.right + after);
-  it.x = lanes.map((lane, place) => lane[2] ? it.right + (place - clients) * other.gap : it.first + place * own.gap);
+  sides[0].forEach((lane, place) => it.x[lane] = it.first + place * own.gap);
+  sides[1].forEach((lane, place) => it.x[lane] = it.right + place * other.gap);
   return it;
 }
