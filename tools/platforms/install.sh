@@ -4,9 +4,9 @@
 #   sh install.sh            installs it; a configuration that is there stays as it is
 #   sh install.sh --remove   takes it away again, but for the configuration
 #
-# With procd (OpenWrt) or OpenRC (Alpine) it installs the program, its configuration and an init script, and with systemd
-# all that is below usr/ in this folder, and the configuration. With DESTDIR=FOLDER in the environment all goes under that
-# folder, and that says which of the three it has.
+# With procd (OpenWrt) or OpenRC (Alpine) it installs the program, its configuration and an init script; with systemd,
+# all that is below usr/ in this folder, and the configuration. With DESTDIR=FOLDER in the environment all goes under
+# that folder, and that says which of the three it has.
 
 here=$(cd "$(dirname "$0")" && pwd) || exit 1
 program=/usr/sbin/coap-proxyd config=/etc/coap-proxyd.toml place=/etc/default/coap-proxyd init=/etc/init.d/coap-proxyd
@@ -45,6 +45,12 @@ put_once() {
     fi
 }
 
+# Says how it is started.
+tell() {
+    echo "Edit $config and $place, then:"
+    echo "    $1"
+}
+
 # Puts what any system takes.
 install_program() {
     put usr/sbin/coap-proxyd "$program" 755
@@ -60,7 +66,7 @@ all_files() {
 install_files() {
     all_files | while read -r file; do
         if [ -L "$here/$file" ]; then
-            mkdir -p "$DESTDIR/${file%/*}" && cp -P "$here/$file" "$DESTDIR/$file" || give_up "/$file can't be written"
+            mkdir -p "$DESTDIR/${file%/*}" && cp -Pf "$here/$file" "$DESTDIR/$file" || give_up "/$file can't be written"
         elif [ -x "$here/$file" ]; then
             put "$file" "/$file" 755
         else
@@ -77,9 +83,11 @@ install_all() {
     put_once etc/default/coap-proxyd "$place"
     [ "$(supervisor)" = systemd ] || install_program
     case $(supervisor) in
-        procd) put examples/coap-proxyd.procd "$init" 755 ;;
-        openrc) put examples/coap-proxyd.openrc "$init" 755 ;;
-        systemd) install_files ;;
+        procd) put examples/coap-proxyd.procd "$init" 755 && tell "$init enable && $init start" ;;
+        openrc)
+            put examples/coap-proxyd.openrc "$init" 755 && tell "rc-update add coap-proxyd && rc-service coap-proxyd start"
+            ;;
+        systemd) install_files && tell "systemctl daemon-reload && systemctl enable --now coap-proxyd" ;;
         *) echo "This system has none of procd, OpenRC and systemd, so nothing starts it yet." ;;
     esac
 }

@@ -12,7 +12,7 @@ from testing.steps import T, expect_hit, fetch
 
 CASES, case = case_list()
 # An address and a port.
-LISTEN = re.compile(r"(127\.0\.0\.1|\[::1\]):[1-9][0-9]*")
+LISTEN = re.compile(r"(127(\.[0-9]{1,3}){3}|\[::1\]):[1-9][0-9]*")
 
 KEYS = (
     "seconds received sent send_faults lost resent gave_up hit joined opened overloaded no_record_room no_id again "

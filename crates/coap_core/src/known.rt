@@ -175,7 +175,8 @@ impl<S: Store + Drop> State<S> {
         match message.kind() {
             Kind::Con => {
                 let reply = Seq::from_slice(self.alloc, sent)?;
-                self.con_records.keep_in_room(from, message.id(), now, Some(reply))
+                self.con_records
+                    .keep_in_room(from, message.id(), now, Some(reply))
             }
             Kind::Non | Kind::Ack | Kind::Rst => {
                 self.non_records.keep_in_room(from, message.id(), now, None)
