@@ -1,4 +1,4 @@
-"""What must hold of the examples for Prometheus and Grafana: they ask for what the program writes, and each alert fires."""
+"""What must hold of the examples for Prometheus and Grafana: they ask for what is written, and each alert fires."""
 
 import json
 import os
