@@ -1,0 +1,72 @@
+"""What must hold of the scripts that the units of systemd run: one sees the socket, one names recordings."""
+
+import os
+import re
+import subprocess
+import tempfile
+import time
+
+from testing.network import expect, expect_between, free_port
+
+TOP = os.path.dirname(os.path.dirname(os.path.dirname(os.path.abspath(__file__))))
+RECORDED = re.compile(r"RECORD=--record (.*-[0-9]{4}-[01][0-9]-[0-3][0-9]T[0-2][0-9]\.[0-5][0-9]\.[0-6][0-9]Z\.events)\n")
+
+
+def run_script(name, *words):
+    """The status of a script of the examples, and what it writes to standard error."""
+    words = ["sh", os.path.join(TOP, "examples", f"coap-proxyd.{name}"), *words]
+    done = subprocess.run(words, stdin=subprocess.DEVNULL, stderr=subprocess.PIPE, timeout=20)
+    return done.returncode, done.stderr.decode()
+
+
+def start(program, port):
+    """Starts a program at a port of the loopback."""
+    words = [*program, "-A", "127.0.0.1", "-p", str(port)]
+    return subprocess.Popen(words, stdin=subprocess.DEVNULL, stdout=subprocess.DEVNULL, stderr=subprocess.DEVNULL)
+
+
+def awaited(process):
+    """The status of the script for a process, which is taken away when it ends, as systemd does."""
+    path = os.path.join(TOP, "examples", "coap-proxyd.await-socket")
+    script = subprocess.Popen(["sh", path, str(process.pid)], stdin=subprocess.DEVNULL)
+    until = time.monotonic() + 20
+    while script.poll() is None and time.monotonic() < until:
+        process.poll()
+        time.sleep(0.02)
+    script.kill()
+    return script.wait()
+
+
+def the_socket_is_seen(program):
+    port = free_port()
+    first, second, idle = start(program, port), None, subprocess.Popen(["sleep", "1"])
+    try:
+        expect("the status where it listens", 0, awaited(first))
+        second = start(program, port)
+        expect("the status where the port is taken", 1, awaited(second))
+        begun = time.monotonic()
+        expect("the status where a process has no socket", 1, awaited(idle))
+        expect_between("how long that took", 0.5, 10, time.monotonic() - begun)
+    finally:
+        for process in filter(None, (first, second, idle)):
+            process.kill()
+            process.wait()
+
+
+def each_recording_has_a_name(_):
+    with tempfile.TemporaryDirectory(prefix="coap-proxyd-test-") as folder:
+        names, said = [], os.path.join(folder, "words")
+        for _ in range(2):
+            expect("what comes of it", (0, ""), run_script("name-recording", os.path.join(folder, "east"), said))
+            with open(said) as file:
+                names.append(RECORDED.fullmatch(file.read())[1])
+            open(names[-1], "x").close()
+        expect("what there is", {said, *names}, {os.path.join(folder, name) for name in os.listdir(folder)})
+        status, text = run_script("name-recording", os.path.join(folder, "nowhere", "east"), said)
+        expect("the status where none can be written", 0, status)
+        expect("what is said then", True, text.startswith("coap-proxyd: nothing is recorded: "))
+        with open(said) as file:
+            expect("the words then", "RECORD=\n", file.read())
+
+
+CASES = (the_socket_is_seen, each_recording_has_a_name)
