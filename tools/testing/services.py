@@ -39,14 +39,14 @@ def awaited(process):
 
 def the_socket_is_seen(program):
     port = free_port()
-    first, second, idle = start(program, port), None, subprocess.Popen(["sleep", "1"])
+    first, second, idle = start(program, port), None, None
     try:
         expect("the status where it listens", 0, awaited(first))
         second = start(program, port)
         expect("the status where the port is taken", 1, awaited(second))
-        begun = time.monotonic()
+        begun, idle = time.monotonic(), subprocess.Popen(["sleep", "1"])
         expect("the status where a process has no socket", 1, awaited(idle))
-        expect_between("how long that took", 0.5, 10, time.monotonic() - begun)
+        expect_between("how long that took", 0.9, 20, time.monotonic() - begun)
     finally:
         for process in filter(None, (first, second, idle)):
             process.kill()
