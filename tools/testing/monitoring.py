@@ -8,9 +8,9 @@ import subprocess
 import tempfile
 
 from testing.network import Failed, Skipped, expect
+from testing.script import TOP, read
 from testing.statistics import metrics, run_a_turn
 
-TOP = os.path.dirname(os.path.dirname(os.path.dirname(os.path.abspath(__file__))))
 RULES = os.path.join(TOP, "examples", "coap-proxyd.rules.yml")
 DASHBOARD = os.path.join(TOP, "examples", "coap-proxyd.dashboard.json")
 ALERTS = os.path.join(TOP, "tools", "testing", "alerts.yml")
@@ -19,12 +19,6 @@ METRIC = re.compile(r"\bcoap_proxyd_[a-z_]+")
 WANTED = re.compile(r'\b(outcome|storing|what)=(~?)"([^"]*)"')
 # What Grafana puts in the place of variables.
 VARIABLES = {"$__rate_interval": "5m", "$instance": ".*", "$listen": ".*"}
-
-
-def read(path):
-    """The text of a file."""
-    with open(path, encoding="utf-8") as file:
-        return file.read()
 
 
 def dashboard_queries():
