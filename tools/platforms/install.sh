@@ -45,6 +45,12 @@ put_once() {
     fi
 }
 
+# Says how it is started.
+tell() {
+    echo "Edit $config and $place, then:"
+    echo "    $1"
+}
+
 install_units() {
     put "usr/lib/systemd/system/coap-proxyd.service" "$units/coap-proxyd.service" 644
     put "usr/lib/systemd/system/coap-proxyd@.service" "$units/coap-proxyd@.service" 644
@@ -59,9 +65,9 @@ install_all() {
     put_once etc/coap-proxyd.toml "$config"
     put_once etc/default/coap-proxyd "$place"
     case $(supervisor) in
-        procd) put examples/coap-proxyd.procd "$init" 755 ;;
-        openrc) put examples/coap-proxyd.openrc "$init" 755 ;;
-        systemd) install_units ;;
+        procd) put examples/coap-proxyd.procd "$init" 755 && tell "$init enable && $init start" ;;
+        openrc) put examples/coap-proxyd.openrc "$init" 755 && tell "rc-update add coap-proxyd && rc-service coap-proxyd start" ;;
+        systemd) install_units && tell "systemctl daemon-reload && systemctl enable --now coap-proxyd" ;;
         *) echo "This system has none of procd, OpenRC and systemd, so nothing starts it yet." ;;
     esac
 }

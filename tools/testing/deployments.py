@@ -1,9 +1,10 @@
-"""What must hold of an image that tools/image makes, and of what tools/ping says."""
+"""What must hold of an image that tools/image makes, of the packages of tools/package, and of what tools/ping says."""
 
 import hashlib
 import io
 import json
 import os
+import shutil
 import subprocess
 import sys
 import tarfile
@@ -120,3 +121,39 @@ def check_images(program):
             expect("what is said", (0, ""), run_tool("image", layout, path))
         check_image(layouts[0], path)
         expect("whether both are the same", True, all_files(layouts[0]) == all_files(layouts[1]))
+
+
+# Packages
+
+
+def make_packages(folder):
+    """Has tools/package make all packages in a new folder, which is skipped where it can't."""
+    os.mkdir(folder)
+    words = [os.path.join(TOOLS, "package"), folder]
+    done = subprocess.run(words, stdin=subprocess.DEVNULL, stdout=subprocess.PIPE, stderr=subprocess.PIPE, timeout=100)
+    if done.returncode:
+        raise Skipped(done.stderr.decode().strip())
+    made = sorted(os.path.basename(line) for line in done.stdout.decode().splitlines())
+    expect("which files it names", made, sorted(os.listdir(folder)))
+    return made
+
+
+def check_packages():
+    """Has tools/package make packages of both programs in bin/, twice with the same bytes, which depend on nothing."""
+    if not shutil.which("dpkg-deb"):
+        raise Skipped("there is no dpkg-deb")
+    with tempfile.TemporaryDirectory(prefix="coap-proxyd-test-") as folder:
+        one, two = (os.path.join(folder, name) for name in ("one", "two"))
+        made = make_packages(one)
+        expect("how many there are", 4, len(made))
+        make_packages(two)
+        expect("whether both are the same", True, all_files(one) == all_files(two))
+        for name in (it for it in made if it.endswith(".deb")):
+            fields = subprocess.check_output(["dpkg-deb", "-f", os.path.join(one, name), "Package", "Depends"])
+            expect(f"what {name} is and depends on", b"coap-proxyd\n", fields.replace(b"Package: ", b""))
+            machine = "x86_64" if "amd64" in name else "aarch64"
+            inside = subprocess.check_output(["dpkg-deb", "--fsys-tarfile", os.path.join(one, name)])
+            with tarfile.open(fileobj=io.BytesIO(inside)) as tar:
+                program = tar.extractfile("./usr/sbin/coap-proxyd").read()
+            with open(os.path.join(os.path.dirname(TOOLS), "bin", f"coap-proxyd-{machine}"), "rb") as file:
+                expect(f"whether {name} has the program", True, program == file.read())
