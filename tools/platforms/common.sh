@@ -20,3 +20,9 @@ compile_for_aarch64() {
         -fno-strict-aliasing -ffunction-sections -fdata-sections -Wall -Wextra -Werror -nostdinc \
         -isystem "$library/include" "$@" -c "$file" -o "$compiled"
 }
+
+# Compiles a file of C for a machine, x86_64 or aarch64, that includes none: MACHINE FILE OBJECT.
+compile_alone() {
+    "$kit/toolchain/bin/clang" "--target=$1-linux-gnu" --no-default-config -std=c17 -O2 -fPIE -ffunction-sections \
+        -fdata-sections -Wall -Wextra -Werror -nostdinc -c "$2" -o "$3"
+}
