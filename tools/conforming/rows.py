@@ -1,0 +1,77 @@
+"""The rows of docs/RFC7252.md, which have the requirements' words and name the cases."""
+
+import os
+import re
+
+from conforming.cases import NOT_KEPT, NOT_OFFERED, NOT_SEEN, Broken
+
+TOP = os.path.dirname(os.path.dirname(os.path.dirname(os.path.abspath(__file__))))
+PAGE = os.path.join(TOP, "docs", "RFC7252.md")
+# A case that a row names: a link to the module that plays it.
+NAMED = re.compile(r"\[`(\w+)`\]\(\.\./tools/conforming/(\w+)\.py\)(?: \((\d+) of (\d+)\))?")
+
+
+class Row:
+    """A requirement: its words, the heading that it stands under, and the families of its cases."""
+
+    def __init__(self, words, heading, families):
+        self.words, self.heading, self.families = words, heading, families
+
+
+def rows():
+    """All rows of the page, or none if it isn't there."""
+    if not os.path.exists(PAGE):
+        return []
+    found, heading = [], ""
+    with open(PAGE, encoding="utf-8") as file:
+        for line in file:
+            if line.startswith("## "):
+                heading = line[3:].strip()
+            elif line.startswith(("| ", "- ")):
+                words = line[2:].split(" | ")[0] if line.startswith("|") else line[2:].split(". ")[0]
+                families = {it[0]: (it[1], int(it[2] or 0), int(it[3] or 0)) for it in NAMED.findall(line)}
+                found.append(Row(words.strip(), heading, families))
+    return found
+
+
+def words_of(family):
+    """The requirement that a family of cases shows."""
+    return next((row.words for row in rows() if family in row.families), "")
+
+
+def check_names(cases):
+    """What is wrong between the page and the cases: families that no row names or that two do, names of none, and
+    links to another module."""
+    modules = {it.family: it.function.__module__.rpartition(".")[2] for it in cases}
+    named = {}
+    for row in rows():
+        for family, (module, _, _) in row.families.items():
+            named.setdefault(family, []).append(module)
+    faults = [f"no row names {it}" for it in modules if it not in named]
+    faults += [f"{len(it)} rows name {family}" for family, it in named.items() if len(it) > 1]
+    for family, found in named.items():
+        if modules.get(family) != found[0]:
+            faults.append(f"{family} is no case of {found[0]}")
+    return faults
+
+
+def check_outcomes(outcomes):
+    """What is wrong between the rows that aren't kept and a run of this program: a case that isn't kept and whose row
+    doesn't say so, and a row that says so of more or fewer cases than there were."""
+    told = {
+        family: counts for row in rows() if row.heading == "Not kept" for family, counts in row.families.items()
+    }
+    faults, failed, seen = [], {}, {}
+    for outcome in outcomes:
+        family = outcome.case.family
+        is_seen = outcome.result not in (NOT_SEEN, NOT_OFFERED)
+        seen[family] = seen.get(family, 0) + is_seen
+        if is_seen and outcome.result != "kept":
+            failed[family] = failed.get(family, 0) + 1
+            if family not in told:
+                faults.append(f"{family} {outcome.case.label} is {outcome.result}: {outcome.text}")
+    for family, (_, few, _) in told.items():
+        wanted = few or seen.get(family, 0)
+        if seen.get(family) and failed.get(family, 0) != wanted:
+            faults.append(f"{family}: {wanted} of its cases aren't kept, says the page; {failed.get(family, 0)} weren't")
+    return faults

@@ -1,0 +1,2 @@
+def run(cases, tell):
+    return 0
