@@ -112,7 +112,7 @@ def a_stale_error_is_not_given(stage, code):
     stage.fetch_again(resource, b"22")
 
 
-@case(MUST, "DefaultIsTen", "NeverStale", at="5.10.5", is_long=True)
+@case(MUST, "DefaultIsAnHour", "NeverStale", at="5.10.5", is_long=True)
 def a_response_without_max_age_is_stale_after_a_minute(stage):
     """If the option is not present, the Max-Age is 60 seconds."""
     resource = stage.resource()

@@ -122,6 +122,6 @@ def a_conditional_request_is_decided_by_its_origin(stage, code):
     request = client.request(3, [*resource.here, (wire.IF_MATCH, b"\x07"), (wire.IF_NONE_MATCH, b"")], b"x")
     asked = resource.origin.asked(3)
     resource.origin.answer(asked, code, [], b"")
-    came = [it for it in asked.message.options if it[0] in (wire.IF_MATCH, wire.IF_NONE_MATCH)]
+    came = [it for it in resource.origin.options(asked) if it[0] in (wire.IF_MATCH, wire.IF_NONE_MATCH)]
     expect("the conditions at the origin", [(wire.IF_MATCH, b"\x07"), (wire.IF_NONE_MATCH, b"")], came)
     client.expect_code(request, code)

@@ -192,6 +192,12 @@ class Origin(Endpoint):
             return False
         return True
 
+    def options(self, asked):
+        """The options of a request without a Uri-Host and a Uri-Port that say what would hold without them (5.10.1).
+        They SHOULD NOT be there, but do no harm."""
+        defaults = ((wire.URI_HOST, self.host.encode()), (wire.URI_PORT, wire.number_bytes(self.port)))
+        return [it for it in asked.message.options if it not in defaults]
+
     def next(self, seconds=PATIENCE):
         """The next request, even one that comes again, or None."""
         return self.find(self.is_request, seconds)

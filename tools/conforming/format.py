@@ -172,7 +172,7 @@ def options_are_forwarded_in_their_order(stage, options):
     request = client.request(POST, [*resource.here, *options], b"x")
     asked = resource.origin.asked(POST)
     wanted = sorted([*options, *resource.there], key=lambda it: it[0])
-    expect("the options at the origin", wanted, asked.message.options)
+    expect("the options at the origin", wanted, resource.origin.options(asked))
     resource.origin.answer(asked, wire.code("2.04"), [], b"")
     client.expect_code(request, wire.code("2.04"))
 
@@ -183,7 +183,7 @@ def options_of_one_number_keep_their_order(stage, which):
     request = client.request(POST, resource.here, b"x")
     asked = resource.origin.asked(POST)
     if which == "request":
-        expect("the options at the origin", resource.there, asked.message.options)
+        expect("the options at the origin", resource.there, resource.origin.options(asked))
     location = [(wire.LOCATION_PATH, it) for it in (b"n", b"m", b"l")]
     resource.origin.answer(asked, wire.code("2.01"), location, b"")
     came = client.expect_code(request, wire.code("2.01"))
@@ -201,7 +201,7 @@ def values_of_each_length_are_forwarded(stage, length):
     options = [(wire.SAFE, length * b"v"), (wire.SAFE + 16, b"after")]
     request = client.request(POST, [*resource.here, *options], b"x")
     asked = resource.origin.asked(POST)
-    came = [it for it in asked.message.options if it[0] >= wire.SAFE]
+    came = [it for it in resource.origin.options(asked) if it[0] >= wire.SAFE]
     expect("the options at the origin", options, came)
     resource.origin.answer(asked, wire.code("2.04"), options, b"")
     response = client.expect_code(request, wire.code("2.04")).message

@@ -188,6 +188,8 @@ def repeat(stage, method, kind, answered):
     if answered:
         resource.origin.answer(asked, ANSWERS[method], [wire.max_age(0)], b"")
         first = client.expect_code(request, ANSWERS[method])
+    else:
+        resource.origin.acknowledge_if_confirmable(asked)
     time.sleep(0.1)
     client.came.clear()
     client.send_raw(request.data)
@@ -205,7 +207,7 @@ def a_confirmable_request_that_comes_again_is_done_once(stage, method):
 def a_confirmable_request_that_comes_again_before_its_answer_is_done_once(stage, method):
     resource, client, request, asked, _ = repeat(stage, method, CON, False)
     resource.origin.expect_no_request("for a duplicate")
-    resource.origin.answer(asked, ANSWERS[method], [], b"")
+    resource.origin.answer(asked, ANSWERS[method], [], b"", NON)
     client.expect_code(request, ANSWERS[method])
 
 
@@ -270,13 +272,14 @@ def a_confirmable_response_that_comes_again_is_acknowledged_again(stage):
     resource.origin.acknowledge_if_confirmable(asked)
     answer = resource.origin.answer(asked, CHANGED, [], b"", CON)
     wanted = wire.message(ACK, EMPTY, answer.message.message_id)
-    for _ in range(2):
+    for count in range(2):
         came = resource.origin.find(lambda it: it.data == wanted)
-        expect("whether it is acknowledged", True, came is not None)
-        client.expect_code(request, CHANGED) if client.came or not _ else None
-        resource.origin.send(answer.data, answer.source)
-    resource.origin.find(lambda it: False, 0.1)
-    client.expect_silence("for a response that came again", 0.1)
+        expect(f"whether it is acknowledged, of {count + 1}", True, came is not None)
+        if count == 0:
+            client.expect_code(request, CHANGED)
+            client.came.clear()
+            resource.origin.send(answer.data, answer.source)
+    client.expect_silence("for a response that came again", 0.2)
 
 
 @case(MUST, "ForgetsNever", at="4.5", each={"confirmable": (CON, 247), "non-confirmable": (NON, 145)}, is_long=True)
@@ -384,7 +387,7 @@ def separate_answer(stage, resource, client):
 # Errors of the network
 
 
-@case(MUST, "EndsOnIcmp", is_alone=False)
+@case(MUST, "EndsOnIcmp")
 def a_client_that_is_gone_ends_nothing(stage):
     """An ICMP error may have been caused by an attacker, and matters at most to the message that it is about."""
     resource, gone = stage.resource(), stage.client()

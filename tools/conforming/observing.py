@@ -79,6 +79,7 @@ def an_unexpected_notification_is_rejected(stage, change):
     asked = resource.origin.asked(GET)
     resource.origin.answer(asked)
     client.response(request)
+    client.came.clear()
     token = asked.message.token[:-1] + bytes([asked.message.token[-1] ^ change]) if asked.message.token else b"\x01"
     data = wire.message(CON, CONTENT, resource.origin.new_id(), token, [(OBSERVE, b"\x08")], b"22")
     resource.origin.send(data, asked.source)

@@ -17,7 +17,7 @@ def forwarded(stage, resource, method, kind):
     client, body = stage.client(), body_of(method)
     request = client.request(method, resource.here, body, kind)
     asked = resource.origin.asked(method)
-    expect("the options at the origin", resource.there, asked.message.options)
+    expect("the options at the origin", resource.there, resource.origin.options(asked))
     expect("the payload at the origin", body, asked.message.payload)
     resource.origin.answer(asked, ANSWERS[method], [(wire.CONTENT_FORMAT, b"\x28")], b"done")
     came = client.response(request).message
@@ -99,7 +99,7 @@ def an_unrecognised_safe_option_of_a_request_is_forwarded(stage, *options):
     if asked is None:
         came = client.reply(request, 0.2)
         raise NotKept(f"the origin wasn't asked; the client got {wire.told(came.data) if came else 'nothing'}")
-    expect("the options at the origin", options, [it for it in asked.message.options if it not in resource.there])
+    expect("the options at the origin", options, [it for it in resource.origin.options(asked) if it not in resource.there])
     resource.origin.answer(asked, CHANGED, [], b"")
     client.expect_code(request, CHANGED)
 
@@ -110,7 +110,7 @@ def a_reverse_proxy_forwards_safe_options(stage, which):
     client.request(POST, [*resource.here, *SAFE[which]], b"x")
     asked = resource.origin.asked(POST)
     resource.origin.answer(asked, CHANGED, [], b"")
-    expect("the options at the origin", SAFE[which], [it for it in asked.message.options if it not in resource.there])
+    expect("the options at the origin", SAFE[which], [it for it in resource.origin.options(asked) if it not in resource.there])
 
 
 @case(MUST, "UnsafeReturned", each={key: NUMBERS[key] for key in ("elective", "critical", "elective, 2050", "critical, 2051")})
@@ -152,7 +152,7 @@ def a_safe_option_reaches_the_origin(stage, *options):
     resource, client = stage.resource(), stage.client()
     request = client.request(3, [*resource.here, *options], b"x")
     asked = resource.origin.asked(3)
-    expect("the options at the origin", list(options), [it for it in asked.message.options if it not in resource.there])
+    expect("the options at the origin", list(options), [it for it in resource.origin.options(asked) if it not in resource.there])
     resource.origin.answer(asked, CHANGED, [], b"")
     client.expect_code(request, CHANGED)
 
@@ -324,5 +324,5 @@ def a_proxy_uri_comes_before_uri_options(stage, number, value):
     if asked is None:
         came = client.reply(request, 0.2)
         raise NotKept(f"the origin wasn't asked; the client got {wire.told(came.data) if came else 'nothing'}")
-    expect("the options at the origin", resource.there, asked.message.options)
+    expect("the options at the origin", resource.there, resource.origin.options(asked))
     resource.origin.answer(asked, CHANGED, [], b"")
