@@ -56,7 +56,7 @@ class Proxy(Cache, MessageLayer):
     # yet; the length of its tokens; whether Non-confirmable requests are forwarded as such; whether it knows Observe,
     # and a Max-Age in a request; which error an invalid URI gets.
     caches, waits, token_length, mirrors, knows_observe, knows_age = True, 0.6, 8, False, True, True
-    bad_uri = BAD_REQUEST
+    bad_uri, following = BAD_REQUEST, None
 
     def __init__(self, host, port, scale, names, maps):
         super().__init__(host, port, scale)
@@ -265,7 +265,7 @@ class Proxy(Cache, MessageLayer):
 
     def forward(self, waiter, target, key, validated):
         """Sends a request on, once it is its turn."""
-        to = (target.host, target.port)
+        to = self.following or (target.host, target.port)
         if self.is_silent(to):
             self.error(waiter, TIMEOUT)
             return
@@ -286,6 +286,7 @@ class Proxy(Cache, MessageLayer):
     def encoded(self, exchange, request):
         """The request to an origin, as bytes."""
         options = [*self.carried(request.options), *self.target_options(exchange.target)]
+        options += self.chain_options(exchange.target) if self.following else []
         if self.caches and request.code == GET:
             options = [it for it in options if it[0] != ETAG]
             if exchange.validated is not None:
@@ -303,6 +304,11 @@ class Proxy(Cache, MessageLayer):
 
     def target_options(self, target):
         return [(URI_PATH, it) for it in target.path] + [(URI_QUERY, it) for it in target.query]
+
+    def chain_options(self, target):
+        """What is said to a next proxy beside the path and the query."""
+        place = [(URI_HOST, target.host.encode()), (URI_PORT, wire.number_bytes(target.port))]
+        return [*place, (PROXY_SCHEME, b"coap")]
 
     def most_outstanding(self):
         return 1

@@ -20,6 +20,7 @@ def missing(case, offers):
     names = {
         "forward": "Proxy-Uri", "scheme": "Proxy-Scheme", "reverse": "reverse-proxy", "cache": "cache", "name": "name",
         "another port": "port but 5683", "any address": "address that a command is told",
+        "chain": "next proxy that a command is told", "libcoap": "server of libcoap behind it, which isn't installed",
     }
     return f"it has no {names[lacking[0]]}" if lacking else None
 

@@ -16,12 +16,12 @@ from conforming.cases import Broken, NotKept, NotOffered
 from conforming.endpoints import Client, udp
 from conforming.stage import Stage
 from conforming.wire import CON, EMPTY, GET
-from testing.network import end, free_port
+from testing.network import STARTED, end, free_port
 
 # How a proxy is reached: the words that start it, or none; its address; the name that it is known by, or none; whether
-# it is a forward-proxy; its prefixes, each with the origin's address, as texts with places; and the text of a file for
-# it, or none, in which a place is written like @port@.
-Setup = namedtuple("Setup", "command host port name is_forward prefixes file", defaults=(None,))
+# it is a forward-proxy; its prefixes, each with the origin's address, as texts with places; the text of a file for it,
+# or none, in which a place is written like @port@; and the words that start it with a next proxy, or none.
+Setup = namedtuple("Setup", "command host port name is_forward prefixes file chained", defaults=(None, ()))
 # How many origins a command has places for: {origin}, {origin2} ..
 ORIGINS = 8
 READY = 20
@@ -81,23 +81,34 @@ class Proxy:
 
     # The process
 
-    def words(self, host, port):
-        places = {**self.places, "address": host, "port": port, "file": os.path.join(self.folder, "file")}
+    def words(self, host, port, command=None, **more):
+        places = {**self.places, "address": host, "port": port, **more}
+        places["file"] = os.path.join(self.folder, "file")
         if self.setup.file is not None:
             text = re.sub(r"@(\w+)@", lambda it: str(places.get(it[1], it[0])), self.setup.file)
             with open(places["file"], "w", encoding="utf-8") as file:
                 file.write(text)
-        return [it.format(**places) for it in self.setup.command]
+        return [it.format(**places) for it in command or self.setup.command]
 
-    def spawn(self, host, port):
-        """Starts the command in a session of its own."""
+    def spawn(self, host, port, command=None, **more):
+        """Starts a command, the setup's unless another is given."""
         try:
-            return subprocess.Popen(
-                self.words(host, port), stdin=subprocess.DEVNULL, stdout=subprocess.DEVNULL,
-                stderr=subprocess.DEVNULL, cwd=self.folder, start_new_session=True,
-            )
+            return self.run(self.words(host, port, command, **more))
         except (OSError, KeyError, IndexError, ValueError) as error:
             raise Broken(f"it can't be started: {error}") from None
+
+    def run(self, words):
+        """Starts a program in a session of its own."""
+        process = subprocess.Popen(
+            words, stdin=subprocess.DEVNULL, stdout=subprocess.DEVNULL, stderr=subprocess.DEVNULL, cwd=self.folder,
+            start_new_session=True,
+        )
+        STARTED.add(process)
+        return process
+
+    def instance(self, words):
+        """A program that a stage ends."""
+        return Instance(self.run(words))
 
     def start(self):
         """Starts the proxy, if a command does that, and waits until it answers. Returns how often it was started."""
@@ -142,6 +153,17 @@ class Proxy:
         self.wait_until_ready(process, (self.client_host, address[1]))
         return address
 
+    def start_chained(self, stage):
+        """Starts another process, which has a next proxy, until the stage is closed. Returns where it listens, and the
+        next proxy, which the suite plays."""
+        following = stage.origin()
+        address = (self.address[0], free_port())
+        process = self.spawn(*address, self.setup.chained, next=f"{following.host}:{following.port}")
+        stage.instances.append(Instance(process))
+        self.wait_until_ready(process, address)
+        following.came.clear()
+        return address, following
+
     # What it offers
 
     def find_offers(self):
@@ -158,6 +180,10 @@ class Proxy:
             self.offers.add("another port")
         if any("{address}" in it for it in self.setup.command):
             self.offers.add("any address")
+        if self.setup.chained:
+            self.offers.add("chain")
+        if shutil.which("coap-server-notls") or shutil.which("coap-server"):
+            self.offers.add("libcoap")
 
     def forwards(self, way):
         """Whether a GET reaches an origin in this way."""

@@ -1,6 +1,7 @@
 """Tests the suite itself: each case passes with right stand-ins that differ, and fails with one that is wrong."""
 
 import os
+import shutil
 import sys
 from concurrent.futures import ThreadPoolExecutor
 
@@ -14,13 +15,15 @@ RIGHT = ("Proxy", "Separate", "Plain", "Bare")
 # How much shorter the times of the RFC are, how many stand-ins run at once, and how many cases each of them plays.
 SCALE, AT_ONCE, CASES_AT_ONCE = 0.1, 16, 24
 PREFIXES = [f"/r{n}={{address}}:{{origin{n if n > 1 else ''}}}" for n in range(1, ORIGINS + 1)]
-OFFERS = {"forward", "scheme", "reverse", "name", "another port", "any address"}
+OFFERS = {"forward", "scheme", "reverse", "name", "another port", "any address", "chain"}
+OFFERS |= {"libcoap"} if shutil.which("coap-server-notls") or shutil.which("coap-server") else set()
 
 
 def setup_of(name):
     """How a stand-in is started."""
     words = [sys.executable, STAND_IN, name, str(SCALE), "{address}", "{port}", "{name}", *PREFIXES]
-    return Setup(words, None, None, "proxy.test", True, PREFIXES)
+    chained = [*words[:7], "next={next}"]
+    return Setup(words, None, None, "proxy.test", True, PREFIXES, None, chained)
 
 
 def is_caching(name):
@@ -69,6 +72,7 @@ def faults_of_wrong(cases, played):
 
 def run(cases, tell):
     """Plays cases with all stand-ins, writes what is wrong, and returns a status."""
+    cases = [it for it in cases if "libcoap" not in it.needs or "libcoap" in OFFERS]
     wrong = sorted({name for case in cases for name in case.faults})
     plays = [(name, cases, 2) for name in RIGHT]
     plays += [(name, [case for case in cases if name in case.faults], 1) for name in wrong]

@@ -127,6 +127,10 @@ class Stage:
         lease = self.leases[0]
         return Resource(lease.endpoint, lease.base, segments, query, by_prefix(lease.prefix))
 
+    def start(self, words):
+        """Starts a program, which is ended when the case is done."""
+        self.instances.append(self.proxy.instance(words))
+
     # What many cases do.
 
     def fetch(self, resource, options=(), payload=b"21", code=CONTENT, client=None, kind=CON, method=GET, asking=(), body=b""):

@@ -1,10 +1,10 @@
 """All cases of the suite."""
 
 from conforming import (
-    blocks, caching, codes, format, hostile, messages, observing, options, proxying, responses, timing, uris,
+    blocks, caching, chains, codes, format, hostile, messages, observing, options, origins, proxying, responses, timing, uris,
 )
 
 MODULES = (
-    format, messages, timing, responses, options, caching, proxying, codes, uris, hostile, observing, blocks,
+    format, messages, timing, responses, options, caching, proxying, codes, uris, chains, origins, hostile, observing, blocks,
 )
 CASES = [case for module in MODULES for case in module.CASES]

@@ -479,6 +479,11 @@ class EncodedAgain(Proxy):
         return [(number, urllib.parse.quote(value, safe="").encode()) for number, value in super().target_options(target)]
 
 
+class NextIsOrigin(Proxy):
+    def chain_options(self, target):
+        return []
+
+
 # Methods and codes
 
 
