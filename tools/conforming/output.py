@@ -140,12 +140,12 @@ def markdown(runs):
     return "\n".join(lines)
 
 
-def put_into(path, text):
+def put_between(path, text, begin=BEGIN, end=END):
     """Replaces what stands between two lines of a file."""
     with open(path, encoding="utf-8") as file:
-        before, _, rest = file.read().partition(BEGIN)
-    _, mark, after = rest.partition(END)
+        before, _, rest = file.read().partition(begin)
+    _, mark, after = rest.partition(end)
     if not mark:
-        raise ValueError(f"{path} has no lines {BEGIN} and {END}")
+        raise ValueError(f"{path} has no lines {begin} and {end}")
     with open(path, "w", encoding="utf-8") as file:
-        file.write(f"{before}{BEGIN}\n\n{text}\n\n{END}{after}")
+        file.write(f"{before}{begin}\n\n{text}\n\n{end}{after}")

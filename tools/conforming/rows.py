@@ -10,12 +10,16 @@ PAGE = os.path.join(TOP, "docs", "RFC7252.md")
 # A case that a row names: a link to the module that plays it.
 NAMED = re.compile(r"\[`(\w+)`\]\(\.\./tools/conforming/(\w+)\.py\)(?: \((\d+) of (\d+)\))?")
 
+# What doesn't concern a proxy has a case only where something is seen of it all the same.
+WITHOUT = ("Not concerned",)
+
 
 class Row:
-    """A requirement: its words, the heading that it stands under, and the families of its cases."""
+    """A requirement: its words, the heading that it stands under, the families of its cases, and whether the row says
+    why there are none."""
 
-    def __init__(self, words, heading, families):
-        self.words, self.heading, self.families = words, heading, families
+    def __init__(self, words, heading, families, is_unseen):
+        self.words, self.heading, self.families, self.is_unseen = words, heading, families, is_unseen
 
 
 def rows():
@@ -30,7 +34,7 @@ def rows():
             elif line.startswith(("| ", "- ")):
                 words = line[2:].split(" | ")[0] if line.startswith("|") else line[2:].split(". ")[0]
                 families = {it[0]: (it[1], int(it[2] or 0), int(it[3] or 0)) for it in NAMED.findall(line)}
-                found.append(Row(words.strip(), heading, families))
+                found.append(Row(words.strip(), heading, families, "ot seen: " in line))
     return found
 
 
@@ -40,15 +44,18 @@ def words_of(family):
 
 
 def check_names(cases):
-    """What is wrong between the page and the cases: families that no row names or that two do, names of none, and
-    links to another module."""
+    """What is wrong between the page and the cases: families that no row names, names of none, links to another module,
+    and rows that name none and don't say why."""
     modules = {it.family: it.function.__module__.rpartition(".")[2] for it in cases}
     named = {}
     for row in rows():
         for family, (module, _, _) in row.families.items():
             named.setdefault(family, []).append(module)
     faults = [f"no row names {it}" for it in modules if it not in named]
-    faults += [f"{len(it)} rows name {family}" for family, it in named.items() if len(it) > 1]
+    faults += [
+        f"no case, and no word why: {row.words}" for row in rows()
+        if not row.families and not row.is_unseen and row.heading not in WITHOUT and not row.words.startswith("Section")
+    ]
     for family, found in named.items():
         if modules.get(family) != found[0]:
             faults.append(f"{family} is no case of {found[0]}")
