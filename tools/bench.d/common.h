@@ -27,14 +27,13 @@ static inline struct sockaddr_in address_of(const char *host, const char *port) 
     return address;
 }
 
-/* A UDP socket at this address, with room for a burst, that waits at most some milliseconds for a datagram. */
+/* A UDP socket at this address that waits at most some milliseconds for a datagram. */
 static inline int udp_socket(const struct sockaddr_in *address, int milliseconds) {
-    int handle = socket(AF_INET, SOCK_DGRAM, 0), room = 4 << 20;
+    int handle = socket(AF_INET, SOCK_DGRAM, 0);
     struct timeval wait = {milliseconds / 1000, milliseconds % 1000 * 1000};
     if (handle < 0 || bind(handle, (const struct sockaddr *)address, sizeof *address) < 0) {
         fail("socket");
     }
-    setsockopt(handle, SOL_SOCKET, SO_RCVBUF, &room, sizeof room);
     setsockopt(handle, SOL_SOCKET, SO_RCVTIMEO, &wait, sizeof wait);
     return handle;
 }

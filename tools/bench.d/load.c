@@ -172,6 +172,8 @@ int main(int count, char **words) {
     run.is_echo = count > 9;
     any.sin_addr = to.sin_addr;
     run.handle = udp_socket(&any, 20);
+    int room = 4 << 20; /* what the client loses isn't what is measured */
+    setsockopt(run.handle, SOL_SOCKET, SO_RCVBUF, &room, sizeof room);
     if (connect(run.handle, (struct sockaddr *)&to, sizeof to) < 0) {
         fail("connect");
     }
