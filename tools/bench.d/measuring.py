@@ -146,7 +146,8 @@ class Figures:
         found = []
         if self.busy and median(self.busy) > 0.5:
             found.append(f"others used {median(self.busy):.1f} processors beside it (at most 0.5 is quiet)")
-        wide = [key[0] for key, some in self.samples.items() if key[1] == "echo" and spread([it.rate for it in some]) > 1.5]
+        echoes = [[it.rate for it in some] for (_, name), some in self.samples.items() if name == "echo"]
+        wide = [rates for rates in echoes if spread(rates) > 1.5]
         if wide:
             found.append(f"the echo itself differed by more than half between rounds in {len(wide)} rows")
         return found

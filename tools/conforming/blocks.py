@@ -1,7 +1,7 @@
 """RFC 7959 (block-wise transfer): what it asks of a proxy that doesn't offer it, and what one that does mustn't do."""
 
 from conforming import wire
-from conforming.cases import MUST, NotKept, NotOffered, case_list, expect
+from conforming.cases import MUST, NotKept, case_list, expect
 from conforming.endpoints import SILENCE
 from conforming.wire import BLOCK1, BLOCK2, CON, GET, NON, SIZE2
 
@@ -19,7 +19,7 @@ def block(number, more=False, exponent=0):
 
 @case(MUST, "BlocksLost", "BlocksStripped", each={"block 0": 0, "block 1": 1, "block 3": 3})
 def a_block2_of_a_request_is_served_or_refused(stage, number):
-    """It is critical and unsafe to forward: a proxy that doesn't know it gives 4.02; one that does serves that block."""
+    """It is critical and unsafe to forward: a proxy that doesn't know it gives 4.02; one that does serves the block."""
     resource, client = stage.resource(), stage.client()
     request = client.request(GET, [*resource.here, (BLOCK2, block(number))])
     asked = resource.origin.new(1)
@@ -64,8 +64,8 @@ def a_block1_of_a_request_is_served_or_refused(stage, number, more):
 
 @case(MUST, "BlocksNotReturned")
 def a_block2_of_a_response_is_returned_or_gives_5_02(stage):
-    """An origin may answer in blocks unasked. A proxy that doesn't know the option gives 5.02 (RFC 7252, 5.7.1); another
-    passes it on, or fetches the rest."""
+    """An origin may answer in blocks unasked. A proxy that doesn't know the option gives 5.02 (RFC 7252, 5.7.1);
+    another passes it on, or fetches the rest."""
     resource, client = stage.resource(), stage.client()
     request = client.request(GET, resource.here)
     asked = resource.origin.asked(GET)
@@ -97,7 +97,8 @@ def a_block_is_not_given_for_another(stage, kind):
         if came is None or came.message.kind == wire.RST or wire.is_error(came.message.code):
             continue
         start = (wire.number((wire.values_of(came.message, BLOCK2) or [b""])[0]) >> 4) * 16
-        expect("the block, and its payload", (16 * number, BODY[start : start + 16]), (start, came.message.payload[:16]))
+        wanted = (16 * number, BODY[start : start + 16])
+        expect("the block, and its payload", wanted, (start, came.message.payload[:16]))
 
 
 @case(MUST, "SizesRefused", at="RFC 7959, 4", each={"0": b"", "1,000": b"\x03\xe8"})

@@ -5,7 +5,7 @@ import time
 from conforming import wire
 from conforming.cases import MUST, SHOULD, NotKept, NotOffered, case_list, expect
 from conforming.endpoints import SILENCE
-from conforming.wire import CON, GET, NON, POST
+from conforming.wire import GET, NON, POST
 
 CASES, case = case_list("5.6")
 CONTENT, VALID, CHANGED = wire.code("2.05"), wire.code("2.03"), wire.code("2.04")
@@ -196,7 +196,8 @@ def a_request_for_what_is_stale_has_its_etag(stage, tag):
 def a_2_03_selects_what_is_stored(stage):
     resource = stale(stage)
     came = validate(stage, resource, VALID, [TAG, wire.max_age(30)])
-    expect("code, ETag and payload", (CONTENT, [TAG[1]], b"21"), (came.code, wire.values_of(came, wire.ETAG), came.payload))
+    tags = wire.values_of(came, wire.ETAG)
+    expect("code, ETag and payload", (CONTENT, [TAG[1]], b"21"), (came.code, tags, came.payload))
 
 
 NEWS = {"2.05": CONTENT, "4.04": wire.code("4.04"), "5.00": wire.code("5.00")}
@@ -233,7 +234,9 @@ def a_2_03_with_a_max_age_of_0_renews_nothing(stage):
     resource.origin.answer(resource.origin.asked(GET))
 
 
-RENEWED = {"Content-Format": wire.CONTENT_FORMAT, "an elective option": wire.SAFE, "a critical option": wire.SAFE_CRITICAL}
+RENEWED = {
+    "Content-Format": wire.CONTENT_FORMAT, "an elective option": wire.SAFE, "a critical option": wire.SAFE_CRITICAL,
+}
 
 
 @case(MUST, "OptionsNotRenewed", at="5.9.1.3", needs=("cache",), each=RENEWED)
@@ -272,7 +275,10 @@ def a_2_03_of_the_cache_is_not(stage, what):
         expect("its payload", b"", came.payload)
 
 
-OTHER_TAGS = {"another": b"\x09", "a longer one": b"\x01\x02\x00", "a shorter one": b"\x01", "with a zero before": b"\x00\x01\x02"}
+OTHER_TAGS = {
+    "another": b"\x09", "a longer one": b"\x01\x02\x00", "a shorter one": b"\x01",
+    "with a zero before": b"\x00\x01\x02",
+}
 
 
 @case(MUST, "TagsAreNumbers", "AnyTagIsValid", at="5.10.6", needs=("cache",), each=OTHER_TAGS)

@@ -3,7 +3,7 @@
 from conforming import wire
 from conforming.cases import MUST, NotKept, case_list, expect
 from conforming.stage import escaped
-from conforming.wire import GET, POST, PROXY_SCHEME, PROXY_URI, URI_HOST, URI_PATH, URI_PORT, URI_QUERY
+from conforming.wire import POST, PROXY_SCHEME, PROXY_URI, URI_HOST, URI_PATH, URI_PORT, URI_QUERY
 
 CASES, case = case_list("5.7.2")
 
@@ -25,10 +25,14 @@ def uri_of(message):
     port = f":{wire.number(values[URI_PORT])}" if URI_PORT in values else ""
     path = "/".join(escaped(value) for number, value in message.options if number == URI_PATH)
     query = "&".join(escaped(value) for number, value in message.options if number == URI_QUERY)
-    return f"{values[PROXY_SCHEME].decode()}://{values[URI_HOST].decode()}{port}/{path}" + (f"?{query}" if query else "")
+    query = f"?{query}" if query else ""
+    return f"{values[PROXY_SCHEME].decode()}://{values[URI_HOST].decode()}{port}/{path}{query}"
 
 
-@case(MUST, "NextIsOrigin", needs=("chain",), each={f"{way}: {name}": (way, *it) for name, it in URIS.items() for way in ("Proxy-Uri", "Proxy-Scheme")})
+WAYS = {f"{way}: {name}": (way, *it) for name, it in URIS.items() for way in ("Proxy-Uri", "Proxy-Scheme")}
+
+
+@case(MUST, "NextIsOrigin", needs=("chain",), each=WAYS)
 def a_next_proxy_is_sent_the_uri(stage, way, uri, parts):
     """To another proxy the request names the URI, by a Proxy-Uri or by a Proxy-Scheme beside Uri options."""
     host, port, path, query = parts

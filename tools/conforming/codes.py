@@ -1,7 +1,7 @@
 """Sections 5.8 to 5.10: methods, codes and options that a proxy answers or makes itself."""
 
 from conforming import wire
-from conforming.cases import MUST, SHOULD, NotKept, NotOffered, case_list, expect
+from conforming.cases import MUST, SHOULD, NotOffered, case_list, expect
 from conforming.endpoints import SILENCE
 from conforming.wire import ACK, CON, GET, NON, POST
 
@@ -73,19 +73,20 @@ RESERVED = (128, 132, 136, 140)
 @case(MUST, "ReservedLocationsReturned", at="5.10.7", each=RESERVED)
 def a_reserved_location_option_is_refused(stage, number):
     """If any of these reserved option numbers occurs in addition to Location-Path and/or Location-Query and are not
-    supported, then a 4.02 (Bad Option) error MUST be returned. That they are Safe-to-Forward says otherwise (5.7.1); the
-    sentence that names them decides. To a client that may be told as 5.02, too."""
+    supported, then a 4.02 (Bad Option) error MUST be returned. That they are Safe-to-Forward says otherwise (5.7.1);
+    the sentence that names them decides. To a client that may be told as 5.02, too."""
     options = [(wire.LOCATION_PATH, b"a"), (number, b"x")]
     came = stage.fetch(stage.resource(), options, b"", wire.code("2.01"), method=POST, body=b"x")
     expect("whether it is refused", True, came.message.code in (wire.code("4.02"), wire.code("5.02")))
 
 
 DOTS = {
-    "one dot": [b"."], "two dots": [b".."], "one dot before another": [b".", b"a"], "two dots within": [b"a", b"..", b"b"],
+    "one dot": (b".",), "two dots": (b"..",), "one dot before another": (b".", b"a"),
+    "two dots within": (b"a", b"..", b"b"),
 }
 
 
-@case(MUST, "DotsForwarded", at="5.10.1", each={name: tuple(it) for name, it in DOTS.items()})
+@case(MUST, "DotsForwarded", at="5.10.1", each=DOTS)
 def no_uri_path_that_it_sends_is_a_dot(stage, *segments):
     """The value of a Uri-Path Option MUST NOT be "." or "..". A client that sends one may get an error."""
     way = "reverse" if "reverse" in stage.offers else "scheme"
@@ -97,9 +98,6 @@ def no_uri_path_that_it_sends_is_a_dot(stage, *segments):
         resource.origin.answer(asked)
         paths = wire.values_of(asked.message, wire.URI_PATH)
         expect("how many segments at the origin are dots", 0, sum(it in (b".", b"..") for it in paths))
-
-
-TAGS = {"two": [b"\x01", b"\x02"], "the same twice": [b"\x01", b"\x01"]}
 
 
 @case(MUST, "TagsDoubled", at="5.10.6.1", needs=("cache",))

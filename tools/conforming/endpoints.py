@@ -7,7 +7,7 @@ from collections import namedtuple
 
 from conforming import wire
 from conforming.cases import NotKept, expect
-from conforming.wire import ACK, CON, EMPTY, GET, NON, RST
+from conforming.wire import ACK, CON, EMPTY, NON, RST
 
 # How long a datagram that must come may take, and how long it is watched that none comes, in seconds. The machine may
 # be loaded.

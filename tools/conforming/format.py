@@ -159,7 +159,9 @@ def a_request_that_ends_within_its_token_is_rejected(stage):
 AMONG = {
     "before all": [(wire.IF_MATCH, b"ab")],
     "after all": [(wire.SAFE, b"ab")],
-    "on both sides": [(wire.IF_MATCH, b"ab"), (wire.CONTENT_FORMAT, b""), (wire.SIZE1, b"\x02"), (wire.SAFE_CRITICAL, b"xy")],
+    "on both sides": [
+        (wire.IF_MATCH, b"ab"), (wire.CONTENT_FORMAT, b""), (wire.SIZE1, b"\x02"), (wire.SAFE_CRITICAL, b"xy"),
+    ],
     "with a delta of 13": [(wire.ACCEPT, b"\x2a"), (30 + 14, b"x")],
     "with a delta of 269": [(wire.SAFE, b""), (wire.SAFE + 269 + 3, b"x")],
 }

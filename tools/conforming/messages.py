@@ -173,7 +173,8 @@ def a_non_confirmable_message_that_it_sends_is_not_empty(stage):
     client.response(request)
     client.find(lambda it: False, 0.2)
     for it in client.came:
-        expect("whether an Empty Non-confirmable message came", False, (it.message.kind, it.message.code) == (NON, EMPTY))
+        is_empty = it.message.kind == NON and it.message.code == EMPTY
+        expect("whether an Empty Non-confirmable message came", False, is_empty)
 
 
 # Duplicates
@@ -239,7 +240,8 @@ def a_duplicate_of_what_the_cache_answered_gets_the_same_again(stage):
     client.send_raw(request.data)
     came = client.find(lambda it: it.message.kind == ACK)
     expect("whether it is acknowledged again", True, came is not None)
-    expect("whether its payload is the same", first.message.payload if first.message.kind == ACK else b"", came.message.payload)
+    wanted = first.message.payload if first.message.kind == ACK else b""
+    expect("the payload of the acknowledgement", wanted, came.message.payload)
 
 
 @case(SHOULD, "DuplicatesAreNew", at="4.5", each=METHODS)

@@ -2,7 +2,6 @@
 leaves open. The faulty ones in wrong.py differ from one of them in one respect."""
 
 import os
-import random
 import re
 import time
 

@@ -6,7 +6,6 @@ import random
 import select
 import socket
 import struct
-import sys
 import time
 
 from conforming import model_wire, wire

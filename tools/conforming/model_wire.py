@@ -1,4 +1,4 @@
-"""Reading of messages and URIs for the proxies that stand in for others: strictly, unless a fault forgives something."""
+"""Reading of messages and URIs for proxies that stand in for others: strictly, unless a fault forgives something."""
 
 import re
 from collections import namedtuple

@@ -3,7 +3,7 @@
 from conforming import wire
 from conforming.cases import MUST, NotKept, NotOffered, case_list, expect
 from conforming.endpoints import SILENCE
-from conforming.wire import ACK, CON, EMPTY, GET, NON, OBSERVE
+from conforming.wire import ACK, CON, GET, OBSERVE
 
 CASES, case = case_list("RFC 7641, 2")
 CONTENT, BAD_OPTION, BAD_GATEWAY = wire.code("2.05"), wire.code("4.02"), wire.code("5.02")

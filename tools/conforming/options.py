@@ -124,7 +124,10 @@ def an_option_is_sent_as_often_as_it_may_occur(stage, number):
         expect("whether the option comes once at most", True, len(came) <= 1)
 
 
-@case(SHOULD, "DefaultsSent", at="5.4.4", needs=("forward",), each={"Uri-Host": wire.URI_HOST, "Uri-Port": wire.URI_PORT})
+PLACE = {"Uri-Host": wire.URI_HOST, "Uri-Port": wire.URI_PORT}
+
+
+@case(SHOULD, "DefaultsSent", at="5.4.4", needs=("forward",), each=PLACE)
 def a_default_of_the_uri_is_not_sent(stage, number):
     """If the value is intended to be the default, the option SHOULD NOT be included: for these two that is the address
     and the port to which the request is sent (5.10.1)."""

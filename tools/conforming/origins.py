@@ -6,8 +6,7 @@ from urllib.parse import quote
 
 from conforming import wire
 from conforming.cases import MUST, NotKept, NotOffered, case_list, expect
-from conforming.endpoints import Client
-from conforming.wire import CON, GET, NON, POST, PROXY_URI, URI_PATH, URI_QUERY
+from conforming.wire import CON, GET, NON, PROXY_URI, URI_QUERY
 from testing.network import free_port
 
 CASES, case = case_list("5.7.2")
@@ -55,12 +54,12 @@ def told(message):
 
 
 PATHS = {
-    "the first page": [], "the resources": [".well-known", "core"], "what isn't there": ["no", "such", "thing"],
+    "the first page": (), "the resources": (".well-known", "core"), "what isn't there": ("no", "such", "thing"),
 }
 
 
-@case(MUST, "CodesLost", "KnownNotReturned", "UriLost", needs=NEEDS, each={key: (tuple(it),) for key, it in PATHS.items()})
-def what_libcoaps_server_has_is_returned_as_it_is(stage, segments):
+@case(MUST, "CodesLost", "KnownNotReturned", "UriLost", needs=NEEDS, each=PATHS)
+def what_libcoaps_server_has_is_returned_as_it_is(stage, *segments):
     """The response through the proxy has the code, the options and the payload of the response without it."""
     served = Served(stage)
     direct = told(served.ask(GET, segments, directly=True))

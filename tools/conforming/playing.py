@@ -69,18 +69,20 @@ class Play:
     def play_many(self, cases, at_once):
         """Plays cases at once. Those that met the end of the process are suspects."""
         with ThreadPoolExecutor(max(1, at_once)) as pool:
-            futures = {pool.submit(self.play_one, case): case for case in cases}
+            futures = [pool.submit(self.play_one, case) for case in cases]
             try:
                 for future in as_completed(futures):
-                    outcome, has_ended = future.result()
-                    if has_ended:
-                        self.suspects.append(outcome.case)
-                    else:
-                        self.note(outcome)
+                    self.note_or_suspect(*future.result())
             except BaseException:
-                for future in futures:
-                    future.cancel()
+                self.until, self.is_long = 0, False
                 raise
+
+    def note_or_suspect(self, outcome, has_ended):
+        """Notes what came of a case, unless the process ended meanwhile."""
+        if has_ended:
+            self.suspects.append(outcome.case)
+        else:
+            self.note(outcome)
 
     def play_alone(self, case):
         """Plays a case while no other is, and notes whether the process ended at it."""

@@ -3,7 +3,7 @@
 import os
 import re
 
-from conforming.cases import NOT_KEPT, NOT_OFFERED, NOT_SEEN, Broken
+from conforming.cases import NOT_OFFERED, NOT_SEEN
 
 TOP = os.path.dirname(os.path.dirname(os.path.dirname(os.path.abspath(__file__))))
 PAGE = os.path.join(TOP, "docs", "RFC7252.md")
@@ -28,14 +28,20 @@ def rows():
         return []
     found, heading = [], ""
     with open(PAGE, encoding="utf-8") as file:
-        for line in file:
-            if line.startswith("## "):
-                heading = line[3:].strip()
-            elif line.startswith(("| ", "- ")):
-                words = line[2:].split(" | ")[0] if line.startswith("|") else line[2:].split(". ")[0]
-                families = {it[0]: (it[1], int(it[2] or 0), int(it[3] or 0)) for it in NAMED.findall(line)}
-                found.append(Row(words.strip(), heading, families, "ot seen: " in line))
+        lines = file.read().splitlines()
+    for line in lines:
+        if line.startswith("## "):
+            heading = line[3:].strip()
+        elif line.startswith(("| ", "- ")):
+            found.append(row_of(line, heading))
     return found
+
+
+def row_of(line, heading):
+    """The row that a line of a table or of a list is."""
+    words = line[2:].split(" | ")[0] if line.startswith("|") else line[2:].split(". ")[0]
+    families = {it[0]: (it[1], int(it[2] or 0), int(it[3] or 0)) for it in NAMED.findall(line)}
+    return Row(words.strip(), heading, families, "ot seen: " in line)
 
 
 def words_of(family):
@@ -80,5 +86,6 @@ def check_outcomes(outcomes):
     for family, (_, few, _) in told.items():
         wanted = few or seen.get(family, 0)
         if seen.get(family) and failed.get(family, 0) != wanted:
-            faults.append(f"{family}: {wanted} of its cases aren't kept, says the page; {failed.get(family, 0)} weren't")
+            count = failed.get(family, 0)
+            faults.append(f"{family}: the page says that {wanted} of its cases aren't kept, and {count} weren't")
     return faults

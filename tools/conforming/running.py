@@ -13,7 +13,7 @@ from collections import namedtuple
 
 from conforming import wire
 from conforming.cases import Broken, NotKept, NotOffered
-from conforming.endpoints import Client, udp
+from conforming.endpoints import Client
 from conforming.stage import Stage
 from conforming.wire import CON, EMPTY, GET
 from testing.network import STARTED, end, free_port

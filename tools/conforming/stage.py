@@ -6,8 +6,8 @@ import time
 
 from conforming import wire
 from conforming.cases import NotKept, NotOffered, expect
-from conforming.endpoints import PATIENCE, SILENCE, Client, Origin
-from conforming.wire import CON, GET, NON, PROXY_SCHEME, PROXY_URI, URI_HOST, URI_PATH, URI_PORT, URI_QUERY
+from conforming.endpoints import PATIENCE, Client, Origin
+from conforming.wire import CON, GET, PROXY_SCHEME, PROXY_URI, URI_HOST, URI_PATH, URI_PORT, URI_QUERY
 
 CONTENT = wire.code("2.05")
 UNRESERVED = b"ABCDEFGHIJKLMNOPQRSTUVWXYZabcdefghijklmnopqrstuvwxyz0123456789-._~"
@@ -33,6 +33,10 @@ class Resource:
         queries = [(URI_QUERY, it) for it in self.query]
         self.there = [(URI_PATH, it) for it in [*base, *self.segments]] + queries
         self.here = way(origin, [*base, *self.segments], self.segments, queries)
+
+    def more(self, asked):
+        """The options of a request at the origin beside those that name the resource."""
+        return [it for it in self.origin.options(asked) if it not in self.there]
 
     def other(self, *segments, query=()):
         """Another resource of the same origin."""
@@ -93,9 +97,6 @@ class Stage:
         self.endpoints.append(client)
         return client
 
-    def clients(self, count):
-        return [self.client() for _ in range(count)]
-
     def origin(self, host=None, port=0):
         """A new origin, at an address that hardly any other case has."""
         origin = Origin(host or self.host, port)
@@ -133,23 +134,25 @@ class Stage:
 
     # What many cases do.
 
-    def fetch(self, resource, options=(), payload=b"21", code=CONTENT, client=None, kind=CON, method=GET, asking=(), body=b""):
+    def reached(self, origin, client, request, seconds=2):
+        """A request that must reach an origin, or else what the client got is told."""
+        asked = origin.new(seconds)
+        if asked is None:
+            came = client.reply(request, 0.2)
+            raise NotKept(f"the origin wasn't asked; the client got {wire.told(came.data) if came else 'nothing'}")
+        return asked
+
+    def fetch(self, resource, options=(), payload=b"21", code=CONTENT, method=GET, client=None, asking=(), body=b""):
         """Has the origin answer a new request of a client, and returns what the client got."""
         client = client or self.client()
-        request = client.request(method, [*resource.here, *asking], body, kind)
+        request = client.request(method, [*resource.here, *asking], body)
         resource.origin.answer(resource.origin.asked(method), code, options, payload)
         return client.response(request)
 
-    def get(self, resource, client=None, kind=CON, asking=()):
-        """A GET that the proxy or the origin may answer: the response, and whether the origin was asked. It answers
-        with what `answers_with` says."""
-        client = client or self.client()
-        request = client.request(GET, [*resource.here, *asking], kind=kind)
-        return client, request
-
-    def get_stored(self, resource, asking=(), kind=CON):
+    def get_stored(self, resource, asking=()):
         """A response that must come from the cache."""
-        client, request = self.get(resource, asking=asking, kind=kind)
+        client = self.client()
+        request = client.request(GET, [*resource.here, *asking])
         response = client.reply(request, PATIENCE)
         if response is None or resource.origin.new(0.05) is not None:
             raise NotOffered("it asks the origin again for what is fresh")
@@ -162,10 +165,7 @@ class Stage:
         right."""
         client = self.client()
         request = client.request(method, [*resource.here, *asking], body)
-        asked = resource.origin.new(PATIENCE / 3)
-        if asked is None:
-            came = client.reply(request, SILENCE)
-            raise NotKept(f"the origin wasn't asked; the client got {wire.told(came.data) if came else 'nothing'}")
+        asked = self.reached(resource.origin, client, request)
         resource.origin.answer(asked, code, options, payload)
         response = client.response(request)
         expect("the payload", payload, response.message.payload)

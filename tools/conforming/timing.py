@@ -4,8 +4,8 @@ import time
 
 from conforming import wire
 from conforming.cases import MUST, SHOULD, NotKept, NotOffered, case_list, expect, expect_between
-from conforming.messages import confirmable, expect_again, separate_answer
-from conforming.wire import ACK, CON, EMPTY, GET, NON, POST, RST
+from conforming.messages import confirmable, separate_answer
+from conforming.wire import ACK, CON, GET, NON, POST, RST
 
 CASES, case = case_list("4.2")
 CONTENT, TIMEOUT = wire.code("2.05"), wire.code("5.04")

@@ -1,9 +1,9 @@
 """Section 6: how a URI is decomposed into options and composed of them."""
 
 from conforming import wire
-from conforming.cases import MUST, SHOULD, NotKept, NotOffered, case_list, expect
+from conforming.cases import MUST, NotKept, case_list, expect
 from conforming.endpoints import SILENCE
-from conforming.wire import GET, NON, PROXY_SCHEME, PROXY_URI, URI_HOST, URI_PATH, URI_PORT, URI_QUERY
+from conforming.wire import GET, PROXY_URI, URI_PATH, URI_QUERY
 
 CASES, case = case_list("6.4")
 
@@ -61,17 +61,14 @@ def decomposed(stage, uri, segments, queries, origin):
     """Has a request for a URI reach an origin with these segments and queries, and nothing else of a URI."""
     client = stage.client()
     request = client.request(GET, [(PROXY_URI, uri)])
-    asked = origin.new(2)
-    if asked is None:
-        came = client.reply(request, 0.2)
-        raise NotKept(f"the origin wasn't asked; the client got {wire.told(came.data) if came else 'nothing'}")
+    asked = stage.reached(origin, client, request)
     origin.answer(asked)
     expect("the Uri-Paths at the origin", [stage.mark, *segments], wire.values_of(asked.message, URI_PATH))
     expect("the Uri-Queries at the origin", queries, wire.values_of(asked.message, URI_QUERY))
     client.expect_code(request, wire.code("2.05"))
 
 
-@case(MUST, *URI_FAULTS, needs=("forward",), each={name: (text, tuple(paths), tuple(queries)) for name, (text, paths, queries) in PARTS.items()})
+@case(MUST, *URI_FAULTS, needs=("forward",), each=PARTS)
 def a_uri_is_decomposed_into_options(stage, text, segments, queries):
     """Each segment is a Uri-Path and each argument a Uri-Query, with percent-encodings decoded; reference resolution by
     RFC 3986 comes first."""
@@ -187,10 +184,12 @@ def a_path_under_a_prefix_has_the_same_options_at_the_origin(stage, *segments):
     is_same(stage, stage.resource(*segments, way="reverse"))
 
 
-QUERIES = {"an ampersand": (b"a&b",), "an empty one": (b"a", b""), "a percent sign": (b"50%",), "255 bytes": (255 * b"q",)}
+QUERIES = {
+    "an ampersand": (b"a&b",), "an empty one": (b"a", b""), "a percent sign": (b"50%",), "255 bytes": (255 * b"q",),
+}
 
 
-@case(MUST, "ComposedUnescaped", "EncodedAgain", "QueriesNotSplit", "EmptySegmentsLost", "UriPartsCut", at="6.5", needs=("scheme",), each=QUERIES)
+@case(MUST, *COMPOSE_FAULTS, "QueriesNotSplit", at="6.5", needs=("scheme",), each=QUERIES)
 def queries_of_options_are_the_same_at_the_origin(stage, *queries):
     is_same(stage, stage.resource("a", query=queries, way="scheme"))
 
@@ -199,10 +198,7 @@ def is_same(stage, resource):
     """Has a request reach the origin with the options of a resource."""
     client = stage.client()
     request = client.request(GET, resource.here)
-    asked = resource.origin.new(2)
-    if asked is None:
-        came = client.reply(request, 0.2)
-        raise NotKept(f"the origin wasn't asked; the client got {wire.told(came.data) if came else 'nothing'}")
+    asked = stage.reached(resource.origin, client, request)
     resource.origin.answer(asked)
     expect("the options at the origin", resource.there, resource.origin.options(asked))
     client.expect_code(request, wire.code("2.05"))

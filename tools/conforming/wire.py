@@ -9,7 +9,8 @@ from testing.coap import (
 IF_MATCH, LOCATION_QUERY, BLOCK1, SIZE2 = 1, 20, 27, 28
 # Options for experiments (12.2), which nobody defines: elective and critical ones that are safe to forward, ones that
 # aren't, and ones that are and stand outside the cache key (5.4.6).
-SAFE, SAFE_CRITICAL, UNSAFE, UNSAFE_CRITICAL, SAFE_NO_KEY, SAFE_CRITICAL_NO_KEY = 65000, 65001, 65002, 65003, 65020, 65021
+SAFE, SAFE_CRITICAL, UNSAFE, UNSAFE_CRITICAL = 65000, 65001, 65002, 65003
+SAFE_NO_KEY, SAFE_CRITICAL_NO_KEY = 65020, 65021
 # Transmission parameters and the times derived from them, in seconds (4.8).
 ACK_TIMEOUT, ACK_RANDOM_FACTOR, MAX_RETRANSMIT = 2, 1.5, 4
 MAX_TRANSMIT_SPAN, MAX_TRANSMIT_WAIT, NON_LIFETIME, EXCHANGE_LIFETIME = 45, 93, 145, 247
@@ -59,13 +60,3 @@ def with_version(data, version):
 def with_token_length(data, length):
     """A message that says that its token has another length."""
     return bytes([data[0] & 0xF0 | length]) + data[1:]
-
-
-def with_options_of(data, raw):
-    """A message with further bytes behind its options, where it has no payload."""
-    return data + raw
-
-
-def told_of(number, value):
-    """An option for a reader."""
-    return f"{number}: {value.hex() or 'empty'}"

@@ -4,13 +4,10 @@ import time
 import urllib.parse
 
 from conforming import model_wire, wire
-from conforming.model import (
-    BAD_GATEWAY, BAD_REQUEST, NOT_FOUND, REQUEST_LENGTHS, TIMEOUT, Plain, Proxy, Separate, Target, UriError,
-)
+from conforming.model import NOT_FOUND, REQUEST_LENGTHS, TIMEOUT, Plain, Proxy, Target, UriError
 from conforming.model_cache import CONTENT, VALID, Entry
 from conforming.wire import (
-    ACK, BLOCK1, BLOCK2, CON, ETAG, GET, MAX_AGE, NON, OBSERVE, PROXY_URI, SIZE2, URI_HOST, URI_PATH, URI_PORT,
-    URI_QUERY,
+    BLOCK1, BLOCK2, ETAG, GET, MAX_AGE, OBSERVE, PROXY_URI, SIZE2, URI_HOST, URI_PATH, URI_PORT, URI_QUERY,
 )
 from testing.coap import message
 
@@ -476,7 +473,8 @@ class EncodedAgain(Proxy):
     """Sends parts of a URI as they stand in it, percent-encoded."""
 
     def target_options(self, target):
-        return [(number, urllib.parse.quote(value, safe="").encode()) for number, value in super().target_options(target)]
+        options = super().target_options(target)
+        return [(number, urllib.parse.quote(value, safe="").encode()) for number, value in options]
 
 
 class NextIsOrigin(Proxy):
