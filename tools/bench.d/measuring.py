@@ -118,7 +118,8 @@ def processors_in_use(seconds=0.2):
             fields = [int(it) for it in file.readline().split()[1:9]]
         return sum(fields), fields[3] + fields[4]
 
-    (all_before, idle_before), _ = read(), time.sleep(seconds)
+    all_before, idle_before = read()
+    time.sleep(seconds)
     all_after, idle_after = read()
     busy = 1 - (idle_after - idle_before) / max(1, all_after - all_before)
     return busy * (os.cpu_count() or 1)

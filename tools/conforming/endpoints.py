@@ -1,12 +1,13 @@
 """Clients and origins of the suite: UDP sockets that take whatever order and form of messages the RFC allows."""
 
+import errno
 import random
 import socket
 import time
 from collections import namedtuple
 
 from conforming import wire
-from conforming.cases import NotKept, expect
+from conforming.cases import Broken, NotKept, expect
 from conforming.wire import ACK, CON, EMPTY, NON, RST
 
 # How long a datagram that must come may take, and how long it is watched that none comes, in seconds. The machine may
@@ -22,12 +23,27 @@ def udp(host):
     return socket.socket(socket.AF_INET6 if ":" in host else socket.AF_INET, socket.SOCK_DGRAM)
 
 
+def bound(host, port):
+    """A UDP socket at this address. One that was closed just now may be held for a moment by a program that another
+    thread starts."""
+    for _ in range(40):
+        own = udp(host)
+        try:
+            own.bind((host, port))
+            return own
+        except OSError as error:
+            own.close()
+            if error.errno != errno.EADDRINUSE:
+                raise
+            time.sleep(0.05)
+    raise Broken(f"port {port} of {host} is taken")
+
+
 class Endpoint:
     """A UDP socket. What comes while something else is waited for stays in `came`."""
 
     def __init__(self, host, port=0):
-        self.socket = udp(host)
-        self.socket.bind((host, port))
+        self.socket = bound(host, port)
         self.host, self.port = host, self.socket.getsockname()[1]
         self.next_id = random.randrange(0x10000)
         # All that came, for a text that tells it, and what nobody asked for yet.

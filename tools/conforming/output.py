@@ -118,12 +118,24 @@ def totals(runs):
 
 
 def failures(run):
-    """A list of what a run didn't keep, with what came."""
-    lines = []
-    for name, (_, section, level, result, text) in run["results"].items():
+    """A list of the families of cases that a run didn't keep, with what came in the first one."""
+    failed, counts = {}, {}
+    for name, (family, section, level, result, text) in run["results"].items():
+        key = section, level, family
+        counts[key] = counts.get(key, 0) + 1
         if result in (NOT_KEPT, ENDED):
-            lines.append(f"- {section} {level} `{name}`: {result}: {shortened(text)}")
-    return sorted(lines, key=lambda it: section_key(it[2:].split(" MUST")[0].split(" SHOULD")[0]))
+            failed.setdefault(key, []).append((name[len(family) + 1 :], result, text))
+    return [failure_line(key, failed[key], counts[key]) for key in sorted(failed, key=lambda it: section_key(it[0]))]
+
+
+def failure_line(key, failed, count):
+    """The line of a family: how many of its cases weren't kept, how many ended the process, and the first one."""
+    section, level, family = key
+    label, _, text = failed[0]
+    ended = sum(result == ENDED for _, result, _ in failed)
+    how_many = f", {len(failed)} of {count}" if count > 1 else ""
+    how_many += f" ({ended} ended)" if ended else ""
+    return f"- {section} {level} `{family}`{how_many}: {label + ': ' if label else ''}{shortened(text)}"
 
 
 def shortened(text, most=200):
