@@ -3,6 +3,8 @@
 from measuring import median
 
 COLORS = {"relay": "#9aa5b1", "coap-proxyd": "#1f6feb", "libcoap": "#d2872c"}
+# The greatest ratio that is drawn, and the sizes of the picture.
+MOST = 1.4
 WIDTH, LABEL, BAR, GAP, TOP, GROUP = 900, 250, 9, 2, 58, 9
 
 
@@ -89,9 +91,9 @@ def bars(figures, row, y, scale):
     for name in names(figures):
         values = figures.ratios(row, name, "rate")
         if values:
-            width = median(values) * scale
+            width = min(MOST, median(values)) * scale
             out.append(f'<rect x="{LABEL}" y="{y}" width="{width:.1f}" height="{BAR}" fill="{COLORS[name]}"/>')
-            ends = LABEL + min(values) * scale, LABEL + max(values) * scale
+            ends = LABEL + min(MOST, min(values)) * scale, LABEL + min(MOST, max(values)) * scale
             out.append(f'<path d="M{ends[0]:.1f} {y + BAR / 2:.1f}H{ends[1]:.1f}" stroke="#222" stroke-width="1"/>')
             out.append(text(max(LABEL + width, ends[1]) + 4, y + BAR - 1, f"{median(values):.2f}", 9))
         y += BAR + GAP
@@ -101,8 +103,7 @@ def bars(figures, row, y, scale):
 def plot(figures, rows, head):
     """Bars for each row against the echo's line, as SVG."""
     step = len(names(figures)) * (BAR + GAP) + GROUP
-    most = max([1.0] + [max(figures.ratios(row, it, "rate") or [0]) for row in rows for it in names(figures)])
-    scale, height = (WIDTH - LABEL - 60) / most, TOP + step * len(rows) + 26
+    scale, height = (WIDTH - LABEL - 60) / MOST, TOP + step * len(rows) + 26
     out = [
         f'<svg xmlns="http://www.w3.org/2000/svg" viewBox="0 0 {WIDTH} {height}" font-family="sans-serif">',
         f'<rect width="{WIDTH}" height="{height}" fill="#fff"/>',

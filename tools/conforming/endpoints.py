@@ -12,7 +12,7 @@ from conforming.wire import ACK, CON, EMPTY, NON, RST
 
 # How long a datagram that must come may take, and how long it is watched that none comes, in seconds. The machine may
 # be loaded.
-PATIENCE, SILENCE = 6.0, 0.5
+PATIENCE, SILENCE = 5.0, 0.5
 
 # A message that was sent or came: as a message and as bytes, the other address, and the moment.
 Came = namedtuple("Came", "message data source at")

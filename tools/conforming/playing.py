@@ -8,8 +8,9 @@ from conforming.cases import ENDED, KEPT, NOT_KEPT, NOT_OFFERED, NOT_SEEN, Broke
 from conforming.running import Proxy
 from conforming.stage import Stage
 
-# How many cases are played at once, and how many of those that failed.
-AT_ONCE, AGAIN_AT_ONCE = 32, 6
+# How many cases are played at once, how many of those that failed, and how many of those that were played when the
+# process ended.
+AT_ONCE, AGAIN_AT_ONCE, SUSPECTS_AT_ONCE = 40, 12, 6
 # How long a run without long cases may take, in seconds, before no more cases are begun.
 BOUND = 105
 
@@ -38,6 +39,8 @@ def try_case(proxy, case, scale):
         return Outcome(case, NOT_SEEN, str(text))
     except OSError as error:
         return Outcome(case, NOT_SEEN, f"the system refused it: {error}")
+    except Exception as error:
+        return Outcome(case, NOT_SEEN, f"a fault of the suite: {type(error).__name__}: {error}")
     return Outcome(case, KEPT)
 
 
@@ -46,7 +49,7 @@ class Play:
 
     def __init__(self, proxy, is_long=False, tries=2, at_once=AT_ONCE, tell=lambda count: None):
         self.proxy, self.is_long, self.tries, self.at_once, self.tell = proxy, is_long, tries, at_once, tell
-        self.outcomes, self.suspects = {}, []
+        self.outcomes, self.suspects, self.is_gone = {}, [], False
         self.until = time.monotonic() + BOUND
 
     def note(self, outcome):
@@ -60,8 +63,12 @@ class Play:
         """What comes of a case, and whether the process ended meanwhile."""
         if not self.has_time():
             return Outcome(case, NOT_SEEN, "no time was left for it"), False
+        if self.is_gone:
+            return Outcome(case, NOT_SEEN, "the proxy answered no more"), False
         count = self.proxy.start()
         outcome = try_case(self.proxy, case, self.proxy.scale)
+        if outcome.result == NOT_KEPT and not self.proxy.setup.command:
+            self.is_gone = self.is_gone or not self.proxy.answers()
         time.sleep(0.02 if case.is_alone else 0)
         has_ended = not self.proxy.is_running() or self.proxy.count != count
         return outcome, has_ended
@@ -131,6 +138,8 @@ class Play:
             failed = [it.case for it in self.outcomes.values() if it.result == NOT_KEPT and not it.case.is_long]
             if self.has_time():
                 self.play_many(failed, AGAIN_AT_ONCE)
+        suspects, self.suspects = self.suspects, []
+        self.play_many(suspects, SUSPECTS_AT_ONCE)
         for case in self.suspects:
             self.play_alone(case)
         self.proxy.start()

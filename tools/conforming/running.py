@@ -128,9 +128,17 @@ class Proxy:
         """Whether the process that was started still runs. One that wasn't started here is taken to."""
         return not self.setup.command or (self.process is not None and self.process.poll() is None)
 
-    def wait_until_ready(self, process, address):
+    def answers(self):
+        """Whether the proxy still answers."""
+        try:
+            self.wait_until_ready(None, self.address, 3)
+            return True
+        except Broken:
+            return False
+
+    def wait_until_ready(self, process, address, seconds=READY):
         """Waits until a proxy rejects an Empty message, or answers a request."""
-        client, until = Client(self.client_host, address), time.monotonic() + READY
+        client, until = Client(self.client_host, address), time.monotonic() + seconds
         while time.monotonic() < until:
             if process is not None and process.poll() is not None:
                 break

@@ -175,8 +175,13 @@ class Stage:
         """Whether the proxy answers a request for something that it doesn't have, or rejects an Empty message."""
         client = self.client()
         client.send_raw(wire.message(CON, wire.EMPTY, client.new_id()))
-        request = client.request(GET, wire.path("no", "such", "path"))
-        return client.find(lambda it: True, PATIENCE) is not None and request is not None
+        client.request(GET, wire.path("no", "such", "path"))
+        for _ in range(10):
+            if client.find(lambda it: True, PATIENCE / 10) is not None:
+                return True
+            if not self.proxy.is_running():
+                return False
+        return False
 
     def expect_alive(self, what):
         """Has the proxy still answer after something."""

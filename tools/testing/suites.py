@@ -117,7 +117,7 @@ def what_cannot_be_tried_is_said():
     """No stack trace, and a status that isn't 0."""
     for words in (["--against", "192.0.2.1"], ["--forward", "--", "/no/such/program"], ["--only", "no such case"]):
         status, text = run(*words)
-        expect("status, lines and beginning", (1, 1, "Bail out!"), (status, text.count("\n"), text[:9]))
+        expect("status, lines and beginning", (2, 1, "Bail out!"), (status, text.count("\n"), text[:9]))
 
 
 def compiled(folder, name):
