@@ -53,10 +53,15 @@ def case_list(section):
     return cases, case
 
 
+def shown(value):
+    """A value for a reader."""
+    return {True: "yes", False: "no"}[value] if isinstance(value, bool) else repr(value)
+
+
 def expect(what, wanted, came):
     """Isn't kept where something isn't as wanted."""
     if wanted != came:
-        raise NotKept(f"{what}: {wanted!r} is right, {came!r} came")
+        raise NotKept(f"{what}: {shown(wanted)} is right, {shown(came)} came")
 
 
 def expect_between(what, least, most, came):
