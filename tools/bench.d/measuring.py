@@ -50,12 +50,16 @@ def row_of(is_hit, kind, in_flight, resources=1000, way="uri", beside=""):
 def processor_time(process):
     """Seconds of the processor that a process took: to the nanosecond where the system counts so, or in ticks."""
     try:
-        with open(f"/proc/{process.pid}/schedstat", encoding="ascii") as file:
-            return int(file.read().split()[0]) / 1e9
+        tasks = f"/proc/{process.pid}/task"
+        return sum(int(first_line(f"{tasks}/{it}/schedstat").split()[0]) for it in os.listdir(tasks)) / 1e9
     except (OSError, ValueError, IndexError):
-        with open(f"/proc/{process.pid}/stat", encoding="ascii", errors="replace") as file:
-            fields = file.read().rsplit(")", 1)[1].split()
+        fields = first_line(f"/proc/{process.pid}/stat").rsplit(")", 1)[1].split()
         return (int(fields[11]) + int(fields[12])) / TICKS
+
+
+def first_line(path):
+    with open(path, encoding="ascii", errors="replace") as file:
+        return file.readline()
 
 
 def resident(process):
@@ -114,8 +118,7 @@ def processors_in_use(seconds=0.2):
     """How many processors the machine uses while the bench rests."""
 
     def read():
-        with open("/proc/stat", encoding="ascii") as file:
-            fields = [int(it) for it in file.readline().split()[1:9]]
+        fields = [int(it) for it in first_line("/proc/stat").split()[1:9]]
         return sum(fields), fields[3] + fields[4]
 
     all_before, idle_before = read()
