@@ -9,6 +9,7 @@ from collections import namedtuple
 from conforming import wire
 from conforming.cases import Broken, NotKept, expect
 from conforming.wire import ACK, CON, EMPTY, NON, RST
+from testing.network import SO_TIMESTAMPNS, TIMESPEC, udp
 
 # How long a datagram that must come may take, and how long it is watched that none comes, in seconds. The machine may
 # be loaded.
@@ -16,11 +17,6 @@ PATIENCE, SILENCE = 5.0, 0.5
 
 # A message that was sent or came: as a message and as bytes, the other address, and the moment.
 Came = namedtuple("Came", "message data source at")
-
-
-def udp(host):
-    """A UDP socket for an address of this family."""
-    return socket.socket(socket.AF_INET6 if ":" in host else socket.AF_INET, socket.SOCK_DGRAM)
 
 
 def bound(host, port):
@@ -39,11 +35,20 @@ def bound(host, port):
     raise Broken(f"port {port} of {host} is taken")
 
 
+def arrival(more):
+    """The moment at which a datagram came, on the clock of time.monotonic, which may be before it is read."""
+    if not more:
+        return time.monotonic()
+    seconds, nanoseconds = TIMESPEC.unpack(more[0][2][: TIMESPEC.size])
+    return time.monotonic() - (time.time() - seconds - nanoseconds / 1e9)
+
+
 class Endpoint:
     """A UDP socket. What comes while something else is waited for stays in `came`."""
 
     def __init__(self, host, port=0):
         self.socket = bound(host, port)
+        self.socket.setsockopt(socket.SOL_SOCKET, SO_TIMESTAMPNS, 1)
         self.host, self.port = host, self.socket.getsockname()[1]
         self.next_id = random.randrange(0x10000)
         # All that came, for a text that tells it, and what nobody asked for yet.
@@ -67,12 +72,12 @@ class Endpoint:
         """The next datagram within so many seconds, if one comes. It must be a message."""
         self.socket.settimeout(max(seconds, 0.001))
         try:
-            data, source = self.socket.recvfrom(65_536)
+            data, more, _, source = self.socket.recvmsg(65_536, 64)
         except (socket.timeout, ConnectionError):
             return None
         self.log.append(data)
         try:
-            return Came(wire.read(data), data, source[:2], time.monotonic())
+            return Came(wire.read(data), data, source[:2], arrival(more))
         except ValueError:
             raise NotKept(f"what came is no message: {wire.told(data)}") from None
 
@@ -187,11 +192,27 @@ class Client(Endpoint):
 
 class Origin(Endpoint):
     """An origin server, which the proxy asks. Requests without `mark` in a path or a query belong to other cases, and
-    are rejected. The same request that comes again is passed over, unless each is asked for."""
+    are rejected. The same request that comes again is passed over, unless each is asked for. What wasn't answered is
+    rejected at the end, so that the proxy sends it no more."""
 
     def __init__(self, host, port=0, mark=None):
         super().__init__(host, port)
-        self.mark, self.seen = mark, set()
+        self.mark, self.seen, self.open = mark, set(), {}
+
+    def poll(self, seconds):
+        it = super().poll(seconds)
+        if it is not None and wire.is_request(it.message.code):
+            self.open[it.source, it.message.message_id] = it
+        return it
+
+    def empty(self, kind, to_message):
+        self.open.pop((to_message.source, to_message.message.message_id), None)
+        return super().empty(kind, to_message)
+
+    def close(self):
+        for it in list(self.open.values()) if self.socket.fileno() >= 0 else ():
+            self.reset(it)
+        super().close()
 
     def is_own(self, it):
         """Whether a request belongs to this case."""
@@ -249,6 +270,7 @@ class Origin(Endpoint):
         the message."""
         if kind is None:
             kind = ACK if asked.message.kind == CON else NON
+        self.open.pop((asked.source, asked.message.message_id), None)
         message_id = asked.message.message_id if kind == ACK else self.new_id()
         data = wire.message(kind, code, message_id, asked.message.token, options, payload)
         return Came(wire.read(data), data, asked.source, self.send(data, asked.source))
