@@ -103,7 +103,7 @@ def bars(figures, row, y, scale):
 def plot(figures, rows, head):
     """Bars for each row against the echo's line, as SVG."""
     step = len(names(figures)) * (BAR + GAP) + GROUP
-    scale, height = (WIDTH - LABEL - 60) / MOST, TOP + step * len(rows) + 26
+    scale, height = (WIDTH - LABEL - 60) / MOST, TOP + step * len(rows) + 40
     out = [
         f'<svg xmlns="http://www.w3.org/2000/svg" viewBox="0 0 {WIDTH} {height}" font-family="sans-serif">',
         f'<rect width="{WIDTH}" height="{height}" fill="#fff"/>',
@@ -115,6 +115,6 @@ def plot(figures, rows, head):
     for ratio in (0.0, 0.5, 1.0):
         x = LABEL + ratio * scale
         dashes = "" if ratio == 1 else ' stroke-dasharray="2 3"'
-        out.append(f'<path d="M{x:.1f} {TOP - 6}V{height - 22}" stroke="#555"{dashes}/>')
-        out.append(text(x, height - 10, "echo" if ratio == 1 else f"{ratio:g}", 10, "middle"))
-    return "\n".join([*out, text(WIDTH - 8, height - 10, head, 9, "end"), "</svg>", ""])
+        out.append(f'<path d="M{x:.1f} {TOP - 6}V{height - 36}" stroke="#555"{dashes}/>')
+        out.append(text(x, height - 24, "echo" if ratio == 1 else f"{ratio:g}", 10, "middle"))
+    return "\n".join([*out, text(WIDTH - 8, height - 7, head, 9, "end"), "</svg>", ""])

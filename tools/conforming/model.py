@@ -52,9 +52,9 @@ class Proxy(Cache, MessageLayer):
     """A proxy that keeps RFC 7252: it caches, and piggybacks what comes soon."""
 
     # What RFC 7252 leaves open: whether it caches; after how many seconds it acknowledges a request that isn't answered
-    # yet; the length of its tokens; whether Non-confirmable requests are forwarded as such; whether it knows Observe,
-    # and a Max-Age in a request; which error an invalid URI gets.
-    caches, waits, token_length, mirrors, knows_observe, knows_age = True, 0.6, 8, False, True, True
+    # yet; the length of its tokens; whether Non-confirmable requests are forwarded as such; whether it knows Observe;
+    # which error an invalid URI gets.
+    caches, waits, token_length, mirrors, knows_observe = True, 0.6, 8, False, True
     bad_uri, following = BAD_REQUEST, None
 
     def __init__(self, host, port, scale, names, maps):
@@ -145,12 +145,7 @@ class Proxy(Cache, MessageLayer):
         return found
 
     def request_lengths(self):
-        more = {}
-        if self.knows_observe:
-            more[OBSERVE] = (0, 3)
-        if self.knows_age:
-            more[MAX_AGE] = (0, 4)
-        return {**REQUEST_LENGTHS, **more}
+        return {**REQUEST_LENGTHS, OBSERVE: (0, 3)} if self.knows_observe else REQUEST_LENGTHS
 
     def refused(self, it):
         """The unrecognised options of a request that are unsafe to forward."""
@@ -522,5 +517,5 @@ class Bare(Proxy):
 class Plain(Proxy):
     """Another right one: it has no cache, forwards Non-confirmable requests as such, and knows no Observe."""
 
-    caches, mirrors, knows_observe, knows_age, bad_uri = False, True, False, False, NOT_SUPPORTED
+    caches, mirrors, knows_observe, bad_uri = False, True, False, NOT_SUPPORTED
     waits, token_length = 0.3, 5

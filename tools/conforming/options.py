@@ -45,7 +45,7 @@ LENGTHS = {
 }
 
 
-@case(MUST, "LengthsUnchecked", needs=("scheme",), each=LENGTHS)
+@case(MUST, "LengthsUnchecked", "AgesTaken", needs=("scheme",), each=LENGTHS)
 def an_unsafe_option_with_a_wrong_length_gives_4_02(stage, number, value):
     """An option with a length outside the defined range MUST be treated like an unrecognized option (5.4.1), which is
     refused if it is unsafe (5.7.1)."""
@@ -94,9 +94,17 @@ def a_proxy_uri_that_stands_twice_gives_4_02(stage):
     is_refused(stage, 2 * resource.here, resource=resource)
 
 
-@case(MUST, "RepeatsTaken", at="5.4.5")
+@case(MUST, "AgesTaken", at="5.4", each={"GET": GET, "PUT": 3, "DELETE": 4})
+def a_max_age_in_a_request_gives_4_02(stage, method):
+    """Options that are not defined for a Method MUST be treated like an unrecognized option by a recipient. Max-Age is
+    defined for responses (5.10.5), and unsafe to forward: so the request is refused (5.7.1)."""
+    resource = stage.resource()
+    is_refused(stage, [*resource.here, wire.max_age(7)], method=method, resource=resource)
+
+
+@case(MUST, "AgesTaken", at="5.4.5")
 def a_max_age_that_stands_twice_in_a_request_gives_4_02(stage):
-    """Max-Age is unsafe to forward. A proxy may know it in a request or not; the second one is unrecognised."""
+    """Even where one is read, the second one is unrecognised."""
     resource = stage.resource()
     is_refused(stage, [*resource.here, wire.max_age(7), wire.max_age(8)], resource=resource)
 

@@ -33,6 +33,16 @@ class RepeatsTaken(Proxy):
         return False
 
 
+class AgesTaken(Proxy):
+    """Knows Max-Age in requests, however often it stands there, and with whatever length."""
+
+    def request_lengths(self):
+        return {**super().request_lengths(), MAX_AGE: (0, 20)}
+
+    def stands_before(self, number, before):
+        return number != MAX_AGE and super().stands_before(number, before)
+
+
 class OptionsDoubled(Proxy):
     def answer_options(self, options):
         return [it for it in super().answer_options(options) for _ in range(2)]
