@@ -89,7 +89,10 @@ def first_timeouts_are_random(stage):
         if second is None:
             raise NotOffered("it didn't send it again")
         waits.append(second.at - first.at)
-    expect("whether they differ by 2% of ACK_TIMEOUT or more", True, max(waits) - min(waits) >= stage.seconds(0.04))
+    # Of eight random ones between 2 and 3 s, all lie within 0.15 s once in 70,000 times.
+    spread = max(waits) - min(waits)
+    if spread < stage.seconds(0.15):
+        raise NotKept(f"eight of them lie within {spread:.3f} s")
 
 
 @case(MUST, "SendsFourTimes", "SendsSixTimes", is_long=True)
