@@ -3,6 +3,7 @@
 from measuring import median
 
 COLORS = {"relay": "#9aa5b1", "coap-proxyd": "#1f6feb", "libcoap": "#d2872c"}
+DOUBTFUL = "not to be believed: the machine was busy"
 # The greatest ratio that is drawn, and the sizes of the picture.
 MOST = 1.4
 WIDTH, LABEL, BAR, GAP, TOP, GROUP = 900, 250, 9, 2, 58, 9
@@ -108,6 +109,7 @@ def plot(figures, rows, head):
         f'<svg xmlns="http://www.w3.org/2000/svg" viewBox="0 0 {WIDTH} {height}" font-family="sans-serif">',
         f'<rect width="{WIDTH}" height="{height}" fill="#fff"/>',
         text(16, 20, "Requests a second, as a ratio to a bare UDP echo", 14, more=' font-weight="bold"'),
+        *([text(WIDTH - 8, 20, DOUBTFUL, 12, "end", ' fill="#b00"')] if figures.doubts() else []),
         *legend(figures),
     ]
     for number, row in enumerate(rows):
