@@ -51,7 +51,6 @@ class Proxy:
     def __init__(self, setup, scale=1.0, offers=()):
         self.setup, self.scale, self.offers = setup, scale, set(offers)
         self.name = setup.name
-        self.folder = tempfile.mkdtemp(prefix="conformance-")
         self.lock, self.count, self.process = threading.Lock(), 0, None
         self.leases = queue.Queue()
         host = setup.host or "127.%d.%d.%d" % tuple(random.randrange(64, 255) for _ in range(3))
@@ -61,6 +60,7 @@ class Proxy:
         for text in setup.prefixes:
             self.leases.put(Lease(text.format(port=self.address[1], **self.places)))
         self.has_prefixes = bool(setup.prefixes)
+        self.folder = tempfile.mkdtemp(prefix="conformance-")
 
     def close(self):
         """Ends what was started, and removes its files."""
