@@ -1,0 +1,70 @@
+"""Cases of the suite: what a case is, how one is noted, and what may come of it."""
+
+from collections import namedtuple
+
+MUST, SHOULD = "MUST", "SHOULD"
+KEPT, NOT_KEPT, ENDED, NOT_OFFERED, NOT_SEEN = "kept", "not kept", "ended", "not offered", "not seen"
+
+# A case: its family's name and the label of its variant, the section, whether it is a MUST or a SHOULD, the function
+# that plays it with its values, the faults of which at least one must be found, what the proxy must offer, whether it
+# takes longer than two minutes, and whether it is played while no other is.
+Case = namedtuple("Case", "family label section level function values faults needs is_long is_alone")
+# What came of a case, and a text that says more: what came, or why it wasn't tried.
+Outcome = namedtuple("Outcome", "case result text", defaults=("",))
+
+
+class NotKept(Exception):
+    """What the RFC has come, and what came."""
+
+
+class NotOffered(Exception):
+    """What a proxy doesn't have, so that a requirement can't be seen to be kept."""
+
+
+class Broken(Exception):
+    """Why the suite can't go on."""
+
+
+def name_of(case):
+    """The name of a case: that of its family, and the label of its variant if there is one."""
+    return f"{case.family} {case.label}" if case.label else case.family
+
+
+def case_list(section):
+    """The cases of a section, and what a function is marked with to be among them.
+
+    `each` has a variant for each of its values, or of its labels if it is a dictionary. A tuple is taken apart into
+    arguments of the function. `faults` are the stand-ins that it must find wrong: each variant one of them at least.
+    The function's doc comment is the sentence of the RFC that decides, where the requirement alone doesn't."""
+    cases = []
+
+    def case(level, *faults, each=None, at=section, needs=(), is_long=False, is_alone=False):
+        def note(function):
+            labelled = each if isinstance(each, dict) else {str(value): value for value in each or ()}
+            for label, value in labelled.items() if each else [("", ())]:
+                values = value if isinstance(value, tuple) else (value,)
+                cases.append(Case(
+                    function.__name__, label, at, level, function, values, faults, tuple(needs), is_long, is_alone
+                ))
+            return function
+
+        return note
+
+    return cases, case
+
+
+def shown(value):
+    """A value for a reader."""
+    return {True: "yes", False: "no"}[value] if isinstance(value, bool) else repr(value)
+
+
+def expect(what, wanted, came):
+    """Isn't kept where something isn't as wanted."""
+    if wanted != came:
+        raise NotKept(f"{what}: {shown(wanted)} is right, {shown(came)} came")
+
+
+def expect_between(what, least, most, came):
+    """Isn't kept where a number isn't within bounds."""
+    if not least <= came <= most:
+        raise NotKept(f"{what}: {least:.6g} to {most:.6g} is right, {came:.6g} came")

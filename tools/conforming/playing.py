@@ -1,0 +1,145 @@
+"""Plays cases against a proxy: many at once, again where the machine may have been too slow, and each alone where the
+proxy's process ended."""
+
+import time
+from concurrent.futures import ThreadPoolExecutor, as_completed
+
+from conforming.cases import ENDED, KEPT, NOT_KEPT, NOT_OFFERED, NOT_SEEN, Broken, NotKept, NotOffered, Outcome, name_of
+from conforming.running import Proxy
+from conforming.stage import Stage
+
+# How many cases are played at once, how many of those that failed, and how many of those that were played when the
+# process ended.
+AT_ONCE, AGAIN_AT_ONCE, SUSPECTS_AT_ONCE = 40, 12, 6
+# How long a run without long cases may take, in seconds, before no more cases are begun.
+BOUND = 105
+
+
+def missing(case, offers):
+    """What a case needs and the proxy doesn't offer, or None."""
+    lacking = [it for it in case.needs if it not in offers]
+    names = {
+        "forward": "Proxy-Uri", "scheme": "Proxy-Scheme", "reverse": "reverse-proxy", "cache": "cache", "name": "name",
+        "another port": "port but 5683", "any address": "address that a command is told",
+        "chain": "next proxy that a command is told", "libcoap": "server of libcoap behind it, which isn't installed",
+    }
+    return f"it has no {names[lacking[0]]}" if lacking else None
+
+
+def try_case(proxy, case, scale):
+    """What comes of a case."""
+    try:
+        with Stage(proxy, scale) as stage:
+            case.function(stage, *case.values)
+    except NotKept as text:
+        return Outcome(case, NOT_KEPT, str(text))
+    except NotOffered as text:
+        return Outcome(case, NOT_OFFERED, str(text))
+    except Broken as text:
+        return Outcome(case, NOT_SEEN, str(text))
+    except OSError as error:
+        return Outcome(case, NOT_SEEN, f"the system refused it: {error}")
+    except Exception as error:
+        return Outcome(case, NOT_SEEN, f"a fault of the suite: {type(error).__name__}: {error}")
+    return Outcome(case, KEPT)
+
+
+class Play:
+    """A run of cases against a proxy."""
+
+    def __init__(self, proxy, is_long=False, tries=2, at_once=AT_ONCE, tell=lambda count: None):
+        self.proxy, self.is_long, self.tries, self.at_once, self.tell = proxy, is_long, tries, at_once, tell
+        self.outcomes, self.suspects, self.is_gone = {}, [], False
+        self.until = time.monotonic() + BOUND
+
+    def note(self, outcome):
+        self.outcomes[name_of(outcome.case)] = outcome
+        self.tell(len(self.outcomes))
+
+    def has_time(self):
+        return self.is_long or time.monotonic() < self.until
+
+    def play_one(self, case):
+        """What comes of a case, and whether the process ended meanwhile."""
+        if not self.has_time():
+            return Outcome(case, NOT_SEEN, "no time was left for it"), False
+        if self.is_gone:
+            return Outcome(case, NOT_SEEN, "the proxy answered no more"), False
+        count = self.proxy.start()
+        outcome = try_case(self.proxy, case, self.proxy.scale)
+        if outcome.result == NOT_KEPT and not self.proxy.setup.command:
+            self.is_gone = self.is_gone or not self.proxy.answers()
+        time.sleep(0.02 if case.is_alone else 0)
+        has_ended = not self.proxy.is_running() or self.proxy.count != count
+        return outcome, has_ended
+
+    def play_many(self, cases, at_once):
+        """Plays cases at once. Those that met the end of the process are suspects."""
+        with ThreadPoolExecutor(max(1, at_once)) as pool:
+            futures = [pool.submit(self.play_one, case) for case in cases]
+            try:
+                for future in as_completed(futures):
+                    self.note_or_suspect(*future.result())
+            except BaseException:
+                self.until, self.is_long = 0, False
+                raise
+
+    def note_or_suspect(self, outcome, has_ended):
+        """Notes what came of a case, unless the process ended meanwhile."""
+        if has_ended:
+            self.suspects.append(outcome.case)
+        else:
+            self.note(outcome)
+
+    def play_alone(self, case):
+        """Plays a case while no other is, and notes whether the process ended at it."""
+        outcome, has_ended = self.play_one(case)
+        self.note(Outcome(case, ENDED, "the process of the proxy ended") if has_ended else outcome)
+
+    def play(self, cases):
+        """Plays all cases, and returns their outcomes in the same order."""
+        played = []
+        for case in cases:
+            why = missing(case, self.proxy.offers)
+            if why:
+                self.note(Outcome(case, NOT_OFFERED, why))
+            elif case.is_long and not self.is_long:
+                self.note(Outcome(case, NOT_SEEN, "it needs --long"))
+            else:
+                played.append(case)
+        self.play_long([it for it in played if it.is_long], [it for it in played if not it.is_long])
+        return [self.outcomes[name_of(it)] for it in cases]
+
+    def play_long(self, long, short):
+        """Plays the long cases beside the others, against a process of their own if a command starts it."""
+        with ThreadPoolExecutor(1) as pool:
+            future = pool.submit(self.play_in_own_process, long) if long else None
+            self.play_short(short)
+            for outcome in future.result() if future else ():
+                self.note(outcome)
+
+    def play_in_own_process(self, cases):
+        """What comes of long cases, all at once."""
+        own = Proxy(self.proxy.setup, self.proxy.scale, self.proxy.offers) if self.proxy.setup.command else self.proxy
+        other = Play(own, True, 1)
+        try:
+            other.play_many(cases, len(cases))
+        finally:
+            if own is not self.proxy:
+                own.close()
+        ended = [Outcome(it, ENDED, "the process of the proxy ended beside other long cases") for it in other.suspects]
+        return [*other.outcomes.values(), *ended]
+
+    def play_short(self, cases):
+        self.play_many([it for it in cases if not it.is_alone], self.at_once)
+        for case in [it for it in cases if it.is_alone]:
+            self.play_alone(case)
+        for _ in range(self.tries - 1):
+            failed = [it.case for it in self.outcomes.values() if it.result == NOT_KEPT and not it.case.is_long]
+            if self.has_time():
+                self.play_many(failed, AGAIN_AT_ONCE)
+        suspects, self.suspects = self.suspects, []
+        self.play_many(suspects, SUSPECTS_AT_ONCE)
+        for case in self.suspects:
+            self.play_alone(case)
+        self.proxy.start()

@@ -1,0 +1,88 @@
+"""Tests the suite itself: each case passes with right stand-ins that differ, and fails with one that is wrong."""
+
+import os
+import shutil
+import sys
+from concurrent.futures import ThreadPoolExecutor
+
+from conforming import model
+from conforming.cases import ENDED, KEPT, NOT_KEPT, NOT_OFFERED, name_of
+from conforming.playing import Play
+from conforming.running import ORIGINS, Proxy, Setup
+
+STAND_IN = os.path.join(os.path.dirname(os.path.abspath(__file__)), "stand_in")
+RIGHT = ("Proxy", "Separate", "Plain", "Bare")
+# How much shorter the times of the RFC are, how many stand-ins run at once, and how many cases each of them plays.
+SCALE, AT_ONCE, CASES_AT_ONCE = 0.1, 16, 24
+PREFIXES = [f"/r{n}={{address}}:{{origin{n if n > 1 else ''}}}" for n in range(1, ORIGINS + 1)]
+OFFERS = {"forward", "scheme", "reverse", "name", "another port", "any address", "chain"}
+OFFERS |= {"libcoap"} if shutil.which("coap-server-notls") or shutil.which("coap-server") else set()
+
+
+def setup_of(name):
+    """How a stand-in is started."""
+    words = [sys.executable, STAND_IN, name, str(SCALE), "{address}", "{port}", "{name}", *PREFIXES]
+    chained = [*words[:7], "next={next}"]
+    return Setup(words, None, None, "proxy.test", True, PREFIXES, None, chained)
+
+
+def is_caching(name):
+    """Whether a stand-in has a cache, if it is a right one. Of a wrong one that isn't asked, since its fault may hide
+    it."""
+    return name not in RIGHT or vars(model)[name].caches
+
+
+def outcomes_of(name, cases, tries):
+    """What comes of cases with a stand-in. What it offers is known."""
+    proxy = Proxy(setup_of(name), SCALE, OFFERS | ({"cache"} if is_caching(name) else set()))
+    try:
+        proxy.start()
+        return Play(proxy, True, tries, CASES_AT_ONCE).play(cases)
+    finally:
+        proxy.close()
+
+
+def faults_of_right(cases, played):
+    """What is wrong with how cases went with right stand-ins."""
+    faults = []
+    for place, case in enumerate(cases):
+        came = {name: outcomes[place] for name, outcomes in played.items() if name in RIGHT}
+        for name, outcome in came.items():
+            if outcome.result not in (KEPT, NOT_OFFERED):
+                faults.append(f"{name_of(case)}: {outcome.result} with {name}, which is right: {outcome.text}")
+        if sum(it.result == KEPT for it in came.values()) < 2:
+            told = ", ".join(f"{name}: {it.result} {it.text}" for name, it in came.items())
+            faults.append(f"{name_of(case)}: kept with fewer than two right ones ({told})")
+    return faults
+
+
+def faults_of_wrong(cases, played):
+    """What is wrong with how cases went with stand-ins that are wrong."""
+    faults, found = [], set()
+    for case in cases:
+        failed = [name for name in case.faults if played[name].get(name_of(case)) in (NOT_KEPT, ENDED)]
+        found.update(failed)
+        if not failed:
+            came = ", ".join(f"{name}: {played[name].get(name_of(case))}" for name in case.faults)
+            faults.append(f"{name_of(case)}: no stand-in that is wrong fails it ({came})")
+    for name in sorted({it for case in cases for it in case.faults} - found):
+        faults.append(f"no case fails with {name}")
+    return faults
+
+
+def run(cases, tell):
+    """Plays cases with all stand-ins, writes what is wrong, and returns a status."""
+    cases = [it for it in cases if "libcoap" not in it.needs or "libcoap" in OFFERS]
+    wrong = sorted({name for case in cases for name in case.faults})
+    plays = [(name, cases, 2) for name in RIGHT]
+    plays += [(name, [case for case in cases if name in case.faults], 1) for name in wrong]
+    with ThreadPoolExecutor(AT_ONCE) as pool:
+        done = list(pool.map(lambda it: outcomes_of(*it), plays))
+    by_name = dict(zip([it[0] for it in plays], done))
+    results = {name: {name_of(it.case): it.result for it in outcomes} for name, outcomes in by_name.items()}
+    faults = faults_of_right(cases, by_name) + faults_of_wrong(cases, results)
+    for fault in faults:
+        print(fault)
+    count = sum(len(it) for it in done)
+    print(f"{len(cases)} cases, {len(wrong)} stand-ins that are wrong, {count} plays, {len(faults)} faults")
+    return 1 if faults else 0

@@ -1,0 +1,156 @@
+"""The suite of tools/conformance and the programs of tools/bench: that the cases are those that the page of RFC 7252
+names, what the output is, that stand-ins are told apart, and that a load finds wrong answers."""
+
+import json
+import os
+import shutil
+import subprocess
+import sys
+import tempfile
+
+from conforming import output, rows, suite
+from conforming.cases import ENDED, KEPT, MUST, NOT_KEPT, NOT_OFFERED, SHOULD, Case, Outcome
+from testing.network import Skipped, expect, free_port
+
+TOOLS = os.path.dirname(os.path.dirname(os.path.abspath(__file__)))
+
+
+def one(stage):
+    """The sentence that decides."""
+
+
+def outcome(name, level, result, text=""):
+    """An outcome of a case that nobody plays."""
+    return Outcome(Case(name, "a # b", "5.6", level, one, (), (), (), False, False), result, text)
+
+
+SOME = [
+    outcome("kept_one", MUST, KEPT), outcome("lost_one", MUST, NOT_KEPT, 'a "b" came'),
+    outcome("dear_one", SHOULD, NOT_KEPT, "x"), outcome("bare_one", MUST, NOT_OFFERED, "it has no cache"),
+    outcome("last_one", MUST, ENDED, "it ended"),
+]
+TAP = """TAP version 14
+1..5
+ok 1 - 5.6 MUST kept_one a \\# b
+not ok 2 - 5.6 MUST lost_one a \\# b
+  ---
+  result: "not kept"
+  level: "MUST"
+  section: "5.6"
+  rfc: "The sentence that decides."
+  came: "a \\"b\\" came"
+  ...
+not ok 3 - 5.6 SHOULD dear_one a \\# b # TODO a SHOULD
+  ---
+  result: "not kept"
+  level: "SHOULD"
+  section: "5.6"
+  rfc: "The sentence that decides."
+  came: "x"
+  ...
+ok 4 - 5.6 MUST bare_one a \\# b # SKIP not offered: it has no cache
+not ok 5 - 5.6 MUST last_one a \\# b
+  ---
+  result: "ended"
+  level: "MUST"
+  section: "5.6"
+  rfc: "The sentence that decides."
+  came: "it ended"
+  ...
+# 5.6: 1 kept, 2 not kept, 1 ended, 1 not offered
+# MUST: 1 kept, 1 not kept, 1 ended, 1 not offered
+# SHOULD: 1 not kept
+# all: 1 kept, 2 not kept, 1 ended, 1 not offered"""
+
+
+def cases_stand_in_rows():
+    """Each case stands in a row of the page, and each row has a case or says why not."""
+    expect("what differs", [], rows.check_names(suite.CASES))
+    expect("whether there are 250 cases", True, len(suite.CASES) >= 250)
+    names = [(it.family, it.label) for it in suite.CASES]
+    expect("how many cases share a name", 0, len(names) - len(set(names)))
+
+
+def output_is_tap():
+    """What is written for each kind of result."""
+    expect("the output", TAP.splitlines(), output.tap(SOME).splitlines())
+
+
+def rows_are_compared():
+    """What isn't kept and isn't listed is found, and what is listed and kept."""
+    family = next(it for row in rows.rows() if row.heading == "Not kept" for it in row.families)
+    case = next(it for it in suite.CASES if it.family == family)
+    other = next(it for it in suite.CASES if it.family == "a_stale_response_is_not_given")
+    expect("how many differ", 0, len(rows.check_outcomes([Outcome(other, KEPT)])))
+    expect("how many differ", 1, len(rows.check_outcomes([Outcome(other, NOT_KEPT, "x")])))
+    expect("how many differ", 1, len(rows.check_outcomes([Outcome(case, KEPT)])))
+
+
+def run(*words):
+    """What a tool writes, and its status."""
+    command = [sys.executable, os.path.join(TOOLS, "conformance"), *words]
+    pipes = {"stdout": subprocess.PIPE, "stderr": subprocess.STDOUT, "universal_newlines": True}
+    done = subprocess.run(command, timeout=100, **pipes)
+    return done.returncode, done.stdout
+
+
+def stand_ins_are_told_apart():
+    """Some cases of the format pass with right stand-ins and fail with wrong ones."""
+    status, text = run("--self-test", "--only", "^3 MUST a_.*(of_another_version|marker)")
+    expect("status and text", (0, " 0 faults"), (status, text.rstrip("\n")[-9:]))
+
+
+def a_wrong_stand_in_is_not_kept():
+    """A proxy that a command starts and that is wrong: its faults, and those alone, are told. One that ends is started
+    again."""
+    stand_in = os.path.join(TOOLS, "conforming", "stand_in")
+    for fault, only, told in (
+        ("UnsafeForwarded", "an_unsafe_option_is_refused|a_response_code_reaches", "11 kept, 4 not kept"),
+        ("EndsAtGarbage", "it_goes_on_after (one byte|1,500 zeros|three)", "3 ended"),
+    ):
+        command = [sys.executable, stand_in, fault, "0.1", "{address}", "{port}", "{name}"]
+        status, text = run("--forward", "--only", only, "--", *command)
+        expect("status and last line", (1, f"# all: {told}"), (status, text.splitlines()[-1]))
+
+
+def what_cannot_be_tried_is_said():
+    """No stack trace, and a status that isn't 0."""
+    for words in (["--against", "192.0.2.1"], ["--forward", "--", "/no/such/program"], ["--only", "no such case"]):
+        status, text = run(*words)
+        expect("status, lines and beginning", (2, 1, "Bail out!"), (status, text.count("\n"), text[:9]))
+
+
+def compiled(folder, name):
+    """A program of the bench."""
+    compiler = shutil.which("cc")
+    if compiler is None:
+        raise Skipped("there is no C compiler")
+    source = os.path.join(TOOLS, "bench.d", f"{name}.c")
+    subprocess.run([compiler, "-Wall", "-Wextra", "-Werror", "-o", os.path.join(folder, name), source], check=True)
+    return os.path.join(folder, name)
+
+
+def a_load_finds_wrong_answers():
+    """All answers of an origin are right, and none where it is asked for something else."""
+    with tempfile.TemporaryDirectory(prefix="coap-proxyd-test-") as folder:
+        host, port = "127.7.7.7", str(free_port())
+        origin = subprocess.Popen([compiled(folder, "origin"), host, port, "10", "60"])
+        echo_port = str(free_port())
+        echo = subprocess.Popen([compiled(folder, "echo"), host, echo_port, "10"])
+        try:
+            load = [compiled(folder, "load"), host]
+            for place, more, wrong in ((port, ["/b/"], 0), (echo_port, ["/b/", "echo"], 0), (echo_port, ["/b/"], 200)):
+                words = [*load, place, "200", "8", "non", "0", "10", *more]
+                said = json.loads(subprocess.run(words, stdout=subprocess.PIPE, check=True, timeout=60).stdout)
+                came = said["answered"] + said["lost"], said["wrong"] + said["lost"]
+                expect("answered and wrong", (200, wrong), came)
+        finally:
+            for process in (origin, echo):
+                process.terminate()
+                process.wait()
+
+
+CASES = (
+    cases_stand_in_rows, output_is_tap, rows_are_compared, stand_ins_are_told_apart, a_wrong_stand_in_is_not_kept,
+    what_cannot_be_tried_is_said, a_load_finds_wrong_answers,
+)
