@@ -1,7 +1,8 @@
 -- What is cut is the longest beginning within both limits.
-use Rattle.std.proofs.Common.{◌≡◌, ℕ, ◌-◌, ◌≤◌, ◌&&◌, List, [], ◌∷◌, ◌++◌, length, Bool, true, false, cond, nat_le, refl, ap, arith}
+use Rattle.std.proofs.Common.{◌≡◌, ℕ, ◌-◌, ◌≤◌, ◌&&◌, List, [], ◌∷◌, ◌++◌, length, Bool, true, false, cond, nat_le, refl, sym, ap, arith}
 use Rattle.std.proofs.lemmas.Bool.{and_parts, leb-true, leb-false}
 use Rattle.std.proofs.lemmas.List.Sums.{sum_by-cons}
+use Rattle.coap_store.specs.Evicting.{beyond}
 use Rattle.coap_store.specs.Lists.{total, cut, IsLongestBeginning}
 
 module _ {X : Type 0} (size : X → ℕ) where
@@ -38,14 +39,15 @@ module _ {X : Type 0} (size : X → ℕ) where
           omega arith
       go false t rest = omega arith
 
-  -- something stands after what is cut
-  cut-splits : (bytes count : ℕ) (xs : List X) → (rest : List X) × (xs ≡ cut size bytes count xs ++ rest)
-  cut-splits bytes count [] = ([], refl)
-  cut-splits bytes count (x ∷ xs) = go (nat_le (size x) bytes && nat_le 1 count) (cut-splits (bytes - size x) (count - 1) xs)
+  -- what is dropped stands after what is kept
+  pub cut-beyond : (bytes count : ℕ) (xs : List X) → cut size bytes count xs ++ beyond size bytes count xs ≡ xs
+  cut-beyond bytes count [] = refl
+  cut-beyond bytes count (x ∷ xs) = go (nat_le (size x) bytes && nat_le 1 count) (cut-beyond (bytes - size x) (count - 1) xs)
     where
-      go : (b : Bool) → (rest : List X) × (xs ≡ cut size (bytes - size x) (count - 1) xs ++ rest) → (rest : List X) × (x ∷ xs ≡ cond b (x ∷ cut size (bytes - size x) (count - 1) xs) [] ++ rest)
-      go true s = (s.0, ap (λ l. x ∷ l) s.1)
-      go false s = (x ∷ xs, refl)
+      go : (b : Bool) → cut size (bytes - size x) (count - 1) xs ++ beyond size (bytes - size x) (count - 1) xs ≡ xs
+          → cond b (x ∷ cut size (bytes - size x) (count - 1) xs) [] ++ cond b (beyond size (bytes - size x) (count - 1) xs) (x ∷ xs) ≡ x ∷ xs
+      go true rest = ap (λ l. x ∷ l) rest
+      go false rest = refl
 
   -- no beginning within both limits is longer
   cut-longest : (bytes count : ℕ) (xs zs more : List X) → xs ≡ zs ++ more → total size zs ≤ bytes → length zs ≤ count → length zs ≤ length (cut size bytes count xs)
@@ -64,10 +66,9 @@ module _ {X : Type 0} (size : X → ℕ) where
   -- so it is the longest beginning
   pub cut-is-longest : (bytes count : ℕ) (xs : List X) → IsLongestBeginning size bytes count xs (cut size bytes count xs)
   cut-is-longest bytes count xs =
-      let splits = cut-splits bytes count xs in
       record {
-        rest = splits.0;
-        beginning = splits.1;
+        rest = beyond size bytes count xs;
+        beginning = sym (cut-beyond bytes count xs);
         within_bytes = cut-bytes bytes count xs;
         within_count = cut-count bytes count xs;
         longest = cut-longest bytes count xs;

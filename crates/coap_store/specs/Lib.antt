@@ -4,6 +4,7 @@ pub mod Freshness
 pub mod Sizes
 pub mod Lists
 pub mod Entries
+pub mod Evicting
 pub mod Renewing
 pub mod Showing
 pub mod Replies

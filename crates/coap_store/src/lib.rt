@@ -21,6 +21,7 @@
 #![tactic(auto)]
 
 mod answer;
+mod evictions;
 mod key;
 pub mod laws;
 mod measure;
@@ -34,6 +35,7 @@ mod tag;
 mod updating;
 
 pub use answer::Answer;
+pub use evictions::Evictions;
 pub use key::CacheKey;
 pub use measure::aged_fits;
 pub use reply::Reply;

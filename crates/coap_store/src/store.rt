@@ -1,10 +1,13 @@
 //! Stores of responses (RFC 7252, 5.6).
-ghost use Rattle.std.specs.Prelude.{◌≡◌, ◌↔◌, ◌<◌, ◌≤◌, ◌^◌, ◌-◌, [], None, IfOk, IsTrue, IsFalse, List, length, map, count_by, is_some, min};
+ghost use Rattle.std.specs.Prelude.{◌≡◌, ◌≢◌, ◌↔◌, ◌<◌, ◌≤◌, ◌^◌, ◌-◌, [], None, IfOk, IsTrue, IsFalse, List, length, map, count_by, is_some, min};
 ghost use Rattle.std.specs.Option.{option_map};
 ghost use Rattle.coap_store.specs.Entries.{Entry, IsStore, Limits, entry_key, entry_size, has_usable, is_for, marked, stored_for};
+ghost use Rattle.coap_store.specs.Evicting.{after_put, no_evictions};
+ghost use Rattle.coap_store.specs.declared.evictions.Evictions.{Evictions};
 ghost use Rattle.coap_store.specs.Lists.{of_key, others, put, total, used};
 ghost use Rattle.coap_store.specs.Sizes.{size_of};
 
+use crate::evictions::Evictions;
 use crate::key::CacheKey;
 use crate::stored::Stored;
 use coap_endpoint::Target;
@@ -24,7 +27,8 @@ pub enum Put {
 }
 
 /// A store of responses, which keeps the most recently used within limits. A contract sees its
-/// limits, and its entries as a list, the most recently used first. No two have the same key.
+/// limits, its entries as a list, the most recently used first, and how many it evicted. No two
+/// entries have the same key.
 pub trait Store {
     /// What a store needs besides its limits, such as a hasher.
     type Seed;
@@ -32,6 +36,8 @@ pub trait Store {
     ghost limits: { Self → Limits };
 
     ghost entries: { Self → List Entry };
+
+    ghost evicted: { Self → Evictions };
 
     /// An empty store, which keeps at most `most_bytes` bytes, as `bytes_of` counts them, and at
     /// most `most_entries` entries. It never keeps more than 2^63 - 1 bytes: a greater limit is
@@ -50,7 +56,8 @@ pub trait Store {
         ensures limited { IfOk result
             (λ s. limits s
             ≡ record { bytes = min most_bytes (2 ^ 63 - 1); entries = most_entries }) }
-        ensures empty { IfOk result (λ s. entries s ≡ []) };
+        ensures empty { IfOk result (λ s. entries s ≡ []) }
+        ensures evicted { IfOk result (λ s. evicted s ≡ no_evictions) };
 
     /// Whether the response stored for the key may answer a request at this moment, in
     /// milliseconds: there is one, it is fresh, and it isn't marked (RFC 7252, 5.6 and 5.6.1). If
@@ -61,6 +68,7 @@ pub trait Store {
             → entries self.new ≡ used entry_key key.now (entries self.old) }
         ensures unmoved { IsFalse result → entries self.new ≡ entries self.old }
         ensures limited { limits self.new ≡ limits self.old }
+        ensures evicted { evicted self.new ≡ evicted self.old }
     {
         let usable = self.peek(key).is_some_and(|stored| stored.is_usable(now));
         if usable {
@@ -73,7 +81,8 @@ pub trait Store {
     /// allocate.
     fn touch(&mut self, key: &CacheKey)
         ensures moved { entries self.new ≡ used entry_key key.now (entries self.old) }
-        ensures limited { limits self.new ≡ limits self.old };
+        ensures limited { limits self.new ≡ limits self.old }
+        ensures evicted { evicted self.new ≡ evicted self.old };
 
     /// What is stored for the key. Doesn't allocate.
     fn peek(&self, key: &CacheKey) -> Option<&Stored>
@@ -101,6 +110,12 @@ pub trait Store {
         ensures no_memory_new { result ≡ Put.NoMemory
             → of_key entry_key key (entries self.old) ≡ None }
 
+        // What it drops to make room is counted, by whether it is fresh when the new one comes.
+        ensures evicted { result ≡ Put.Kept
+            → evicted self.new
+            ≡ after_put (limits self.old) (key, stored) (entries self.old) (evicted self.old) }
+        ensures none_evicted { result ≢ Put.Kept → evicted self.new ≡ evicted self.old }
+
         ensures limited { limits self.new ≡ limits self.old };
 
     /// Marks what is stored for any key of a target that was changed, so that it no longer answers
@@ -109,13 +124,15 @@ pub trait Store {
     fn mark(&mut self, target: &Target) -> usize
         ensures counted { result ≡ count_by (is_for target.now) (entries self.old) }
         ensures marked { entries self.new ≡ map (marked target.now) (entries self.old) }
-        ensures limited { limits self.new ≡ limits self.old };
+        ensures limited { limits self.new ≡ limits self.old }
+        ensures evicted { evicted self.new ≡ evicted self.old };
 
     /// Drops what is stored for the key, and returns whether there was anything. Doesn't allocate.
     fn forget(&mut self, key: &CacheKey) -> bool
         ensures found { result ≡ is_some (of_key entry_key key.now (entries self.old)) }
         ensures given_up { entries self.new ≡ others entry_key key.now (entries self.old) }
-        ensures limited { limits self.new ≡ limits self.old };
+        ensures limited { limits self.new ≡ limits self.old }
+        ensures evicted { evicted self.new ≡ evicted self.old };
 
     /// How many bytes the entries count for, as `bytes_of` counts them. Doesn't allocate.
     fn total(&self) -> u64
@@ -126,6 +143,10 @@ pub trait Store {
     fn len(&self) -> usize
         ensures length { result ≡ length (entries self.now) }
         ensures valid { IsStore (limits self.now) (entries self.now) };
+
+    /// How many entries it evicted to make room for others, since it was made. Doesn't allocate.
+    fn evictions(&self) -> Evictions
+        ensures { result ≡ evicted self.now };
 
     /// Whether there are no entries. Doesn't allocate.
     fn is_empty(&self) -> bool

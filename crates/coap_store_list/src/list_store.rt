@@ -1,11 +1,12 @@
 //! A store as a plain list.
 ghost use Rattle.std.specs.Prelude.{◌≡◌, ◌<◌, ◌≤◌, ◌^◌, ◌∷◌, None, true, is_some, IsSome, IsTrue, OnOk, OnErr, length, map, count_by, position, take, vec_len, vec_capacity};
 ghost use Rattle.coap_store.specs.Entries.{entry_key, entry_size, is_for, marked};
+ghost use Rattle.coap_store.specs.Evicting.{beyond, evictions_of};
 ghost use Rattle.coap_store.specs.Lists.{are_distinct, cut, has_key, of_key, others, total, used};
 
 use coap_endpoint::Target;
-use coap_message::OutOfMemory;
-use coap_store::{CacheKey, Put, Store, Stored, bytes_of};
+use coap_message::{Moment, OutOfMemory};
+use coap_store::{CacheKey, Evictions, Put, Store, Stored, bytes_of};
 use std::alloc::Global;
 
 /// A store that keeps its entries in a list, the most recently used first, and searches it in each
@@ -16,6 +17,7 @@ pub struct ListStore {
     most_bytes: u64,
     /// The maximum number of entries.
     most_entries: usize,
+    evicted: Evictions,
     ghost distinct: { are_distinct entry_key entries.items ≡ true },
     ghost within_bytes: { total entry_size entries.items ≤ most_bytes },
     ghost within_entries: { length entries.items ≤ most_entries },
@@ -28,6 +30,7 @@ impl Drop for ListStore {
             entries: _,
             most_bytes: _,
             most_entries: _,
+            evicted: _,
         } = self;
     }
 }
@@ -39,6 +42,8 @@ impl Store for ListStore {
 
     ghost entries = { λ s. s.entries.items };
 
+    ghost evicted = { λ s. s.evicted };
+
     fn with_limits(
         alloc: Global,
         _seed: (),
@@ -49,6 +54,7 @@ impl Store for ListStore {
             entries: Vec::new(alloc),
             most_bytes: most_bytes.min(i64::MAX as u64),
             most_entries,
+            evicted: Evictions::new(),
         })
     }
 
@@ -68,9 +74,12 @@ impl Store for ListStore {
             forget_entry(&mut self.entries, &key);
             return Put::TooLarge;
         }
+        let now = stored.got;
         match put_entry(&mut self.entries, key, stored) {
             Ok(()) => {
-                cut_to(&mut self.entries, self.most_bytes, self.most_entries);
+                let (bytes, most) = (self.most_bytes, self.most_entries);
+                let more = cut_to(&mut self.entries, bytes, most, now);
+                self.evicted.add(more);
                 Put::Kept
             }
             Err(_) => Put::NoMemory,
@@ -91,6 +100,10 @@ impl Store for ListStore {
 
     fn len(&self) -> usize {
         self.entries.len()
+    }
+
+    fn evictions(&self) -> Evictions {
+        self.evicted
     }
 }
 
@@ -158,7 +171,8 @@ fn put_entry(
 /// The number of entries from the front that are within the limits.
 fn count_fitting(entries: &[(CacheKey, Stored)], bytes: u64, most: usize) -> usize
     requires { bytes < 2 ^ 63 }
-    ensures { take result entries.now ≡ cut entry_size bytes most entries.now }
+    ensures cut { take result entries.now ≡ cut entry_size bytes most entries.now }
+    ensures within { result ≤ length entries.now }
 {
     let mut left = bytes;
     let mut count = 0;
@@ -173,13 +187,33 @@ fn count_fitting(entries: &[(CacheKey, Stored)], bytes: u64, most: usize) -> usi
     count
 }
 
-/// Evicts the entries after those that are within the limits.
-fn cut_to(entries: &mut Vec<(CacheKey, Stored)>, bytes: u64, most: usize)
+/// How many entries these are, and how many of them are fresh at this moment.
+fn count_evicted(entries: &[(CacheKey, Stored)], now: Moment) -> Evictions
+    ensures { result ≡ evictions_of now entries.now }
+{
+    let mut fresh = 0;
+    for (_, stored) in entries {
+        if stored.is_fresh(now) {
+            fresh += 1;
+        }
+    }
+    Evictions {
+        entries: entries.len() as u64,
+        fresh,
+    }
+}
+
+/// Evicts the entries after those that are within the limits, and returns how many these were, and
+/// how many of them were fresh at this moment.
+fn cut_to(entries: &mut Vec<(CacheKey, Stored)>, bytes: u64, most: usize, now: Moment) -> Evictions
     requires { bytes < 2 ^ 63 }
-    ensures { entries.new.items ≡ cut entry_size bytes most entries.old.items }
+    ensures kept { entries.new.items ≡ cut entry_size bytes most entries.old.items }
+    ensures counted { result ≡ evictions_of now (beyond entry_size bytes most entries.old.items) }
 {
     let count = count_fitting(entries, bytes, most);
+    let evicted = count_evicted(&entries[count..], now);
     entries.truncate(count);
+    evicted
 }
 
 /// Moves the entry with a key to the front.

@@ -1,13 +1,17 @@
 -- Entries are evicted from the end, one by one, as long as there are too many.
-use Rattle.std.proofs.Common.{◌≡◌, ℕ, zero, suc, ◌-◌, ◌<◌, ◌≤◌, ◌&&◌, ◌⊎◌, inl, inr, Bool, true, false, cond, nat_le, nat_lt, ◌||◌, List, [], ◌∷◌, ◌++◌, Some, None, length, take, slice_get, refl, sym, ap, subst, ◌∙◌, arith}
+use Rattle.std.proofs.Common.{◌≡◌, ℕ, zero, suc, ◌+◌, drop, ◌-◌, ◌<◌, ◌≤◌, ◌&&◌, ◌⊎◌, inl, inr, Bool, true, false, cond, nat_le, nat_lt, ◌||◌, List, [], ◌∷◌, ◌++◌, Some, None, length, take, slice_get, refl, sym, ap, subst, ◌∙◌, arith}
 use Rattle.std.specs.List.{list_all}
 use Rattle.std.proofs.lemmas.Bool.{and_parts, leb-true, lt-leb, ltb-false, ltb-true, not-true, or_cases, or_parts}
-use Rattle.std.proofs.lemmas.List.{length-take}
-use Rattle.std.proofs.lemmas.List.Sums.{sum_by-cons}
+use Rattle.std.specs.Prelude.{count_by}
+use Rattle.std.proofs.lemmas.List.{append_cancel_left, length-append, length-take, take-append-drop}
+use Rattle.std.proofs.lemmas.List.Sums.{sum_by-append, sum_by-cons}
 use Rattle.coap_store.specs.Entries.{Entry, entry_key, entry_size}
+use Rattle.coap_store.specs.declared.evictions.Evictions.{Evictions}
+use Rattle.coap_store.specs.Evicting.{beyond, evictions_of}
+use Rattle.coap_store.specs.Freshness.{is_fresh}
 use Rattle.coap_store.specs.Keys.{same_key}
 use Rattle.coap_store.specs.Lists.{has_other_key, of_key, others, are_distinct, total, cut}
-use Rattle.coap_store.proofs.Cuts.{cut-fits}
+use Rattle.coap_store.proofs.Cuts.{cut-beyond, cut-fits}
 use Rattle.coap_store.specs.Alike.{same_key-itself}
 use Rattle.coap_store_lru.proofs.Recency.{same_key-flips}
 
@@ -127,3 +131,50 @@ pub cut-kept : (bytes count : ℕ) (entries : List Entry) (counted : ℕ) → co
 cut-kept bytes count entries counted are is =
     let parts = or_parts (nat_lt bytes counted) (nat_lt count (length entries)) is in
     cut-whole entry_size bytes count entries (omega (arith, are, ltb-false bytes counted parts.0)) (ltb-false count (length entries) parts.1)
+
+-- the last one stands behind the others
+pub last-dropped : (entries : List Entry) (x : Entry) → slice_get entries (length entries - 1) ≡ Some x → drop (length entries - 1) entries ≡ x ∷ []
+last-dropped [] x is = absurd cc
+last-dropped (e ∷ es) x is =
+    let n = length es in
+    let len : length (e ∷ es) - 1 ≡ n = omega arith in
+    let split : e ∷ es ≡ take n (e ∷ es) ++ x ∷ [] = last_by n (e ∷ es) x (omega arith) (subst (λ m. slice_get (e ∷ es) m ≡ Some x) len is) in
+    ap (λ m. drop m (e ∷ es)) len ∙ append_cancel_left (take n (e ∷ es)) (drop n (e ∷ es)) (x ∷ []) (take-append-drop n (e ∷ es) ∙ split)
+
+-- if there is no last one, none does
+pub none-dropped : (entries : List Entry) → slice_get entries (length entries - 1) ≡ None → drop (length entries - 1) entries ≡ []
+none-dropped [] none = refl
+none-dropped (e ∷ es) none =
+    let n = length es in
+    let len : length (e ∷ es) - 1 ≡ n = omega arith in
+    let last = has_last n (e ∷ es) (omega arith) in
+    let some = sym (ap (slice_get (e ∷ es)) len ∙ last.1) ∙ none in
+    absurd (cc)
+
+-- the entries before the last one and the last one are all
+pub last-counted : (p : Entry → Bool) (entries : List Entry) → count_by p (take (length entries - 1) entries) + count_by p (drop (length entries - 1) entries) ≡ count_by p entries
+last-counted p entries =
+    let n = length entries - 1 in
+    sym (sum_by-append (λ e. cond (p e) 1 0) (take n entries) (drop n entries)) ∙ ap (count_by p) (take-append-drop n entries)
+
+pub last-length : (entries : List Entry) → length (take (length entries - 1) entries) + length (drop (length entries - 1) entries) ≡ length entries
+last-length entries =
+    let n = length entries - 1 in
+    sym (length-append (take n entries) (drop n entries)) ∙ ap length (take-append-drop n entries)
+
+-- equal counts are equal
+alike : (n : Evictions) (all fresh : ℕ) → n.entries ≡ all → n.fresh ≡ fresh → n ≡ record { entries = all; fresh = fresh }
+alike n all fresh a f = rw (← a, ← f) refl
+
+-- entries that were counted, and those that are left, are all: so those that fit are left, and the others were counted
+pub counted-beyond : (bytes count now : ℕ) (entries left : List Entry) (n : Evictions) → left ≡ cut entry_size bytes count entries → n.entries + length left ≡ length entries
+    → n.fresh + count_by (λ (e : Entry). is_fresh now e.1) left ≡ count_by (λ (e : Entry). is_fresh now e.1) entries
+    → n ≡ evictions_of now (beyond entry_size bytes count entries)
+counted-beyond bytes count now entries left n are all fresh =
+    let p : Entry → Bool = λ e. is_fresh now e.1 in
+    let kept = cut entry_size bytes count entries in
+    let rest = beyond entry_size bytes count entries in
+    let split = cut-beyond entry_size bytes count entries in
+    let long : length kept + length rest ≡ length entries = sym (length-append kept rest) ∙ ap length split in
+    let many : count_by p kept + count_by p rest ≡ count_by p entries = sym (sum_by-append (λ e. cond (p e) 1 0) kept rest) ∙ ap (count_by p) split in
+    alike n (length rest) (count_by p rest) (omega (arith, all, ap length are, long)) (omega (arith, fresh, ap (count_by p) are, many))

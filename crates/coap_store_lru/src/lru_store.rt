@@ -5,6 +5,7 @@ ghost use Rattle.std.specs.List.{IsDistinct};
 ghost use Rattle.lru.specs.LruCache.{lru_cache};
 ghost use Rattle.coap_store.specs.declared.key.CacheKey.{CacheKey};
 ghost use Rattle.coap_store.specs.Entries.{entry_key, entry_size};
+ghost use Rattle.coap_store.specs.Evicting.{beyond, evictions_of};
 ghost use Rattle.coap_store_lru.specs.Indexing.{AreThoseOf, has, is_first, is_indexed, is_of, keys_in, marked_by};
 ghost use Rattle.coap_store.specs.Keys.{same_key};
 ghost use Rattle.coap_store.specs.Lists.{are_distinct, cut, of_key, others, used};
@@ -13,8 +14,8 @@ ghost use Rattle.coap_store.specs.Sizes.{size_of};
 use crate::group::Group;
 use crate::target_index::TargetIndex;
 use coap_endpoint::Target;
-use coap_message::OutOfMemory;
-use coap_store::{CacheKey, Put, Store, Stored, bytes_of};
+use coap_message::{Moment, OutOfMemory};
+use coap_store::{CacheKey, Evictions, Put, Store, Stored, bytes_of};
 use lru::LruCache;
 use std::alloc::Global;
 use std::collections::HashSet;
@@ -32,6 +33,7 @@ pub struct LruStore<H: BuildHasher> {
     most_bytes: u64,
     /// The maximum number of entries.
     most_entries: usize,
+    evicted: Evictions,
     ghost are_those: { AreThoseOf recent.entries total (is_indexed index.secret index.groups) },
     ghost unlimited: { recent.cap ≡ 2 ^ 64 - 1 },
     ghost within_bytes: { total ≤ most_bytes },
@@ -47,6 +49,7 @@ impl<H: BuildHasher + Drop> Drop for LruStore<H> {
             index: _,
             most_bytes: _,
             most_entries: _,
+            evicted: _,
         } = self;
     }
 }
@@ -57,6 +60,8 @@ impl<H: BuildHasher + Copy> Store for LruStore<H> {
     ghost limits = { λ s. record { bytes = s.most_bytes; entries = s.most_entries } };
 
     ghost entries = { λ s. s.recent.entries };
+
+    ghost evicted = { λ s. s.evicted };
 
     fn with_limits(
         alloc: Global,
@@ -70,6 +75,7 @@ impl<H: BuildHasher + Copy> Store for LruStore<H> {
             index: TargetIndex::new(alloc, seed),
             most_bytes: most_bytes.min(i64::MAX as u64),
             most_entries,
+            evicted: Evictions::new(),
         })
     }
 
@@ -88,6 +94,11 @@ impl<H: BuildHasher + Copy> Store for LruStore<H> {
             self.forget(&key);
             return Put::TooLarge;
         }
+        let room = Room {
+            bytes: self.most_bytes,
+            entries: self.most_entries,
+            now: stored.got,
+        };
         match put_first(
             &mut self.recent,
             &mut self.total,
@@ -96,13 +107,8 @@ impl<H: BuildHasher + Copy> Store for LruStore<H> {
             stored,
         ) {
             Ok(()) => {
-                cut_to(
-                    &mut self.recent,
-                    &mut self.total,
-                    &mut self.index,
-                    self.most_bytes,
-                    self.most_entries,
-                );
+                let more = cut_to(&mut self.recent, &mut self.total, &mut self.index, room);
+                self.evicted.add(more);
                 Put::Kept
             }
             Err(_) => Put::NoMemory,
@@ -127,6 +133,19 @@ impl<H: BuildHasher + Copy> Store for LruStore<H> {
     fn len(&self) -> usize {
         self.recent.len()
     }
+
+    fn evictions(&self) -> Evictions {
+        self.evicted
+    }
+}
+
+/// How much there is room for, and the moment at which an entry came that needs some of it, in
+/// milliseconds.
+#[derive(Clone, Copy)]
+struct Room {
+    bytes: u64,
+    entries: usize,
+    now: Moment,
 }
 
 /// Whether the entry with a key is the most recently used one, which is found without hashing the
@@ -227,48 +246,54 @@ fn index_first<H: BuildHasher + Copy>(
     added
 }
 
-/// Evicts the least recently used entries until the rest is within the limits.
+/// Evicts the least recently used entries until there is room for the rest, and returns how many
+/// these were.
 fn cut_to<H: BuildHasher + Copy>(
     recent: &mut LruCache<CacheKey, Stored, H>,
     total: &mut u64,
     index: &mut TargetIndex<H>,
-    bytes: u64,
-    most: usize,
-)
+    room: Room,
+) -> Evictions
     requires { AreThoseOf recent.old.entries total.old
         (is_indexed index.old.secret index.old.groups) }
     ensures kept { recent.new
-        ≡ lru_cache (cut entry_size bytes most recent.old.entries) recent.old.cap }
+        ≡ lru_cache (cut entry_size room.bytes room.entries recent.old.entries) recent.old.cap }
+    ensures counted { result
+        ≡ evictions_of room.now
+        (beyond entry_size room.bytes room.entries recent.old.entries) }
     ensures those { AreThoseOf recent.new.entries total.new
         (is_indexed index.new.secret index.new.groups) }
 {
-    'over: while is_over(recent, *total, bytes, most) {
-        take_last(recent, total, index);
+    let _laws = recent.len();
+    let mut evicted = Evictions::new();
+    'over: while is_over(recent, *total, room) {
+        evicted.add(take_last(recent, total, index, room.now));
     }
+    evicted
 }
 
-/// Whether entries that count for `total` bytes exceed a limit.
-fn is_over<H: BuildHasher>(
-    recent: &LruCache<CacheKey, Stored, H>,
-    total: u64,
-    bytes: u64,
-    most: usize,
-) -> bool
-    ensures { result ≡ (nat_lt bytes total || nat_lt most (length recent.now.entries)) }
+/// Whether there is no room for entries that count for `total` bytes.
+fn is_over<H: BuildHasher>(recent: &LruCache<CacheKey, Stored, H>, total: u64, room: Room) -> bool
+    ensures { result
+        ≡ (nat_lt room.bytes total || nat_lt room.entries (length recent.now.entries)) }
 {
-    total > bytes || recent.len() > most
+    total > room.bytes || recent.len() > room.entries
 }
 
-/// Evicts the least recently used entry, if there is one.
+/// Evicts the least recently used entry, if there is one, and counts it, by whether it is fresh at
+/// this moment.
 fn take_last<H: BuildHasher + Copy>(
     recent: &mut LruCache<CacheKey, Stored, H>,
     total: &mut u64,
     index: &mut TargetIndex<H>,
-)
+    now: Moment,
+) -> Evictions
     requires { AreThoseOf recent.old.entries total.old
         (is_indexed index.old.secret index.old.groups) }
     ensures left { recent.new
         ≡ lru_cache (take (length recent.old.entries - 1) recent.old.entries) recent.old.cap }
+    ensures counted { result
+        ≡ evictions_of now (drop (length recent.old.entries - 1) recent.old.entries) }
     ensures those { AreThoseOf recent.new.entries total.new
         (is_indexed index.new.secret index.new.groups) }
 {
@@ -276,8 +301,12 @@ fn take_last<H: BuildHasher + Copy>(
         Some((key, stored)) => {
             index.remove(&key);
             *total -= bytes_of(&key, &stored);
+            Evictions {
+                entries: 1,
+                fresh: u64::from(stored.is_fresh(now)),
+            }
         }
-        None => {}
+        None => Evictions::new(),
     }
 }
 

@@ -1,8 +1,11 @@
-use Rattle.std.proofs.Common.{◌≡◌, ◌-◌, sym, ap, subst, arith, ◌∙◌}
+use mir.Val.{bool_byte}
+use Rattle.std.proofs.Common.{◌≡◌, ◌-◌, ◌+◌, ◌∷◌, [], Bool, true, false, cond, drop, length, refl, sym, ap, subst, arith, ◌∙◌}
 use Rattle.coap_store.specs.Entries.{Entry, entry_key}
+use Rattle.coap_store.specs.Freshness.{is_fresh}
+use Rattle.coap_store.specs.Evicting.{evictions_of}
 use Rattle.coap_store_lru.specs.Indexing.{AreThoseOf, is_indexed}
 use Rattle.coap_store.specs.Lists.{others}
-use Rattle.coap_store_lru.proofs.Evictions.{IsLast, IsLast-of, take-none}
+use Rattle.coap_store_lru.proofs.Evictions.{IsLast, IsLast-of, last-dropped, none-dropped, take-none}
 use Rattle.coap_store_lru.proofs.Kept.{AreThoseOf-others}
 use Rattle.coap_store_lru.proofs.Recency.{total-others}
 use Rattle.coap_store_lru.proofs.lru_store.take_last.Goals as goal
@@ -28,3 +31,18 @@ returns-in-None-clause-those g c =
     let es = c.args.recent.now.entries in
     let left : c.pop_lru.new.self.entries ≡ es = ap (λ m. m.entries) c.pop_lru.ensures.entries ∙ take-none es (sym c.in-None.ensures.value) in
     subst (λ l. AreThoseOf l c.args.total.now (is_indexed c.args.index.now.secret c.args.index.now.groups)) (sym left) c.requires
+
+-- a flag as a number
+one-byte : (b : Bool) → bool_byte b ≡ 0 + cond b 1 0
+one-byte true = refl
+one-byte false = refl
+
+pub returns-in-Some-clause-counted : goal.returns-in-Some-clause-counted
+returns-in-Some-clause-counted g c =
+    let es = c.args.recent.now.entries in
+    let x : Entry = (c.in-Some.key, c.in-Some.stored) in
+    let last : drop (length es - 1) es ≡ x ∷ [] = last-dropped es x (sym c.in-Some.ensures.value) in
+    rw (last, c.from.ensures, c.is_fresh.ensures) (ap (λ n. record { entries = 1; fresh = n }) (one-byte (is_fresh c.args.now c.in-Some.stored)))
+
+pub returns-in-None-clause-counted : goal.returns-in-None-clause-counted
+returns-in-None-clause-counted g c = c.new.ensures ∙ ap (evictions_of c.args.now) (sym (none-dropped c.args.recent.now.entries (sym c.in-None.ensures.value)))
