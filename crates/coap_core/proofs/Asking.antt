@@ -18,9 +18,9 @@ use Rattle.coap_store.specs.Entries.{Entry, entry_key, has_usable, stored_for}
 use Rattle.coap_store.specs.Freshness.{is_usable}
 use Rattle.coap_store.specs.Lists.{of_key}
 use Rattle.coap_dedup.specs.declared.record.Record.{Record}
-use Rattle.coap_exchange.specs.Exchanges.{is_joinable}
-use Rattle.coap_exchange.specs.Ids.{given_in}
-use Rattle.coap_exchange.specs.Table.{first_that}
+use Rattle.coap_pending.specs.Exchanges.{is_joinable}
+use Rattle.coap_pending.specs.Ids.{given_in}
+use Rattle.coap_pending.specs.Table.{first_that}
 use Rattle.coap_model.specs.declared.report.Outcome.TheVariants.{Joined, Opened}
 use Rattle.coap_model.specs.declared.report.Report.{Report}
 use Rattle.coap_forward.specs.Forms.{form_fits}

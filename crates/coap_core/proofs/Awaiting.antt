@@ -9,14 +9,14 @@ use Rattle.coap_endpoint.specs.declared.endpoint.Endpoint.{Endpoint}
 use Rattle.coap_endpoint.specs.Endpoint.{same_endpoint}
 use Rattle.coap_endpoint.specs.Equality.{same_bytes}
 use Rattle.coap_endpoint.proofs.Equality.{Tells-bytes}
-use Rattle.coap_exchange.specs.declared.exchange.Exchange.{Exchange}
-use Rattle.coap_exchange.specs.declared.exchange.ExchangeState.{ExchangeState}
-use Rattle.coap_exchange.specs.declared.exchange.ExchangeState.TheVariants.{Queued, Sent, Acked, Done}
-use Rattle.coap_exchange.specs.Exchanges.{answer_in_state, is_missing, is_done, is_sent, is_sent_state, is_acked_state}
-use Rattle.coap_exchange.specs.Table.{Numbered, Table, IsRising, IsTable, first_that, item_at}
+use Rattle.coap_pending.specs.declared.exchange.Exchange.{Exchange}
+use Rattle.coap_pending.specs.declared.exchange.ExchangeState.{ExchangeState}
+use Rattle.coap_pending.specs.declared.exchange.ExchangeState.TheVariants.{Queued, Sent, Acked, Done}
+use Rattle.coap_pending.specs.Exchanges.{answer_in_state, is_missing, is_done, is_sent, is_sent_state, is_acked_state, is_in_flight}
+use Rattle.coap_pending.specs.Table.{Numbered, Table, IsRising, IsTable, first_that, item_at}
 use Rattle.coap_forward.specs.Messages.{token_of}
 use Rattle.coap_model.specs.State.{State}
-use Rattle.coap_model.specs.Responses.{is_in_flight, has_id, awaits, awaiting}
+use Rattle.coap_model.specs.Responses.{has_id, awaits, awaiting}
 use Rattle.coap_forward.proofs.Tokens.{length-token_of, token-same}
 
 module _ (salt : ℕ) (source : Endpoint) (m : Message) where

@@ -1,11 +1,11 @@
 -- Message ids that are kept: one is left for each request that is still to be sent, and for each client that is still to be served.
 use Rattle.std.proofs.Common.{◌≡◌, ℕ, ◌+◌, ◌<◌, ◌≤◌, Bool, true, false, cond, eqb, List, [], ◌∷◌, Some, sym, subst, arith}
-use Rattle.coap_exchange.specs.declared.exchange.Exchange.{Exchange}
-use Rattle.coap_exchange.specs.declared.waiter.Waiter.{Waiter}
-use Rattle.coap_exchange.specs.Exchanges.{is_queued}
-use Rattle.coap_exchange.specs.Ids.{left_of}
-use Rattle.coap_exchange.specs.Table.{Numbered, item_at, count}
-use Rattle.coap_exchange.specs.Waiters.{is_waiting}
+use Rattle.coap_pending.specs.declared.exchange.Exchange.{Exchange}
+use Rattle.coap_pending.specs.declared.waiter.Waiter.{Waiter}
+use Rattle.coap_pending.specs.Exchanges.{is_queued}
+use Rattle.coap_pending.specs.Ids.{left_of}
+use Rattle.coap_pending.specs.Table.{Numbered, item_at, count}
+use Rattle.coap_pending.specs.Waiters.{is_waiting}
 use Rattle.coap_model.specs.State.{State}
 use Rattle.coap_core.specs.Steps.{CanGoOn}
 

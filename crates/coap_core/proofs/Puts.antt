@@ -14,9 +14,9 @@ use Rattle.coap_endpoint.specs.declared.target.Target.{Target}
 use Rattle.coap_store.specs.Entries.{Entry, entry_key, entry_size}
 use Rattle.coap_store.specs.Lists.{of_key, others}
 use Rattle.coap_store.specs.declared.answer.Answer.{Answer}
-use Rattle.coap_exchange.specs.declared.exchange.Exchange.{Exchange}
-use Rattle.coap_exchange.specs.Exchanges.{answered, is_done, is_sent, is_changed_with, tainted_by}
-use Rattle.coap_exchange.specs.Table.{Numbered, IsRising, all_changed, item_at, changed_at}
+use Rattle.coap_pending.specs.declared.exchange.Exchange.{Exchange}
+use Rattle.coap_pending.specs.Exchanges.{answered, is_done, is_sent, is_changed_with, tainted_by}
+use Rattle.coap_pending.specs.Table.{Numbered, IsRising, all_changed, item_at, changed_at}
 use Rattle.coap_forward.specs.Messages.{is_con, is_ack, is_rst, is_empty, is_bare, acknowledgement}
 use Rattle.coap_forward.specs.Answers.{answer_of, bad_gateway, own_answer}
 use Rattle.coap_forward.specs.Changes.{changed_by}

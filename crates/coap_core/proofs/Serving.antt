@@ -6,14 +6,14 @@ use Rattle.coap_message.specs.declared.kind.Kind.TheVariants.{Con, Non, Ack, Rst
 use Rattle.coap_message.specs.Kind.{kind_number, kind_of}
 use Rattle.coap_message.specs.Message.{Message}
 use Rattle.coap_message.specs.Spelling.{spelling}
-use Rattle.coap_exchange.specs.declared.timer.Fire.TheVariants.{Again, GiveUp}
-use Rattle.coap_exchange.specs.declared.timer.Timer.{Timer}
-use Rattle.coap_exchange.specs.declared.waiter.Waiter.{Waiter}
-use Rattle.coap_exchange.specs.declared.waiter.WaiterState.{WaiterState}
-use Rattle.coap_exchange.specs.declared.waiter.WaiterState.TheVariants.{Waiting, Delivering}
-use Rattle.coap_exchange.specs.Table.{item_at}
-use Rattle.coap_exchange.specs.Timers.{goes_on, sent_again}
-use Rattle.coap_exchange.specs.Waiters.{HasEnded, IsDue, fire_of_state, fired_state, fired_waiter, is_waiting_state}
+use Rattle.coap_pending.specs.declared.timer.Fire.TheVariants.{Again, GiveUp}
+use Rattle.coap_pending.specs.declared.timer.Timer.{Timer}
+use Rattle.coap_pending.specs.declared.waiter.Waiter.{Waiter}
+use Rattle.coap_pending.specs.declared.waiter.WaiterState.{WaiterState}
+use Rattle.coap_pending.specs.declared.waiter.WaiterState.TheVariants.{Waiting, Delivering}
+use Rattle.coap_pending.specs.Table.{item_at}
+use Rattle.coap_pending.specs.Timers.{goes_on, sent_again}
+use Rattle.coap_pending.specs.Waiters.{HasEnded, IsDue, fire_of_state, fired_state, fired_waiter, is_waiting_state}
 use Rattle.coap_forward.specs.Messages.{is_con}
 use Rattle.coap_model.specs.History.{is_con_datagram}
 use Rattle.coap_model.specs.Ticks.{abandons, redelivers, on_delivery_timeout}

@@ -4,19 +4,19 @@ use Rattle.std.specs.Prelude.{not, nat_le}
 use Rattle.std.specs.List.{AllByRecursion}
 use Rattle.std.proofs.lemmas.Bool.{eqb-true, eqb-false, eq-eqb, ne_eqb, leb-true, leb-false, le-leb}
 use Rattle.std.proofs.lemmas.Option.{same_Some}
-use Rattle.coap_exchange.specs.declared.exchange.Exchange.{Exchange}
-use Rattle.coap_exchange.specs.declared.exchange.ExchangeState.{ExchangeState}
-use Rattle.coap_exchange.specs.declared.exchange.ExchangeState.TheVariants.{Queued, Sent, Acked, Done}
-use Rattle.coap_exchange.specs.declared.exchange.Sending.{Sending}
-use Rattle.coap_exchange.specs.declared.timer.Fire.TheVariants.{Again, GiveUp}
-use Rattle.coap_exchange.specs.declared.timer.Timer.{Timer}
-use Rattle.coap_exchange.specs.Due.{first_due}
-use Rattle.coap_exchange.specs.Exchanges.{sent, answer_in_state, is_missing, is_done, deadline, due_in, due_among, timer_or, is_blocked, fire_of_sending, fired_option, fired_exchange, HasEnded, IsDue}
-use Rattle.coap_exchange.specs.Ids.{called}
-use Rattle.coap_exchange.specs.Table.{Numbered, IsRising, item_at, changed_at}
-use Rattle.coap_exchange.specs.Timers.{started, goes_on, sent_again}
-use Rattle.coap_exchange.specs.Waiters.{due_after}
-use Rattle.coap_exchange.proofs.Changes.{changed_at-below}
+use Rattle.coap_pending.specs.declared.exchange.Exchange.{Exchange}
+use Rattle.coap_pending.specs.declared.exchange.ExchangeState.{ExchangeState}
+use Rattle.coap_pending.specs.declared.exchange.ExchangeState.TheVariants.{Queued, Sent, Acked, Done}
+use Rattle.coap_pending.specs.declared.exchange.Sending.{Sending}
+use Rattle.coap_pending.specs.declared.timer.Fire.TheVariants.{Again, GiveUp}
+use Rattle.coap_pending.specs.declared.timer.Timer.{Timer}
+use Rattle.coap_pending.specs.Due.{first_due}
+use Rattle.coap_pending.specs.Exchanges.{sent, answer_in_state, is_missing, is_done, deadline, due_in, due_among, timer_or, is_blocked, fire_of_sending, fired_option, fired_exchange, HasEnded, IsDue}
+use Rattle.coap_pending.specs.Ids.{called}
+use Rattle.coap_pending.specs.Table.{Numbered, IsRising, item_at, changed_at}
+use Rattle.coap_pending.specs.Timers.{started, goes_on, sent_again}
+use Rattle.coap_pending.specs.Waiters.{due_after}
+use Rattle.coap_pending.proofs.Changes.{changed_at-below}
 use Rattle.coap_model.specs.declared.due.DueItem.{DueItem}
 use Rattle.coap_model.specs.declared.due.DueItem.TheVariants.{OfExchange, OfWaiter}
 use Rattle.coap_model.specs.State.{State, later, next_id}

@@ -4,6 +4,7 @@ pub mod Forms
 pub mod Settings
 pub mod Steps
 pub mod Storing
+pub mod Watching
 pub use Rattle.coap_model.specs.Setting
 pub use Rattle.coap_model.specs.State
 pub use Rattle.coap_model.specs.Step

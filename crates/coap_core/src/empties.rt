@@ -1,7 +1,7 @@
 //! The step of an Empty message: an acknowledgement or a Reset of a request that was sent, or of an
 //! answer (RFC 7252, 4.2 and 4.3).
 ghost use Rattle.std.specs.Prelude.{◌≡◌, true, is_some};
-ghost use Rattle.coap_exchange.specs.Table.{item_at};
+ghost use Rattle.coap_pending.specs.Table.{item_at};
 ghost use Rattle.coap_forward.specs.Messages.{is_bare};
 ghost use Rattle.coap_model.specs.Empties.{acknowledges, closes, on_client, on_exchange, on_empty};
 ghost use Rattle.coap_model.specs.History.{grown_of};

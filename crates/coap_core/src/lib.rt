@@ -32,13 +32,15 @@ mod state;
 mod step;
 mod ticks;
 mod timing;
+mod watching;
 
 pub use coap_endpoint::{Endpoint, Ip};
-pub use coap_message::{Code, Datagram, Moment, OutOfMemory};
+pub use coap_exchange::{Exchange, Waiter};
+pub use coap_message::{Code, Datagram, LAST_MOMENT, MOST_JITTER, Moment, OutOfMemory};
 pub use coap_model::{
     ClientCounts, Counts, Limit, LimitError, LimitValues, Limits, Outcome, Report, Storing,
 };
 pub use coap_store::Store;
 pub use coap_target::{RouteError, Routes};
 pub use event::Event;
-pub use proxy::Core;
+pub use proxy::{Core, MOST_EVENTS};

@@ -1,5 +1,5 @@
 //! The core of a proxy: one step for one event.
-ghost use Rattle.std.specs.Prelude.{◌≡◌, ◌≤◌, ◌<◌, ◌^◌, ◌+◌, [], true, length, IfOk, IfSome, IsOk, OnErr};
+ghost use Rattle.std.specs.Prelude.{◌≡◌, ◌≤◌, ◌<◌, ◌^◌, ◌+◌, [], true, length, IfOk, IfSome, IsOk, IsTrue, OnErr};
 ghost use Rattle.coap_message.specs.Datagram.{holding};
 ghost use Rattle.coap_store.specs.Entries.{entry_size};
 ghost use Rattle.coap_store.specs.Lists.{total};
@@ -22,19 +22,22 @@ use crate::state::State;
 use crate::ticks::moment_of;
 use crate::timing::Timing;
 use coap_endpoint::Endpoint;
-use coap_message::{Datagram, Moment, OutOfMemory};
+use coap_message::{Datagram, LAST_MOMENT, MOST_JITTER, Moment, OutOfMemory};
 use coap_model::{ClientCounts, Counts, DueItem, Limits, Report, laws};
 use coap_store::Store;
 use coap_target::Routes;
 use std::alloc::Global;
 use std::marker::Model;
 
+/// The number of events that a core handles at most.
+pub const MOST_EVENTS: u64 = 1 << 63;
+
 /// The core of a proxy. A contract sees the model's state: what the core was made with, and its
 /// tables.
 pub struct Core<S: Store> {
-    state: State<S>,
+    pub(crate) state: State<S>,
     /// What is due first in the state.
-    due: Option<DueItem>,
+    pub(crate) due: Option<DueItem>,
 }
 
 impl<S: Store + Drop> Drop for Core<S> {
@@ -203,6 +206,29 @@ impl<S: Store + Drop> Core<S> {
         let done = self.state.step(timing, event, self.due, out);
         self.due = self.state.first_due();
         done
+    }
+
+    /// Whether `step` may be called with these: the moment isn't before the last one, and is at most
+    /// 2^62, the draw is at most 1,000, the datagram has room for `datagram()` bytes, and fewer than
+    /// 2^63 steps were done.
+    pub fn can_step(&self, now: Moment, draw: u16, out: &Datagram) -> bool
+        ensures moment { IsTrue result → now ≤ 2 ^ 62 }
+        ensures onward { IsTrue result → self.now.last ≤ now }
+        ensures draw { IsTrue result → draw ≤ 1000 }
+        ensures room { IsTrue result → self.now.setting.limits.datagram ≤ out.now.room }
+        ensures events { IsTrue result → self.now.events < 2 ^ 63 }
+        ensures only { now ≤ 2 ^ 62
+            → self.now.last ≤ now
+            → draw ≤ 1000
+            → self.now.setting.limits.datagram ≤ out.now.room
+            → self.now.events < 2 ^ 63
+            → IsTrue result }
+    {
+        self.last() <= now
+            && now <= LAST_MOMENT
+            && draw <= MOST_JITTER
+            && self.datagram() <= out.room()
+            && self.events() < MOST_EVENTS
     }
 
     /// When the next item is due, in milliseconds, if any is. It is at most 2^62 + 600,000.

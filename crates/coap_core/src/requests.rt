@@ -13,7 +13,7 @@ ghost use Rattle.coap_model.specs.Verdicts.{verdict_of};
 ghost use Rattle.coap_store.specs.Entries.{has_usable};
 ghost use Rattle.coap_message.specs.Datagram.{holding};
 ghost use Rattle.coap_model.specs.Requests.{lacks_id, refuses, overloads, next_token, copy_of, tag_carried, joins, on_key, on_new, on_request};
-ghost use Rattle.coap_model.specs.State.{can_reply, later, remembers, takes_up};
+ghost use Rattle.coap_model.specs.State.{can_reply, has_room_to_join, has_room_to_open, later, remembers, takes_up};
 ghost use Rattle.coap_core.specs.Arrivals.{of_arrival};
 ghost use Rattle.coap_core.specs.Forms.{seen};
 ghost use Rattle.coap_core.specs.Steps.{IsDone, CanGoOn, CanRemember, CanAsk, CanReplyTo, CanStep, IsAsked, IsForwardable, IsMissed, held_for, joinable_step, missed_step, needing_step, opening_step, verdict_seen, wants_memory};
@@ -580,6 +580,7 @@ impl<S: Store + Drop> State<S> {
         out: &mut Datagram,
     ) -> Result<Report, OutOfMemory>
         requires reply { CanReplyTo arrival self.old }
+        requires room { has_room_to_open self.old arrival.now arrival.from ≡ true }
         requires tags { exchange.tags ≡ tags_of arrival.message.now }
         requires copy { exchange.copy
             ≡ copy_of self.old.setting.limits.datagram exchange.key.target arrival.message.now
@@ -608,16 +609,10 @@ impl<S: Store + Drop> State<S> {
             copy,
             now: arrival.now,
         };
-        let Ok(number) = self.under_way.open(opening) else {
-            return Err(OutOfMemory);
-        };
-        if self
-            .under_way
-            .join(joining_of(arrival, tags, number))
-            .is_err()
-        {
+        let number = self.under_way.open(opening)?;
+        if let Err(refused) = self.under_way.join(joining_of(arrival, tags, number)) {
             self.under_way.withdraw_exchange();
-            return Err(OutOfMemory);
+            return Err(refused);
         }
         let done = self.accept_request(arrival, Outcome::Opened, out);
         if done.is_err() {
@@ -636,6 +631,7 @@ impl<S: Store + Drop> State<S> {
         out: &mut Datagram,
     ) -> Result<Report, OutOfMemory>
         requires reply { CanReplyTo arrival self.old }
+        requires room { has_room_to_join self.old arrival.now arrival.from ≡ true }
         requires tags { tags ≡ tags_of arrival.message.now }
         requires fits { length (of_arrival (joins self.old) arrival exchange).bytes
             ≤ out.old.room }
@@ -644,13 +640,7 @@ impl<S: Store + Drop> State<S> {
             (of_arrival (joins self.old) arrival.entry exchange))
             result out.old out.new self.old self.new }
     {
-        if self
-            .under_way
-            .join(joining_of(arrival, tags, exchange))
-            .is_err()
-        {
-            return Err(OutOfMemory);
-        }
+        self.under_way.join(joining_of(arrival, tags, exchange))?;
         let done = self.accept_request(arrival, Outcome::Joined, out);
         if done.is_err() {
             self.under_way.withdraw_waiter();

@@ -5,8 +5,9 @@ ghost use Rattle.coap_message.specs.Datagram.{holding};
 ghost use Rattle.coap_endpoint.specs.Endpoint.{same_endpoint};
 ghost use Rattle.coap_forward.specs.Messages.{is_con};
 ghost use Rattle.coap_forward.specs.Changes.{changed_by};
-ghost use Rattle.coap_model.specs.Answers.{answer_for, asked_of, may_store, with_changed};
-ghost use Rattle.coap_model.specs.Responses.{is_in_flight, was_sent_with, has_id, awaiting, on_response};
+ghost use Rattle.coap_model.specs.Answers.{answer_for, may_store, with_changed};
+ghost use Rattle.coap_pending.specs.Exchanges.{is_in_flight};
+ghost use Rattle.coap_model.specs.Responses.{has_id, awaiting, on_response};
 ghost use Rattle.coap_model.specs.History.{grown_of};
 ghost use Rattle.coap_core.specs.Arrivals.{of_arrival, of_grown};
 ghost use Rattle.coap_core.specs.Storing.{IsKept, answering_at, awaited_step, confirmable_step, separate_step, if_storable, targets_in, taken_up, taken_up_bytes, taken_up_to};
@@ -17,37 +18,20 @@ use crate::copies::copy_of_message;
 use crate::known::put_acceptance;
 use crate::state::State;
 use coap_endpoint::{Endpoint, Target};
-use coap_exchange::{Answer, Exchange, ExchangeNumber, Sending};
+use coap_exchange::{Answer, Exchange, ExchangeNumber};
 use coap_forward::{SentRequest, answer_of, created_by, is_change, is_storable, number_of};
 use coap_message::{Datagram, Kind, MessageRef, Moment, OutOfMemory};
 use coap_model::{Outcome, Report, Storing};
-use coap_store::{CacheKey, EventNumber, Put, Store, Stored};
+use coap_store::{CacheKey, Put, Store, Stored};
 use std::alloc::Global;
-
-/// Whether its request was sent, and has no answer yet.
-fn is_in_flight(exchange: &Exchange) -> bool
-    ensures { result ≡ is_in_flight exchange.now }
-{
-    exchange.is_sent() || exchange.is_acked()
-}
-
-/// Whether the request was sent with this id.
-fn was_sent_with(id: u16, sending: &Option<Sending>) -> bool
-    ensures { result ≡ was_sent_with id sending.now }
-{
-    match sending {
-        Some(sending) => sending.id == id,
-        None => false,
-    }
-}
 
 /// Whether a response has the right Message ID: in an acknowledgement that of the request, in a
 /// message of its own any.
-fn has_id(response: &MessageRef<'_>, sending: &Option<Sending>) -> bool
-    ensures { result ≡ has_id response.now sending.now }
+fn has_id(response: &MessageRef<'_>, exchange: &Exchange) -> bool
+    ensures { result ≡ has_id response.now exchange.now.sending }
 {
     match response.kind() {
-        Kind::Ack => was_sent_with(response.id(), sending),
+        Kind::Ack => exchange.was_sent_with(response.id()),
         Kind::Con | Kind::Non | Kind::Rst => true,
     }
 }
@@ -58,19 +42,7 @@ fn awaits(exchange: &Exchange, source: Endpoint, response: &MessageRef<'_>) -> b
         ≡ ((is_in_flight exchange.now && has_id response.now exchange.now.sending)
         && same_endpoint exchange.now.key.target.at source) }
 {
-    is_in_flight(exchange)
-        && has_id(response, &exchange.sending)
-        && exchange.key.target.at == source
-}
-
-/// The number of the event in which the request of an exchange was sent.
-fn asked_of(sending: &Option<Sending>) -> EventNumber
-    ensures { result ≡ asked_of sending.now }
-{
-    match sending {
-        Some(sending) => sending.asked,
-        None => 0,
-    }
+    exchange.is_in_flight() && has_id(response, exchange) && exchange.key.target.at == source
 }
 
 /// Whether an answer may be stored: it is for a GET, and its target wasn't changed since the GET
@@ -213,11 +185,15 @@ impl<S: Store + Drop> State<S> {
 
     /// The number of the exchange that awaits this response from this endpoint: it is matched by
     /// endpoint and token, and in an acknowledgement also by Message ID.
-    fn awaiting(&self, source: Endpoint, response: &MessageRef<'_>) -> Option<ExchangeNumber>
-        requires { CanGoOn self.now }
+    pub(crate) fn awaiting(
+        &self,
+        source: Endpoint,
+        response: &MessageRef<'_>,
+    ) -> Option<ExchangeNumber>
         ensures exact { result ≡ option_map (λ x. x.0) (awaiting self.now source response.now) }
         ensures open { IfSome result (λ number. IsOpenAt number self.now.exchanges) }
     {
+        let _few = self.under_way.exchanges().admitted();
         let number = number_of(self.setting.salt, response.token())?;
         let exchange = self.under_way.exchange(number)?;
         if awaits(exchange, source, response) {
@@ -330,7 +306,7 @@ impl<S: Store + Drop> State<S> {
         let key = exchange.key.copied()?;
         let stored = Stored {
             response: copy_of_message(&answer.message)?,
-            asked: asked_of(&exchange.sending),
+            asked: exchange.asked(),
             got_no: self.events,
             got: now,
             marked: false,

@@ -1,7 +1,7 @@
 //! What a proxy was made with, and its tables.
 ghost use Rattle.std.specs.Prelude.{◌≡◌, ◌+◌, ◌<◌, ◌^◌, None, IfOk};
-ghost use Rattle.coap_exchange.specs.Ids.{called, left_of};
-ghost use Rattle.coap_exchange.specs.Table.{empty_table};
+ghost use Rattle.coap_pending.specs.Ids.{called, left_of};
+ghost use Rattle.coap_pending.specs.Table.{empty_table};
 ghost use Rattle.coap_limits.specs.Limits.{AreLimits};
 ghost use Rattle.coap_model.specs.State.{next_id, later, reserved, has_ids, has_exchange_room, has_waiter_room, has_room_to_join, has_room_to_open, new_state, no_con_records, no_non_records, client_counts, counts};
 ghost use Rattle.coap_core.specs.Settings.{seen};

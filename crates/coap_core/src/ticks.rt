@@ -1,13 +1,13 @@
 //! The step of a tick: what is due is done, one item at a time (RFC 7252, 4.2 and 4.7).
 ghost use Rattle.std.specs.Prelude.{◌≡◌, ◌≤◌, ◌<◌, ◌^◌, true, false, nat_le, length, is_some, option_map, IfSome, OnOk, OnErr};
-ghost use Rattle.coap_exchange.specs.Exchanges.{deadline, is_done, is_queued, IsDue};
-ghost use Rattle.coap_exchange.specs.Table.{item_at};
+ghost use Rattle.coap_pending.specs.Exchanges.{deadline, is_done, is_queued, IsDue};
+ghost use Rattle.coap_pending.specs.Table.{item_at};
 ghost use Rattle.coap_message.specs.Datagram.{holding};
 ghost use Rattle.coap_forward.specs.Messages.{is_con};
 ghost use Rattle.coap_model.specs.History.{is_con_datagram};
 ghost use Rattle.coap_model.specs.Ticks.{abandons, item_due, moment_of, gives_up, idles, on_tick, without_idle};
-ghost use Rattle.coap_exchange.specs.Waiters as waiters;
-ghost use Rattle.coap_exchange.specs.Waiters.{is_waiting};
+ghost use Rattle.coap_pending.specs.Waiters as waiters;
+ghost use Rattle.coap_pending.specs.Waiters.{is_waiting};
 ghost use Rattle.coap_core.specs.Steps.{Does, IsDone, CanGoOn, CanStep, GivesConfirmable, HasAnswer, IsClientDue, IsExchangeDue, IsFound, IsServed, answer_at, delivery_at, exchange_at, firing_at, form_at, given_at, sending_at, told_in, unheard_at, waiter_at};
 
 use crate::laws;

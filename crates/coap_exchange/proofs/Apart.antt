@@ -5,8 +5,8 @@ use Rattle.std.proofs.lemmas.Bool.{eqb-true, eqb-false, ne_eqb}
 use Rattle.std.proofs.lemmas.Bool.Decides.{nat_tests}
 use Rattle.ordered_index.specs.Ordered.{Pair, is_before, is_in, is_pair, AreRising}
 use Rattle.ordered_index.proofs.Ordering.{all-in, pair_itself}
-use Rattle.coap_exchange.specs.Table.{Numbered, item_at, without}
-use Rattle.coap_exchange.proofs.Tables.{without-others}
+use Rattle.coap_pending.specs.Table.{Numbered, item_at, without}
+use Rattle.coap_pending.proofs.Tables.{without-others}
 
 -- no number stands in two pairs
 abbrev pub AreApart : List Pair → Type 0

@@ -2,12 +2,12 @@
 use Rattle.std.proofs.Common.{◌≡◌, ℕ, List, [], ◌∷◌, Bool, true, false, eqb, Option, Some, None, refl, sym, ap, ◌∙◌, arith, inl, inr}
 use Rattle.std.specs.Prelude.{◌⊎◌, map}
 use Rattle.std.proofs.lemmas.Bool.{eqb-true, eq-eqb, ne_eqb}
-use Rattle.coap_exchange.specs.Due.{sooner, as_due, due_row, first_due}
-use Rattle.coap_exchange.specs.Index.{key_at, IsIndexOf}
+use Rattle.coap_pending.specs.Due.{sooner, as_due, due_row, first_due}
+use Rattle.endpoint_counts.specs.IndexOf.{key_at, IsIndexOf}
 use Rattle.ordered_index.specs.Ordered.{Pair, OrderedIndex, is_in, is_key, IsLeast}
-use Rattle.coap_exchange.specs.Table.{Numbered, Table, IsRising, IsTable, item_at}
-use Rattle.coap_exchange.proofs.Sooner.{IsFirst, IsIn, first_of-is, same_first_of, sooner_assoc, sooner_comm, sooner_left}
-use Rattle.coap_exchange.proofs.Tables.{above-least}
+use Rattle.coap_pending.specs.Table.{Numbered, Table, IsRising, IsTable, item_at}
+use Rattle.coap_pending.proofs.Sooner.{IsFirst, IsIn, first_of-is, same_first_of, sooner_assoc, sooner_comm, sooner_left}
+use Rattle.coap_pending.proofs.Tables.{above-least}
 
 module _ {A : Type 0} (due : A → Option ℕ) where
   -- this is what is due of an item

@@ -7,14 +7,13 @@ use Rattle.std.proofs.lemmas.Bool.Decides.{nat_tests}
 use Rattle.coap_endpoint.specs.declared.endpoint.Endpoint.{Endpoint}
 use Rattle.coap_endpoint.specs.Endpoint.{same_endpoint}
 use Rattle.coap_endpoint.proofs.Equality.{Tells-endpoint}
-use Rattle.coap_exchange.specs.declared.exchange.Exchange.{Exchange}
-use Rattle.coap_exchange.specs.Exchanges.{is_queued, is_sent, is_sent_to}
-use Rattle.coap_exchange.specs.Endpoints.{is_queued_to}
+use Rattle.coap_pending.specs.declared.exchange.Exchange.{Exchange}
+use Rattle.coap_pending.specs.Exchanges.{is_queued, is_sent, is_sent_to, is_queued_to}
 use Rattle.ordered_index.specs.Ordered.{Pair, OrderedIndex, is_in, is_some_pair, one_of, IsReplaced}
-use Rattle.coap_exchange.specs.Table.{Numbered, IsRising, count, first_that, item_at, passes}
-use Rattle.coap_exchange.specs.SendQueue.{head_at, head_in, endpoint_in, AreHeads}
-use Rattle.coap_exchange.proofs.Counts.{one_if}
-use Rattle.coap_exchange.proofs.Indexing.{Moves}
+use Rattle.coap_pending.specs.Table.{Numbered, IsRising, count, first_that, item_at, passes}
+use Rattle.coap_exchange.specs.SendQueue.{head_at, head_in, AreHeads}
+use Rattle.coap_pending.proofs.Counts.{one_if}
+use Rattle.endpoint_counts.proofs.Indexing.{Moves}
 use Rattle.ordered_index.proofs.Ordering.{pair_itself, pair_only}
 use Rattle.coap_exchange.proofs.Seeking.{none-that, none-under, that-first, passes-above}
 
@@ -130,11 +129,6 @@ module _ (xs : List (Numbered Exchange)) (r : IsRising 0 xs) where
 abbrev pub IsAt : Option Endpoint → Option Exchange → Type 0
 IsAt at o = IfSome o (λ x. at ≡ Some x.key.target.at)
 
--- what is found is with its endpoint
-pub at-its : (o : Option Exchange) → IsAt (endpoint_in o) o
-at-its None = tt
-at-its (Some x) = refl
-
 -- with another endpoint it passes no test
 passes-off : (at : Option Endpoint) (test : Exchange → Bool) (e : Endpoint) (o : Option Exchange) → IsAt at o → (at ≡ Some e → ⊥) → passes (λ x. test x && same_endpoint x.key.target.at e) o ≡ false
 passes-off at test e o is other = go (passes (λ x. test x && same_endpoint x.key.target.at e) o) refl
@@ -155,13 +149,20 @@ head-among xs heads are (Some at) = go (head_at xs at) refl
     go None is = tt
     go (Some p) is = are.all at p is
 
-module _ (n : ℕ) (xs ys : List (Numbered Exchange)) (at : Option Endpoint) (moves : Moves n xs ys) (rx : IsRising 0 xs) (ry : IsRising 0 ys) (wx : IsAt at (item_at n xs)) (wy : IsAt at (item_at n ys)) where
+-- at all other endpoints as little is sent, and as little waits, as before
+abbrev pub StaysElsewhere : Option Endpoint → Option Exchange → Option Exchange → Type 0
+StaysElsewhere at was is = (e : Endpoint) → (at ≡ Some e → ⊥) → (passes (is_sent_to e) is ≡ passes (is_sent_to e) was) × (passes (is_queued_to e) is ≡ passes (is_queued_to e) was)
+
+-- so it is where what was and what is are both with this endpoint
+pub at-stays : (at : Option Endpoint) (was is : Option Exchange) → IsAt at was → IsAt at is → StaysElsewhere at was is
+at-stays at was is wx wy = λ e other. (passes-off at is_sent e is wy other ∙ sym (passes-off at is_sent e was wx other), passes-off at is_queued e is wy other ∙ sym (passes-off at is_queued e was wx other))
+
+module _ (n : ℕ) (xs ys : List (Numbered Exchange)) (at : Option Endpoint) (moves : Moves n xs ys) (rx : IsRising 0 xs) (ry : IsRising 0 ys) (stays : StaysElsewhere at (item_at n xs) (item_at n ys)) where
   -- the heads of the other endpoints stay
   head-elsewhere : (e : Endpoint) → (at ≡ Some e → ⊥) → head_at ys e ≡ head_at xs e
   head-elsewhere e other =
       let counted = moves.counts (is_sent_to e) in
-      let was : one_if (passes (is_sent_to e) (item_at n xs)) ≡ 0 = ap one_if (passes-off at is_sent e (item_at n xs) wx other) in
-      let now : one_if (passes (is_sent_to e) (item_at n ys)) ≡ 0 = ap one_if (passes-off at is_sent e (item_at n ys) wy other) in
+      let alike : one_if (passes (is_sent_to e) (item_at n ys)) ≡ one_if (passes (is_sent_to e) (item_at n xs)) = ap one_if (stays e other).0 in
       let same : count (is_sent_to e) ys ≡ count (is_sent_to e) xs = omega arith in
       rw (same, that-same (is_queued_to e) xs ys rx ry each) refl
     where
@@ -169,7 +170,7 @@ module _ (n : ℕ) (xs ys : List (Numbered Exchange)) (at : Option Endpoint) (mo
       each m = go (eqb m n) refl
         where
           go : (b : Bool) → eqb m n ≡ b → passes (is_queued_to e) (item_at m ys) ≡ passes (is_queued_to e) (item_at m xs)
-          go true f = rw (eqb-true m n f) (passes-off at is_queued e (item_at n ys) wy other ∙ sym (passes-off at is_queued e (item_at n xs) wx other))
+          go true f = rw (eqb-true m n f) (stays e other).1
           go false f = ap (passes (is_queued_to e)) (moves.others m f)
 
   module _ (old : OrderedIndex) (are : AreHeads xs old) where

@@ -7,27 +7,25 @@ use Rattle.std.proofs.lemmas.Bool.{eqb-true, eqb-false}
 use Rattle.std.proofs.lemmas.Bool.Decides.{nat_tests}
 use Rattle.coap_endpoint.specs.declared.endpoint.Endpoint.{Endpoint}
 use Rattle.coap_endpoint.specs.declared.target.Target.{Target}
-use Rattle.coap_exchange.specs.declared.exchange.Exchange.{Exchange}
-use Rattle.coap_exchange.specs.declared.exchange.Change.{Change}
-use Rattle.coap_exchange.specs.declared.exchange.Change.TheVariants as change
+use Rattle.coap_pending.specs.declared.exchange.Exchange.{Exchange}
+use Rattle.coap_pending.specs.declared.exchange.Change.{Change}
+use Rattle.coap_pending.specs.declared.exchange.Change.TheVariants as change
 use Rattle.coap_exchange.specs.declared.send_queue.SendQueue.{SendQueue}
-use Rattle.coap_exchange.specs.Due.{sooner, as_due, first_due}
-use Rattle.ordered_index.specs.Ordered.{is_before}
-use Rattle.coap_exchange.specs.Exchanges.{changed_by, is_changed_with, is_queued, is_sent_to, tainted_by}
+use Rattle.coap_pending.specs.Due.{sooner, as_due, first_due}
+use Rattle.ordered_index.specs.Ordered.{is_before, Pair, OrderedIndex, is_in, one_of, AreRising, IsReplaced}
+use Rattle.coap_pending.specs.Exchanges.{changed_by, is_changed_with, is_queued, is_sent_to, tainted_by, is_queued_to}
 use Rattle.coap_exchange.specs.Index.{turn_among}
-use Rattle.coap_exchange.specs.Endpoints.{is_queued_to}
-use Rattle.ordered_index.specs.Ordered.{Pair, OrderedIndex, is_in, one_of, AreRising, IsReplaced}
-use Rattle.coap_exchange.specs.Table.{Numbered, Table, IsRising, IsTable, admitted_to, all_changed, changed_at, count, item_at, passes, without}
-use Rattle.coap_exchange.specs.SendQueue.{head_at, head_in, endpoint_in, noted, AreInOrder, AreHeads, IsSendQueue, IsLowestUnder}
+use Rattle.coap_pending.specs.Table.{Numbered, Table, IsRising, IsTable, admitted_to, all_changed, changed_at, count, item_at, passes, without}
+use Rattle.coap_exchange.specs.SendQueue.{head_at, head_in, noted, AreInOrder, AreHeads, IsSendQueue, IsLowestUnder}
 use Rattle.coap_exchange.proofs.Apart.{apart-fewer, rising-apart}
-use Rattle.coap_exchange.proofs.Counts.{count-all_changed}
+use Rattle.coap_pending.proofs.Counts.{count-all_changed}
 use Rattle.coap_exchange.proofs.Dues.{IsDueIn, first_due-is}
-use Rattle.coap_exchange.proofs.Heads.{IsAt, head-is, head-there, heads-moved, heads-same, replaced-fewer, replaced-free, that-same}
-use Rattle.coap_exchange.proofs.Indexing.{Moves, changed-at, moves-admitted, push-at}
-use Rattle.coap_exchange.proofs.EndpointCounting.{queued-taint, sent-taint}
-use Rattle.coap_exchange.proofs.Sooner.{same_first, sooner_left}
-use Rattle.coap_exchange.proofs.Tables.{admitted-is, item_at-fresh, without-gone}
-use Rattle.coap_exchange.proofs.Changes.{IsRising-all_changed}
+use Rattle.coap_exchange.proofs.Heads.{StaysElsewhere, at-stays, IsAt, head-is, head-there, heads-moved, heads-same, replaced-fewer, replaced-free, that-same}
+use Rattle.endpoint_counts.proofs.Indexing.{Moves, changed-at, moves-admitted, push-at}
+use Rattle.coap_exchange.proofs.ExchangeCounting.{queued-taint, sent-taint}
+use Rattle.coap_pending.proofs.Sooner.{same_first, sooner_left}
+use Rattle.coap_pending.proofs.Tables.{admitted-is, item_at-fresh, without-gone}
+use Rattle.coap_pending.proofs.Changes.{IsRising-all_changed}
 
 -- ---- the order of admissions, as exchanges come, change and go
 
@@ -268,14 +266,6 @@ module _ (nstart : ℕ) (xs : List (Numbered Exchange)) (send_queue : SendQueue)
 
 -- ---- one exchange comes, changes or goes
 
--- where it changes, it stays with its endpoint
-pub at-changed : (n : ℕ) (f : Exchange → Exchange) (xs : List (Numbered Exchange)) → ((x : Exchange) → (f x).key.target.at ≡ x.key.target.at) → IsAt (endpoint_in (item_at n xs)) (item_at n (changed_at n f xs))
-at-changed n f xs same = subst (IsAt (endpoint_in (item_at n xs))) (sym (changed-at n f xs)) (go (item_at n xs))
-  where
-    go : (o : Option Exchange) → IsAt (endpoint_in o) (option_map f o)
-    go None = tt
-    go (Some x) = ap (λ (e : Endpoint). Some e) (sym (same x))
-
 -- a change leaves the endpoint
 pub endpoint-after : (ch : Change) (x : Exchange) → (changed_by ch x).key.target.at ≡ x.key.target.at
 endpoint-after (change.Send s) x = refl
@@ -291,30 +281,26 @@ changed-off n f xs off = ap (passes is_queued) (changed-at n f xs) ∙ go (item_
     go None e = refl
     go (Some x) e = e
 
--- what is gone is with no endpoint
-pub at-without : (n : ℕ) (xs : List (Numbered Exchange)) (at : Option Endpoint) → IsAt at (item_at n (without n xs))
-at-without n xs at = subst (IsAt at) (sym (without-gone n xs)) tt
-
--- and doesn't wait
+-- what is gone doesn't wait
 pub without-off : (n : ℕ) (xs : List (Numbered Exchange)) → passes is_queued (item_at n (without n xs)) ≡ false
 without-off n xs = ap (passes is_queued) (without-gone n xs)
 
-module _ (n : ℕ) (xs ys : List (Numbered Exchange)) (at : Option Endpoint) (moves : Moves n xs ys) (rx : IsRising 0 xs) (ry : IsRising 0 ys) (wx : IsAt at (item_at n xs)) (wy : IsAt at (item_at n ys)) (send_queue : SendQueue) (are : IsSendQueue xs send_queue) where
+module _ (n : ℕ) (xs ys : List (Numbered Exchange)) (at : Option Endpoint) (moves : Moves n xs ys) (rx : IsRising 0 xs) (ry : IsRising 0 ys) (stays : StaysElsewhere at (item_at n xs) (item_at n ys)) (send_queue : SendQueue) (are : IsSendQueue xs send_queue) where
   -- the head that comes doesn't stand in the index, unless it was there
   pub send_queue-free : IfSome (head_in ys at) (λ p. is_in p send_queue.heads.pairs ≡ true → head_in xs at ≡ Some p)
-  send_queue-free = replaced-free n xs ys at moves rx ry wx wy send_queue.heads are.heads
+  send_queue-free = replaced-free n xs ys at moves rx ry stays send_queue.heads are.heads
 
   -- there is room for it
   pub send_queue-room : passes is_queued (item_at n ys) ≡ false → length send_queue.heads.pairs + one_of (head_in ys at) ≤ send_queue.heads.limit + one_of (head_in xs at)
   send_queue-room off =
-      let fewer = replaced-fewer n xs ys at moves rx ry wx wy send_queue.heads are.heads off in
+      let fewer = replaced-fewer n xs ys at moves rx ry stays send_queue.heads are.heads off in
       let room = are.heads.room in
       omega arith
 
   -- and then it tells whose turn it is
   pub send_queue-moved : AreKept xs ys → passes is_queued (item_at n ys) ≡ false → (new : OrderedIndex) → new.limit ≡ send_queue.heads.limit → length new.pairs + one_of (head_in xs at) ≡ length send_queue.heads.pairs + one_of (head_in ys at) → IsReplaced send_queue.heads.pairs new.pairs (head_in xs at) (head_in ys at) → IsSendQueue ys (record send_queue { heads = new })
   send_queue-moved kept off new limit len replaced = record {
-    heads = heads-moved n xs ys at moves rx ry wx wy send_queue.heads are.heads new replaced (let room = send_queue-room off in omega arith);
+    heads = heads-moved n xs ys at moves rx ry stays send_queue.heads are.heads new replaced (let room = send_queue-room off in omega arith);
     order = λ e. order-kept xs ys send_queue.latest kept (are.order e);
   }
 
@@ -356,14 +342,18 @@ module _ (t : Table Exchange) (x : Exchange) (is : IsTable t) (little : length t
   at-new : IsAt (Some x.key.target.at) (item_at (t.admitted + 1) (admitted_to x t).items)
   at-new = subst (IsAt (Some x.key.target.at)) (sym (push-at (t.admitted + 1) t.items x (item_at-fresh t is))) refl
 
+  -- it changes nothing elsewhere
+  new-stays : StaysElsewhere (Some x.key.target.at) (item_at (t.admitted + 1) t.items) (item_at (t.admitted + 1) (admitted_to x t).items)
+  new-stays = at-stays (Some x.key.target.at) (item_at (t.admitted + 1) t.items) (item_at (t.admitted + 1) (admitted_to x t).items) at-fresh at-new
+
   -- the head that comes doesn't stand in the index, unless it was there
   pub admitted-free : IfSome (head_at (admitted_to x t).items x.key.target.at) (λ p. is_in p send_queue.heads.pairs ≡ true → head_at t.items x.key.target.at ≡ Some p)
-  admitted-free = replaced-free (t.admitted + 1) t.items (admitted_to x t).items (Some x.key.target.at) (moves-admitted t x is) is.rising (admitted-is t x is little).rising at-fresh at-new send_queue.heads are.heads
+  admitted-free = replaced-free (t.admitted + 1) t.items (admitted_to x t).items (Some x.key.target.at) (moves-admitted t x is) is.rising (admitted-is t x is little).rising new-stays send_queue.heads are.heads
 
   -- and then it tells whose turn it is
   pub send_queue-more : (new : OrderedIndex) → new.limit ≡ send_queue.heads.limit → length new.pairs + one_of (head_at t.items x.key.target.at) ≡ length send_queue.heads.pairs + one_of (head_at (admitted_to x t).items x.key.target.at) → IsReplaced send_queue.heads.pairs new.pairs (head_at t.items x.key.target.at) (head_at (admitted_to x t).items x.key.target.at) → IsSendQueue (admitted_to x t).items (noted x.admitted (record send_queue { heads = new }))
   send_queue-more new limit len replaced =
       let one = one-most (head_at (admitted_to x t).items x.key.target.at) in
       send_queue-admitted t x x.admitted send_queue (noted x.admitted (record send_queue { heads = new })) is refl are
-      (heads-moved (t.admitted + 1) t.items (admitted_to x t).items (Some x.key.target.at) (moves-admitted t x is) is.rising (admitted-is t x is little).rising at-fresh at-new send_queue.heads are.heads new replaced (omega arith))
+      (heads-moved (t.admitted + 1) t.items (admitted_to x t).items (Some x.key.target.at) (moves-admitted t x is) is.rising (admitted-is t x is little).rising new-stays send_queue.heads are.heads new replaced (omega arith))
       refl refl

@@ -4,32 +4,31 @@ use Rattle.std.specs.Prelude.{◌⊎◌, not, IfSome}
 use Rattle.std.specs.Option.{option_map}
 use Rattle.std.proofs.lemmas.Bool.{eqb-true, eqb-false, eq-eqb, ne_eqb, leb-true, leb-false}
 use Rattle.std.proofs.lemmas.Bool.Decides.{nat_tests}
-use Rattle.coap_exchange.specs.declared.exchange.Exchange.{Exchange}
-use Rattle.coap_exchange.specs.declared.waiter.Waiter.{Waiter}
-use Rattle.coap_exchange.specs.declared.waiter.WaiterState.{WaiterState}
-use Rattle.coap_exchange.specs.declared.waiter.WaiterState.TheVariants.{Waiting, Delivering}
-use Rattle.coap_exchange.specs.Answered.{awaited_of, got_in}
-use Rattle.coap_exchange.specs.Due.{sooner, as_due, first_due}
+use Rattle.coap_pending.specs.declared.exchange.Exchange.{Exchange}
+use Rattle.coap_pending.specs.declared.waiter.Waiter.{Waiter}
+use Rattle.coap_pending.specs.declared.waiter.WaiterState.{WaiterState}
+use Rattle.coap_pending.specs.declared.waiter.WaiterState.TheVariants.{Waiting, Delivering}
+use Rattle.coap_exchange.specs.Answered.{got_of, awaited_of, got_in}
+use Rattle.coap_pending.specs.Due.{sooner, as_due, first_due}
 use Rattle.coap_endpoint.specs.declared.target.Target.{Target}
-use Rattle.coap_exchange.specs.declared.exchange.ExchangeState.{ExchangeState}
-use Rattle.coap_exchange.specs.declared.exchange.ExchangeState.TheVariants.{Queued, Sent, Acked, Done}
-use Rattle.coap_exchange.specs.declared.exchange.Sending.{Sending}
-use Rattle.coap_exchange.specs.Exchanges.{acked, answer_in_state, answer_of, fired_exchange, is_changed_with, is_queued, is_queued_state, is_sent, is_sent_state, sent, tainted_by}
-use Rattle.coap_exchange.specs.Index.{got_of, key_at, IsIndexOf}
+use Rattle.coap_pending.specs.declared.exchange.ExchangeState.{ExchangeState}
+use Rattle.coap_pending.specs.declared.exchange.ExchangeState.TheVariants.{Queued, Sent, Acked, Done}
+use Rattle.coap_pending.specs.declared.exchange.Sending.{Sending}
+use Rattle.coap_pending.specs.Exchanges.{acked, answer_in_state, answer_of, fired_exchange, is_changed_with, is_queued, is_queued_state, is_sent, is_sent_state, sent, tainted_by}
+use Rattle.endpoint_counts.specs.IndexOf.{key_at, IsIndexOf}
 use Rattle.coap_exchange.specs.WaiterIndex.{answered_of}
 use Rattle.coap_exchange.specs.Ready.{ready_at, ready_in, ready_of, AreReady, Tables}
 use Rattle.ordered_index.specs.Ordered.{Pair, OrderedIndex, is_in, is_key, is_pair, is_some_pair, one_of, AreRising, IsLeast, IsNextOf, IsReplaced}
-use Rattle.coap_exchange.specs.Table.{Numbered, Table, IsRising, IsTable, item_at, admitted_to, all_changed, changed_at, first_that, passes, withdrawn, withdrawn_at}
-use Rattle.coap_exchange.specs.Waiters.{awaited_by, exchange_of, fired_state, fired_waiter, moment_of, waits_for, waits_in_state}
+use Rattle.coap_pending.specs.Table.{Numbered, Table, IsRising, IsTable, item_at, admitted_to, all_changed, changed_at, first_that, passes}
+use Rattle.coap_pending.specs.Waiters.{awaited_by, exchange_of, fired_state, fired_waiter, moment_of, waits_for, waits_in_state}
 use Rattle.coap_exchange.proofs.Apart.{AreApart, apart-fewer, rising-apart}
 use Rattle.coap_exchange.proofs.Answering.{answered-waits, waits-answered}
 use Rattle.coap_exchange.proofs.Dues.{IsDueIn, first_due-is}
-use Rattle.coap_exchange.proofs.Firsts.{first-found, first-missing, none-start}
+use Rattle.endpoint_counts.proofs.Firsts.{first-found, first-missing, none-start}
 use Rattle.coap_exchange.proofs.Heads.{IsThat, that-is, that-same}
-use Rattle.coap_exchange.proofs.Indexing.{changed-at, changed-others, none-above, push-at, push-others}
+use Rattle.endpoint_counts.proofs.Indexing.{changed-at, changed-others, none-above, push-at, push-others}
 use Rattle.ordered_index.proofs.Ordering.{pair_itself, pair_only}
-use Rattle.coap_exchange.proofs.Sooner.{same_first, sooner_left, sooner_none}
-use Rattle.coap_exchange.proofs.Tables.{without-others}
+use Rattle.coap_pending.proofs.Sooner.{same_first, sooner_left, sooner_none}
 use Rattle.coap_exchange.proofs.Waiting.{passes-awaited, passes-unawaited}
 
 -- ---- who waits first
@@ -450,11 +449,3 @@ ready-fired n now t vs old new is e = ap (ready_of (got_in e t.exchanges.items))
         go : (b : Bool) → eqb m n ≡ b → passes (waits_for e) (item_at m vs.items) ≡ passes (waits_for e) (item_at m t.waiters.items)
         go true f = rw (eqb-true m n f, is, changed-at n (fired_waiter now) t.waiters.items) (both (item_at n t.waiters.items))
         go false f = rw is (ap (passes (waits_for e)) (changed-others n m (fired_waiter now) t.waiters.items f))
-
--- the others stay where the last is withdrawn
-pub withdrawn-others : {A : Type 0} (t : Table A) (q : ℕ) → eqb q t.admitted ≡ false → item_at q (withdrawn t).items ≡ item_at q t.items
-withdrawn-others {A} t q e = go (item_at t.admitted t.items)
-  where
-    go : (o : Option A) → item_at q (withdrawn_at o t).items ≡ item_at q t.items
-    go None = refl
-    go (Some a) = without-others t.admitted q t.items e

@@ -6,21 +6,21 @@ use Rattle.std.proofs.lemmas.Bool.Decides.{nat_tests}
 use Rattle.coap_store.specs.declared.key.CacheKey.{CacheKey}
 use Rattle.coap_store.specs.Keys.{same_key}
 use Rattle.coap_store.proofs.Keys.{Tells-key}
-use Rattle.coap_exchange.specs.declared.exchange.Exchange.{Exchange}
-use Rattle.coap_exchange.specs.declared.exchange.ExchangeState.{ExchangeState}
-use Rattle.coap_exchange.specs.declared.exchange.ExchangeState.TheVariants.{Queued, Sent, Acked, Done}
-use Rattle.coap_exchange.specs.declared.exchange.Sending.{Sending}
-use Rattle.coap_exchange.specs.Due.{sooner, as_due, due_row, first_due}
-use Rattle.ordered_index.specs.Ordered.{is_before}
+use Rattle.coap_pending.specs.declared.exchange.Exchange.{Exchange}
+use Rattle.coap_pending.specs.declared.exchange.ExchangeState.{ExchangeState}
+use Rattle.coap_pending.specs.declared.exchange.ExchangeState.TheVariants.{Queued, Sent, Acked, Done}
+use Rattle.coap_pending.specs.declared.exchange.Sending.{Sending}
+use Rattle.coap_pending.specs.Due.{sooner, as_due, due_row, first_due, later}
+use Rattle.ordered_index.specs.Ordered.{is_before, Pair, OrderedIndex, is_in, is_key, IsLeast, IsNextOf}
 use Rattle.coap_endpoint.specs.declared.endpoint.Endpoint.{Endpoint}
 use Rattle.coap_endpoint.specs.Endpoint.{same_endpoint}
-use Rattle.coap_exchange.specs.Exchanges.{answer_at, is_joinable, is_some_as, was_sent_as, due_among, due_in, is_blocked, is_queued, is_queued_state, is_sent_state, answer_in_state, is_missing, timer_or, AreTimely}
+use Rattle.coap_pending.specs.Exchanges.{answer_at, is_joinable, is_some_as, was_sent_as, due_among, due_in, is_blocked, is_queued, is_queued_state, is_sent_state, answer_in_state, is_missing, timer_or, AreTimely}
 use Rattle.coap_exchange.specs.Digests.{digest_of_key}
-use Rattle.coap_exchange.specs.Index.{cache_key_of, id_in, id_of, key_at, opening_of, end_in, end_of, later, turn_among, AreListed, IsIndexOf}
-use Rattle.ordered_index.specs.Ordered.{Pair, OrderedIndex, is_in, is_key, IsLeast, IsNextOf}
-use Rattle.coap_exchange.specs.Table.{Numbered, IsRising, item_at, count, first_that, passes}
-use Rattle.coap_exchange.proofs.Counts.{one_if, all-at, AllItems}
-use Rattle.coap_exchange.proofs.Sooner.{IsFirst, IsIn, first_of-is, same_first_of, sooner_assoc, sooner_comm, sooner_left}
+use Rattle.coap_exchange.specs.Index.{cache_key_of, id_in, id_of, opening_of, end_in, end_of, turn_among, AreListed}
+use Rattle.endpoint_counts.specs.IndexOf.{key_at, IsIndexOf}
+use Rattle.coap_pending.specs.Table.{Numbered, IsRising, item_at, count, first_that, passes}
+use Rattle.coap_pending.proofs.Counts.{one_if, all-at, AllItems}
+use Rattle.coap_pending.proofs.Sooner.{IsFirst, IsIn, first_of-is, same_first_of, sooner_assoc, sooner_comm, sooner_left}
 
 -- ---- the first that passes
 

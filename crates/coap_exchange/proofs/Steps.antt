@@ -1,13 +1,13 @@
 -- Of a table's items one comes, changes or goes, and what waiters are looked up by follows.
 use Rattle.std.proofs.Common.{◌≡◌, ℕ, ◌+◌, ◌≤◌, length, Option, refl, arith}
 use Rattle.coap_exchange.specs.declared.waiter_index.WaiterIndex.{WaiterIndex}
-use Rattle.coap_exchange.specs.declared.waiter.Waiter.{Waiter}
+use Rattle.coap_pending.specs.declared.waiter.Waiter.{Waiter}
 use Rattle.coap_exchange.specs.Answered.{awaited_of}
 use Rattle.coap_exchange.specs.WaiterIndex.{end_of, id_of, waiter_keys_at, AreWaitersIndexed, CanRekeyWaiter, HaveRekeyedWaiter}
-use Rattle.coap_exchange.specs.Table.{Table, IsTable, item_at, admitted_to}
+use Rattle.coap_pending.specs.Table.{Table, IsTable, item_at, admitted_to}
 use Rattle.coap_exchange.specs.Updates.{updated_at}
-use Rattle.coap_exchange.proofs.Indexing.{Moves, moves-admitted, can-pass, has-passed}
-use Rattle.coap_exchange.proofs.Tables.{admitted-is}
+use Rattle.endpoint_counts.proofs.Indexing.{Moves, moves-admitted, can-pass, has-passed}
+use Rattle.coap_pending.proofs.Tables.{admitted-is}
 use Rattle.coap_exchange.proofs.Updating.{moves-updated, updated-is}
 
 -- only the item of one number comes, changes or goes

@@ -1,22 +1,27 @@
 -- One item of a table changes or goes: what follows for the table, and for what is kept beside it.
-use Rattle.std.proofs.Common.{◌≡◌, ℕ, ◌+◌, ◌-◌, Bool, false, eqb, List, Option, Some, None, refl, ap, arith}
+use Rattle.std.proofs.Common.{◌≡◌, ℕ, ◌+◌, ◌-◌, ◌&&◌, ◌||◌, Bool, true, false, cond, eqb, List, Option, Some, None, refl, sym, ap, ◌∙◌, subst, arith}
 use Rattle.coap_endpoint.specs.declared.endpoint.Endpoint.{Endpoint}
-use Rattle.coap_exchange.specs.declared.exchange.Exchange.{Exchange}
-use Rattle.coap_exchange.specs.declared.exchange.Change.{Change}
-use Rattle.coap_exchange.specs.Clients.{AreOfClients, AreWithin, Clients, count_of, one_of}
-use Rattle.coap_exchange.specs.Endpoints.{is_queued_to, is_with, open_in, queued_in, sent_in, AreCounted, Endpoints, IsRecounted}
-use Rattle.coap_exchange.specs.Exchanges.{changed_by, is_queued, is_sent_to, AreExchanges, CanChange, CanUpdate}
-use Rattle.coap_exchange.specs.SendQueue.{endpoint_in}
-use Rattle.coap_exchange.specs.Table.{Numbered, Table, IsTable, count, item_at, passes}
+use Rattle.coap_pending.specs.declared.exchange.Exchange.{Exchange}
+use Rattle.coap_pending.specs.declared.exchange.Change.{Change}
+use Rattle.endpoint_counts.specs.Clients.{AreOfClients, AreWithin, Clients, count_of, one_of}
+use Rattle.coap_pending.specs.Exchanges.{is_queued_to, is_with, changed_by, is_queued, is_sent_to, AreExchanges, CanChange, CanUpdate, is_sent, sends}
+use Rattle.endpoint_counts.specs.Endpoints.{open_in, queued_in, sent_in, Endpoints}
+use Rattle.coap_exchange.specs.Counted.{AreCounted, IsRecounted}
+use Rattle.coap_exchange.specs.SendQueue.{is_moved, mover}
+use Rattle.coap_pending.specs.Table.{Numbered, Table, IsTable, count, item_at, passes}
 use Rattle.coap_exchange.specs.Updates.{leaver, updated, updated_at, Allows}
-use Rattle.coap_exchange.proofs.ByClient.{of_clients-changed, of_clients-without, whose, within-changed, within-without}
-use Rattle.coap_exchange.proofs.Changes.{changed_at-is}
-use Rattle.coap_exchange.proofs.Counts.{one_if}
-use Rattle.coap_exchange.proofs.Heads.{IsAt}
-use Rattle.coap_exchange.proofs.Indexing.{Moves, changed-at, changed-others, moves-changed, moves-without}
-use Rattle.coap_exchange.proofs.Ordering.{AreKept, admitted-after, at-changed, at-without, changed-off, endpoint-after, kept-changed, kept-without, without-off}
-use Rattle.coap_exchange.proofs.Tables.{closed-is, without-gone, without-others}
-use Rattle.coap_exchange.proofs.Timely.{changeable, exchanges-changed, exchanges-without}
+use Rattle.endpoint_counts.proofs.ByClient.{of_clients-changed, of_clients-without, whose, within-changed, within-without}
+use Rattle.coap_pending.proofs.Changes.{changed_at-is}
+use Rattle.coap_pending.proofs.Counts.{one_if}
+use Rattle.coap_exchange.proofs.Heads.{StaysElsewhere}
+use Rattle.coap_exchange.proofs.ExchangeCounting.{sends-is}
+use Rattle.coap_endpoint.proofs.Equality.{Tells-endpoint}
+use Rattle.coap_endpoint.specs.Endpoint.{same_endpoint}
+use Rattle.std.specs.Prelude.{not}
+use Rattle.endpoint_counts.proofs.Indexing.{Moves, changed-at, changed-others, moves-changed, moves-without}
+use Rattle.coap_exchange.proofs.Ordering.{AreKept, admitted-after, changed-off, endpoint-after, kept-changed, kept-without, without-off}
+use Rattle.coap_pending.proofs.Tables.{closed-is, without-gone, without-others}
+use Rattle.coap_pending.proofs.Timely.{changeable, exchanges-changed, exchanges-without}
 
 module _ {A C : Type 0} (made : C → A → A) (n : ℕ) where
   -- the number has then what its item became
@@ -51,6 +56,47 @@ module _ {A C : Type 0} (made : C → A → A) (n : ℕ) where
       within-updated None are = within-without who n t is are
       within-updated (Some c) are = within-changed who n (made c) t (stays c) are
 
+-- ---- whose head may change
+
+-- with no endpoint
+never-with : (b : Bool) → (b && false) ≡ false
+never-with true = refl
+never-with false = refl
+
+-- elsewhere a test passes as before, where it changes only with what moves
+elsewhere : (at e : Endpoint) (moved : Bool) (was is : Bool) → (moved ≡ false → is ≡ was) → (cond moved (Some at) None ≡ Some e → ⊥) → (is && same_endpoint at e) ≡ (was && same_endpoint at e)
+elsewhere at e false was is keeps other = ap (λ (b : Bool). b && same_endpoint at e) (keeps refl)
+elsewhere at e true was is keeps other = go (same_endpoint at e) refl
+  where
+    go : (b : Bool) → same_endpoint at e ≡ b → (is && b) ≡ (was && b)
+    go true f = absurd (other (ap (λ (d : Endpoint). Some d) (Tells-endpoint.only at e f)))
+    go false f = never-with is ∙ sym (never-with was)
+
+-- what doesn't move is sent as before
+unmoved-sent : (queued was is : Bool) → (queued || cond was (not is) is) ≡ false → is ≡ was
+unmoved-sent true was is e = absurd cc
+unmoved-sent false true true e = refl
+unmoved-sent false true false e = absurd cc
+unmoved-sent false false is e = e
+
+-- and doesn't wait
+unmoved-queued : (queued other : Bool) → (queued || other) ≡ false → false ≡ queued
+unmoved-queued true other e = absurd cc
+unmoved-queued false other e = refl
+
+-- an exchange that changes leaves other endpoints as they are
+mover-stays : (change : Option Change) (o : Option Exchange) → Allows (λ c x. is_queued (changed_by c x) ≡ false) change o → StaysElsewhere (mover change o) o (updated changed_by change o)
+mover-stays None None off = λ e other. (refl, refl)
+mover-stays (Some c) None off = λ e other. (refl, refl)
+mover-stays None (Some x) off = λ e other. (
+  elsewhere x.key.target.at e (is_moved None x) (is_sent x) false (unmoved-sent (is_queued x) (is_sent x) false) other,
+  elsewhere x.key.target.at e (is_moved None x) (is_queued x) false (unmoved-queued (is_queued x) _) other,
+)
+mover-stays (Some c) (Some x) off = λ e other. (
+  ap (λ (b : Bool). b && same_endpoint (changed_by c x).key.target.at e) (sends-is c x) ∙ ap (λ (d : Endpoint). sends c (is_sent x) && same_endpoint d e) (endpoint-after c x) ∙ elsewhere x.key.target.at e (is_moved (Some c) x) (is_sent x) (sends c (is_sent x)) (unmoved-sent (is_queued x) (is_sent x) (sends c (is_sent x))) other,
+  ap (λ (b : Bool). b && same_endpoint (changed_by c x).key.target.at e) off ∙ elsewhere x.key.target.at e (is_moved (Some c) x) (is_queued x) false (unmoved-queued (is_queued x) _) other,
+)
+
 -- ---- exchanges
 
 module _ (n : ℕ) where
@@ -69,10 +115,9 @@ module _ (n : ℕ) where
   updated-off None xs can = without-off n xs
   updated-off (Some c) xs can = changed-off n (changed_by c) xs can.2
 
-  -- what changes stays with its endpoint
-  pub at-updated : (change : Option Change) (xs : List (Numbered Exchange)) → IsAt (endpoint_in (item_at n xs)) (item_at n (updated_at changed_by change n xs))
-  at-updated None xs = at-without n xs (endpoint_in (item_at n xs))
-  at-updated (Some c) xs = at-changed n (changed_by c) xs (endpoint-after c)
+  -- the heads of other endpoints than the mover's stay
+  pub stays-updated : (change : Option Change) (xs : List (Numbered Exchange)) → CanUpdate change (item_at n xs) → StaysElsewhere (mover change (item_at n xs)) (item_at n xs) (item_at n (updated_at changed_by change n xs))
+  stays-updated change xs can = subst (StaysElsewhere (mover change (item_at n xs)) (item_at n xs)) (sym (updated-at changed_by n change xs)) (mover-stays change (item_at n xs) (never-queued change (item_at n xs) can))
 
   module _ (t : Table Exchange) (is : IsTable t) where
     -- what is there was there, and was admitted at the same moment

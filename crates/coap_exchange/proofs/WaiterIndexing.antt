@@ -4,15 +4,15 @@ use Rattle.std.proofs.lemmas.Bool.{eqb-true, eq-eqb}
 use Rattle.std.specs.Prelude.{nat_lt}
 use Rattle.coap_endpoint.specs.declared.endpoint.Endpoint.{Endpoint}
 use Rattle.coap_endpoint.specs.Endpoint.{same_endpoint}
-use Rattle.coap_exchange.specs.declared.waiter.Waiter.{Waiter}
-use Rattle.coap_exchange.specs.declared.waiter.WaiterState.{WaiterState}
-use Rattle.coap_exchange.specs.declared.waiter.WaiterState.TheVariants.{Waiting, Delivering}
-use Rattle.coap_exchange.specs.declared.exchange.Exchange.{Exchange}
-use Rattle.coap_exchange.specs.Due.{sooner, as_due}
+use Rattle.coap_pending.specs.declared.waiter.Waiter.{Waiter}
+use Rattle.coap_pending.specs.declared.waiter.WaiterState.{WaiterState}
+use Rattle.coap_pending.specs.declared.waiter.WaiterState.TheVariants.{Waiting, Delivering}
+use Rattle.coap_pending.specs.declared.exchange.Exchange.{Exchange}
+use Rattle.coap_pending.specs.Due.{sooner, as_due}
 use Rattle.coap_exchange.specs.WaiterIndex.{answered_in, answered_of, end_in, end_of, id_in, id_of}
 use Rattle.ordered_index.specs.Ordered.{is_key}
-use Rattle.coap_exchange.specs.Table.{Numbered, Table, item_at, passes}
-use Rattle.coap_exchange.specs.Waiters.{due_after, due_in, is_delivered_as, was_sent_as}
+use Rattle.coap_pending.specs.Table.{Numbered, Table, item_at, passes}
+use Rattle.coap_pending.specs.Waiters.{due_after, due_in, is_delivered_as, was_sent_as}
 
 and_false : (b : Bool) → (b && false) ≡ false
 and_false true = refl

@@ -2,17 +2,17 @@
 use Rattle.std.proofs.Common.{◌≡◌, ℕ, ◌+◌, List, false, Option, Some, None, refl, ap, ◌∙◌, arith}
 use Rattle.std.specs.Prelude.{IfSome}
 use Rattle.ordered_index.specs.Ordered.{Pair}
-use Rattle.coap_exchange.specs.declared.waiter.Waiter.{Waiter}
-use Rattle.coap_exchange.specs.declared.waiter.WaiterChange.{WaiterChange}
-use Rattle.coap_exchange.specs.declared.waiter.WaiterChange.TheVariants.{Deliver, Fire as fire}
-use Rattle.coap_exchange.specs.declared.waiter.WaiterState.{WaiterState}
-use Rattle.coap_exchange.specs.declared.waiter.WaiterState.TheVariants.{Waiting, Delivering}
+use Rattle.coap_pending.specs.declared.waiter.Waiter.{Waiter}
+use Rattle.coap_pending.specs.declared.waiter.WaiterChange.{WaiterChange}
+use Rattle.coap_pending.specs.declared.waiter.WaiterChange.TheVariants.{Deliver, Fire as fire}
+use Rattle.coap_pending.specs.declared.waiter.WaiterState.{WaiterState}
+use Rattle.coap_pending.specs.declared.waiter.WaiterState.TheVariants.{Waiting, Delivering}
 use Rattle.coap_exchange.specs.Ready.{Tables}
-use Rattle.coap_exchange.specs.Table.{Numbered, Table, IsTable, count, item_at, passes}
+use Rattle.coap_pending.specs.Table.{Numbered, Table, IsTable, count, item_at, passes}
 use Rattle.coap_exchange.specs.Tally.{AreWaiters}
 use Rattle.coap_exchange.specs.Updates.{updated, updated_at, Allows}
-use Rattle.coap_exchange.specs.Waiters.{awaited_by, changed_by, exchange_of, fired_state, is_waiting, is_waiting_state, AreShort, CanChange, CanUpdate, HasEnded}
-use Rattle.coap_exchange.proofs.Counts.{one_if}
+use Rattle.coap_pending.specs.Waiters.{awaited_by, changed_by, exchange_of, fired_state, is_waiting, is_waiting_state, AreShort, CanChange, CanUpdate, HasEnded}
+use Rattle.coap_pending.proofs.Counts.{one_if}
 use Rattle.coap_exchange.proofs.Readying.{AreElsewhere, WaitsAt, waiter-elsewhere, waits-its}
 use Rattle.coap_exchange.proofs.Updating.{moves-updated, updated-at, updated-others}
 use Rattle.coap_exchange.proofs.Waiting.{HaveCounted, fireable, short-delivered, short-fired, short-without, tallied-moved}

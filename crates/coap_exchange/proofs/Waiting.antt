@@ -2,20 +2,20 @@
 use Rattle.std.proofs.Common.{◌≡◌, ℕ, ◌+◌, ◌^◌, ◌≤◌, List, [], ◌∷◌, ◌++◌, Bool, true, false, eqb, Option, Some, None, refl, sym, ap, ◌∙◌, arith}
 use Rattle.std.specs.Prelude.{IfSome}
 use Rattle.std.proofs.lemmas.Bool.{eqb-true, eqb-false, eq-eqb, ne_eqb}
-use Rattle.coap_exchange.specs.declared.timer.Timer.{Timer}
-use Rattle.coap_exchange.specs.declared.waiter.Waiter.{Waiter}
-use Rattle.coap_exchange.specs.declared.waiter.WaiterState.{WaiterState}
-use Rattle.coap_exchange.specs.declared.waiter.WaiterState.TheVariants.{Waiting, Delivering}
-use Rattle.coap_exchange.specs.Table.{Numbered, item_at, without, changed_at, count, passes}
+use Rattle.coap_pending.specs.declared.timer.Timer.{Timer}
+use Rattle.coap_pending.specs.declared.waiter.Waiter.{Waiter}
+use Rattle.coap_pending.specs.declared.waiter.WaiterState.{WaiterState}
+use Rattle.coap_pending.specs.declared.waiter.WaiterState.TheVariants.{Waiting, Delivering}
+use Rattle.coap_pending.specs.Table.{Numbered, item_at, without, changed_at, count, passes}
 use Rattle.coap_exchange.specs.Tally.{AreTallied}
 use Rattle.coap_exchange.specs.Answered.{awaited_of}
-use Rattle.coap_exchange.specs.Index.{key_at}
+use Rattle.endpoint_counts.specs.IndexOf.{key_at}
 use Rattle.ordered_index.specs.Ordered.{Pair, is_key, many_of}
-use Rattle.coap_exchange.specs.Waiters.{awaited_by, delivered, exchange_of, fired_state, fired_waiter, waits_for, waits_in_state, AreShort, CanChange, CanFire, HasEnded, IsDue, IsStateShort}
-use Rattle.coap_exchange.specs.declared.waiter.WaiterChange.TheVariants.{Fire as fire}
-use Rattle.coap_exchange.proofs.Schedule.{fired-short, first-short, short-bound}
-use Rattle.coap_exchange.proofs.Counts.{one_if, all-at, all-push, all-changed_at, all-without}
-use Rattle.coap_exchange.proofs.Indexing.{Moves}
+use Rattle.coap_pending.specs.Waiters.{awaited_by, delivered, exchange_of, fired_state, fired_waiter, waits_for, waits_in_state, AreShort, CanChange, CanFire, HasEnded, IsDue, IsStateShort}
+use Rattle.coap_pending.specs.declared.waiter.WaiterChange.TheVariants.{Fire as fire}
+use Rattle.coap_pending.proofs.Schedule.{fired-short, first-short, short-bound}
+use Rattle.coap_pending.proofs.Counts.{one_if, all-at, all-push, all-changed_at, all-without}
+use Rattle.endpoint_counts.proofs.Indexing.{Moves}
 
 -- equality goes both ways
 turned : (a b : ℕ) → eqb a b ≡ eqb b a

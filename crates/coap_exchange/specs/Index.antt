@@ -1,43 +1,17 @@
 -- What exchanges are looked up by: indexes that are kept in step with a table.
-use Rattle.std.specs.Prelude.{◌≡◌, ℕ, ◌+◌, ◌≤◌, ◌&&◌, ◌||◌, Bool, true, not, if◌then◌else◌, nat_le, map, List, length, Option, Some, None}
-use Rattle.std.specs.Option.{is_some}
-use Rattle.coap_exchange.specs.declared.exchange.Exchange.{Exchange}
-use Rattle.coap_exchange.specs.declared.exchange.Sending.{Sending}
+use Rattle.std.specs.Prelude.{◌≡◌, ℕ, ◌+◌, ◌≤◌, ◌&&◌, ◌||◌, Bool, true, not, if◌then◌else◌, nat_le, map, List, Option, Some, None}
+use Rattle.coap_pending.specs.declared.exchange.Exchange.{Exchange}
+use Rattle.coap_pending.specs.declared.exchange.Sending.{Sending}
 use Rattle.coap_exchange.specs.declared.index.Index.{Index}
 use Rattle.coap_exchange.specs.declared.index.ExchangeKeys.{ExchangeKeys}
 use Rattle.coap_exchange.specs.declared.index.Sought.{Sought}
 use Rattle.coap_exchange.specs.declared.index.Sought.TheVariants.{SentAs, Joinable, Queued}
-use Rattle.coap_exchange.specs.Digests.{digest_of_endpoint, digest_of_key, digest_of_target}
-use Rattle.coap_exchange.specs.Exchanges.{answer_at, is_acked, is_blocked, is_done, is_joinable, is_missing, is_queued, is_sent, was_sent_as}
-use Rattle.coap_exchange.specs.Endpoints.{is_queued_to}
-use Rattle.ordered_index.specs.Ordered.{Pair, OrderedIndex, empty_index, is_in, is_key, one_of, IsKeyIn, IsRekeyed}
-use Rattle.coap_exchange.specs.Table.{Numbered, IsRising, count, item_at, passes}
-use Rattle.coap_exchange.specs.Waiters.{moment_of}
-
--- ---- an index next to a table
-
-abbrev pub key_at : {A : Type 0} → (A → Option ℕ) → Option A → Option ℕ
-key_at key_of None = None
-key_at key_of (Some a) = key_of a
-
--- the index pairs each item's number with the item's key, if it has one
-pub record IsIndexOf {A : Type 0} (key_of : A → Option ℕ) (items : List (Numbered A)) (most : ℕ)
-    (index : OrderedIndex)
-    : Type 0 where
-  pub members :
-      (o n : ℕ) → is_in (o, n) index.pairs ≡ is_key o (key_at key_of (item_at n items))
-  pub length : length index.pairs ≡ count (λ a. is_some (key_of a)) items
-  pub limit : index.limit ≡ most
-
--- a number can pass to another key, and has passed to it
-pub record CanRekey (index : OrderedIndex) (number : ℕ) (was is : Option ℕ) : Type 0 where
-  pub key : IsKeyIn index.pairs number was
-  pub room : length index.pairs + one_of is ≤ index.limit + one_of was
-
-pub record HasRekeyed (old new : OrderedIndex) (number : ℕ) (was is : Option ℕ) : Type 0 where
-  pub limit : new.limit ≡ old.limit
-  pub length : length new.pairs + one_of was ≡ length old.pairs + one_of is
-  pub rekeyed : IsRekeyed old.pairs new.pairs number is
+use Rattle.endpoint_counts.specs.Digests.{digest_of_endpoint}
+use Rattle.coap_exchange.specs.Digests.{digest_of_key, digest_of_target}
+use Rattle.endpoint_counts.specs.IndexOf.{key_at, CanRekey, HasRekeyed, IsIndexOf}
+use Rattle.coap_pending.specs.Exchanges.{answer_at, is_acked, is_blocked, is_done, is_joinable, is_missing, is_queued, is_sent, was_sent_as, is_queued_to}
+use Rattle.ordered_index.specs.Ordered.{Pair, empty_index, is_in}
+use Rattle.coap_pending.specs.Table.{Numbered, IsRising, item_at, passes}
 
 -- ---- what an exchange is looked up by
 
@@ -48,10 +22,6 @@ id_in (Some s) = Some s.id
 -- the Message ID with which it was sent
 abbrev pub id_of : Exchange → Option ℕ
 id_of x = id_in x.sending
-
--- the moment when its answer came
-abbrev pub got_of : Exchange → Option ℕ
-got_of x = moment_of (answer_at x)
 
 -- the moment of its admission, until its answer has come
 abbrev pub opening_of : Exchange → Option ℕ
@@ -85,7 +55,6 @@ abbrev pub keys_at : Option Exchange → ExchangeKeys
 keys_at found =
     record {
       id = key_at id_of found;
-      got = key_at got_of found;
       opening = key_at opening_of found;
       end = key_at end_of found;
       queue = key_at queue_of found;
@@ -96,7 +65,6 @@ keys_at found =
 pub record AreIndexed (items : List (Numbered Exchange)) (limit : ℕ) (index : Index) : Type 0 where
   pub rising : IsRising 0 items
   pub ids : IsIndexOf id_of items limit index.ids
-  pub dones : IsIndexOf got_of items limit index.dones
   pub openings : IsIndexOf opening_of items limit index.openings
   pub ends : IsIndexOf end_of items limit index.ends
   pub queues : IsIndexOf queue_of items limit index.queues
@@ -108,7 +76,6 @@ abbrev pub empty_indexes : ℕ → Index
 empty_indexes limit =
     record {
       ids = empty_index limit;
-      dones = empty_index limit;
       openings = empty_index limit;
       ends = empty_index limit;
       queues = empty_index limit;
@@ -118,7 +85,6 @@ empty_indexes limit =
 
 pub record CanRekeyAll (index : Index) (number : ℕ) (was is : ExchangeKeys) : Type 0 where
   pub ids : CanRekey index.ids number was.id is.id
-  pub dones : CanRekey index.dones number was.got is.got
   pub openings : CanRekey index.openings number was.opening is.opening
   pub ends : CanRekey index.ends number was.end is.end
   pub queues : CanRekey index.queues number was.queue is.queue
@@ -127,7 +93,6 @@ pub record CanRekeyAll (index : Index) (number : ℕ) (was is : ExchangeKeys) : 
 
 pub record HaveRekeyed (old new : Index) (number : ℕ) (was is : ExchangeKeys) : Type 0 where
   pub ids : HasRekeyed old.ids new.ids number was.id is.id
-  pub dones : HasRekeyed old.dones new.dones number was.got is.got
   pub openings : HasRekeyed old.openings new.openings number was.opening is.opening
   pub ends : HasRekeyed old.ends new.ends number was.end is.end
   pub queues : HasRekeyed old.queues new.queues number was.queue is.queue
@@ -147,11 +112,6 @@ AreListed test key items pairs =
     (n : ℕ) → passes test (item_at n items) ≡ true → is_in (key, n) pairs ≡ true
 
 -- ---- what is due
-
--- the same, with the moment moved later by this many milliseconds
-abbrev pub later : ℕ → Option Pair → Option Pair
-later ms None = None
-later ms (Some d) = Some (d.0 + ms, d.1)
 
 -- when a queued exchange gets its turn: at its admission, if it isn't blocked
 abbrev pub turn_among : ℕ → List (Numbered Exchange) → Exchange → Option ℕ

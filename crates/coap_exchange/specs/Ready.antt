@@ -1,11 +1,11 @@
 -- Exchanges and the clients that wait for them, and which of those is to be served first.
 use Rattle.std.specs.Prelude.{◌≡◌, ℕ, true, Option, Some, None}
-use Rattle.coap_exchange.specs.declared.exchange.Exchange.{Exchange}
-use Rattle.coap_exchange.specs.declared.waiter.Waiter.{Waiter}
+use Rattle.coap_pending.specs.declared.exchange.Exchange.{Exchange}
+use Rattle.coap_pending.specs.declared.waiter.Waiter.{Waiter}
 use Rattle.coap_exchange.specs.Answered.{due_at, got_in}
 use Rattle.ordered_index.specs.Ordered.{Pair, OrderedIndex, is_in}
-use Rattle.coap_exchange.specs.Table.{Table, first_that}
-use Rattle.coap_exchange.specs.Waiters.{waits_for}
+use Rattle.coap_pending.specs.Table.{Table, first_that}
+use Rattle.coap_pending.specs.Waiters.{waits_for}
 
 -- what is under way: exchanges, and those that wait for them
 pub record Tables : Type 0 where

@@ -1,14 +1,14 @@
 -- Whose turn it is to be sent: for each endpoint its first queued exchange, keyed by how many are
 -- sent to the endpoint.
-use Rattle.std.specs.Prelude.{◌≡◌, ℕ, ◌<◌, ◌≤◌, ◌&&◌, max, true, if◌then◌else◌, nat_le, nat_lt, List, length, Option, Some, None}
+use Rattle.std.specs.Prelude.{◌≡◌, ℕ, ◌<◌, ◌≤◌, ◌&&◌, ◌||◌, max, Bool, true, false, not, if◌then◌else◌, nat_le, nat_lt, List, length, Option, Some, None}
 use Rattle.std.specs.Option.{option_map}
 use Rattle.coap_endpoint.specs.declared.endpoint.Endpoint.{Endpoint}
-use Rattle.coap_exchange.specs.declared.exchange.Exchange.{Exchange}
+use Rattle.coap_pending.specs.declared.exchange.Change.{Change}
+use Rattle.coap_pending.specs.declared.exchange.Exchange.{Exchange}
 use Rattle.coap_exchange.specs.declared.send_queue.SendQueue.{SendQueue}
-use Rattle.coap_exchange.specs.Exchanges.{is_sent_to}
-use Rattle.coap_exchange.specs.Endpoints.{is_queued_to}
+use Rattle.coap_pending.specs.Exchanges.{is_queued, is_queued_to, is_sent, is_sent_to, sends}
 use Rattle.ordered_index.specs.Ordered.{Pair, OrderedIndex, is_in}
-use Rattle.coap_exchange.specs.Table.{Numbered, count, first_that, item_at}
+use Rattle.coap_pending.specs.Table.{Numbered, count, first_that, item_at}
 
 -- the number of exchanges sent to an endpoint, and its first queued exchange, if it has one
 abbrev pub head_at : List (Numbered Exchange) → Endpoint → Option Pair
@@ -20,9 +20,21 @@ abbrev pub head_in : List (Numbered Exchange) → Option Endpoint → Option Pai
 head_in items None = None
 head_in items (Some at) = head_at items at
 
--- the endpoint of an exchange
-abbrev pub endpoint_in : Option Exchange → Option Endpoint
-endpoint_in found = option_map (λ x. x.key.target.at) found
+-- whether an exchange is in the sent state after a change, or, without a change, once it is removed
+abbrev pub sends_after : Option Change → Bool → Bool
+sends_after None was = false
+sends_after (Some c) was = sends c was
+
+-- it waits for its turn, or a change turns whether it is in the sent state
+abbrev pub is_moved : Option Change → Exchange → Bool
+is_moved change x =
+    is_queued x
+    || (if is_sent x then not (sends_after change (is_sent x)) else sends_after change (is_sent x))
+
+-- the endpoint of which the head may be another after a change
+abbrev pub mover : Option Change → Option Exchange → Option Endpoint
+mover change None = None
+mover change (Some x) = if is_moved change x then Some x.key.target.at else None
 
 -- the index holds the heads of all endpoints, and nothing else
 pub record AreHeads (items : List (Numbered Exchange)) (heads : OrderedIndex) : Type 0 where

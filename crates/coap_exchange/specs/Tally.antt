@@ -1,9 +1,9 @@
 -- How many waiters there are, and how many wait for each exchange.
 use Rattle.std.specs.Prelude.{◌≡◌, ℕ, List}
 use Rattle.ordered_index.specs.Ordered.{Pair, many_of}
-use Rattle.coap_exchange.specs.declared.waiter.Waiter.{Waiter}
-use Rattle.coap_exchange.specs.Table.{Numbered, count}
-use Rattle.coap_exchange.specs.Waiters.{is_waiting, waits_for, AreShort}
+use Rattle.coap_pending.specs.declared.waiter.Waiter.{Waiter}
+use Rattle.coap_pending.specs.Table.{Numbered, count}
+use Rattle.coap_pending.specs.Waiters.{is_waiting, waits_for, AreShort}
 
 -- an exchange has as many pairs in the index as waiters wait for it
 abbrev pub AreTallied : List (Numbered Waiter) → List Pair → Type 0

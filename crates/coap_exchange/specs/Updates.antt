@@ -2,7 +2,7 @@
 use Rattle.std.specs.Prelude.{ℕ, List, Option, Some, None, IfSome}
 use Rattle.std.specs.Option.{option_map}
 use Rattle.coap_endpoint.specs.declared.endpoint.Endpoint.{Endpoint}
-use Rattle.coap_exchange.specs.Table.{Numbered, changed_at, without}
+use Rattle.coap_pending.specs.Table.{Numbered, changed_at, without}
 
 -- what an item becomes, given what each change makes of one
 abbrev pub updated : {A C : Type 0} → (C → A → A) → Option C → Option A → Option A

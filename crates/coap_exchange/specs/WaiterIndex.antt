@@ -1,17 +1,17 @@
 -- What waiters are looked up by.
 use Rattle.std.specs.Prelude.{◌≡◌, ℕ, ◌+◌, List, Option, Some, None}
 use Rattle.ordered_index.specs.Ordered.{empty_index, is_key, many_of, one_if}
-use Rattle.coap_exchange.specs.declared.exchange.Exchange.{Exchange}
+use Rattle.coap_pending.specs.declared.exchange.Exchange.{Exchange}
 use Rattle.coap_exchange.specs.declared.waiter_index.WaiterKeys.{WaiterKeys}
 use Rattle.coap_exchange.specs.declared.waiter_index.WaiterIndex.{WaiterIndex}
-use Rattle.coap_exchange.specs.declared.waiter.Waiter.{Waiter}
-use Rattle.coap_exchange.specs.declared.waiter.WaiterState.{WaiterState}
-use Rattle.coap_exchange.specs.declared.waiter.WaiterState.TheVariants.{Waiting, Delivering}
+use Rattle.coap_pending.specs.declared.waiter.Waiter.{Waiter}
+use Rattle.coap_pending.specs.declared.waiter.WaiterState.{WaiterState}
+use Rattle.coap_pending.specs.declared.waiter.WaiterState.TheVariants.{Waiting, Delivering}
 use Rattle.coap_exchange.specs.Answered.{awaited_of}
-use Rattle.coap_exchange.specs.Exchanges.{answer_in}
-use Rattle.coap_exchange.specs.Index.{key_at, CanRekey, HasRekeyed, IsIndexOf}
-use Rattle.coap_exchange.specs.Table.{Numbered}
-use Rattle.coap_exchange.specs.Waiters.{moment_of}
+use Rattle.coap_pending.specs.Exchanges.{answer_in}
+use Rattle.endpoint_counts.specs.IndexOf.{key_at, CanRekey, HasRekeyed, IsIndexOf}
+use Rattle.coap_pending.specs.Table.{Numbered}
+use Rattle.coap_pending.specs.Waiters.{moment_of}
 
 abbrev pub id_in : WaiterState → Option ℕ
 id_in (Waiting exchange) = None

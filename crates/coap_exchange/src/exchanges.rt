@@ -4,33 +4,33 @@ ghost use Rattle.std.specs.Map.{set_value};
 ghost use Rattle.std.specs.Option.{option_copied, option_map};
 ghost use Rattle.indexmap.specs.IndexMap.{get};
 ghost use Rattle.coap_endpoint.specs.declared.endpoint.Endpoint.{Endpoint};
-ghost use Rattle.coap_exchange.specs.Answered.{IsFirstGot, IsNextGot};
-ghost use Rattle.coap_exchange.specs.declared.exchange.ExchangeState.TheVariants.{Queued};
+ghost use Rattle.coap_pending.specs.declared.exchange.ExchangeState.TheVariants.{Queued};
 ghost use Rattle.coap_exchange.specs.declared.table.AdmitError.TheVariants.{ClientFull, Full};
-ghost use Rattle.coap_exchange.specs.Clients.{count_of, AreWithin};
-ghost use Rattle.coap_exchange.specs.Due.{due_row, first_due};
-ghost use Rattle.coap_exchange.specs.Exchanges.{acked, answer_in, answered, changed_by, due_among, fire_at, fired_exchange, is_done, is_joinable, is_opened_by, is_queued, is_sent, is_sent_to, opened, sent, tainted_by, was_sent_as, CanChange, CanUpdate, IsDue};
-ghost use Rattle.coap_exchange.specs.Index.{keys_at, turn_among, AreIndexed};
-ghost use Rattle.coap_exchange.specs.Endpoints.{is_queued_to, is_with, open_in, queued_in, sent_in, AreCounted, IsRecounted};
-ghost use Rattle.coap_exchange.specs.Table.{empty_table, item_at, admitted_to, without, withdrawn, changed_at, all_changed, count, first_that, passes, IsTable};
+ghost use Rattle.endpoint_counts.specs.Clients.{count_of, AreWithin};
+ghost use Rattle.coap_pending.specs.Due.{first_due};
+ghost use Rattle.coap_pending.specs.Exchanges.{acked, answer_in, answered, changed_by, due_among, fire_at, fired_exchange, is_done, is_joinable, is_opened_by, is_queued, is_sent, is_sent_to, sent, tainted_by, was_sent_as, CanChange, CanUpdate, IsDue, is_queued_to, is_with};
+ghost use Rattle.coap_exchange.specs.Opening.{opened};
+ghost use Rattle.coap_exchange.specs.Index.{keys_at, AreIndexed};
+ghost use Rattle.endpoint_counts.specs.Endpoints.{open_in, queued_in, sent_in};
+ghost use Rattle.coap_exchange.specs.Counted.{AreCounted, IsRecounted};
+ghost use Rattle.coap_pending.specs.Table.{empty_table, item_at, admitted_to, without, withdrawn, changed_at, all_changed, count, first_that, passes, IsTable};
 ghost use Rattle.coap_exchange.specs.SendQueue.{IsSendQueue};
 ghost use Rattle.coap_exchange.specs.Updates.{leaver, updated, updated_at, Allows};
 
-use crate::by_client::{count_of, depart, enter};
 use crate::digests::{HashedKey, digest_of_target};
-use crate::due::{later, sooner};
-use crate::endpoint_map::EndpointMap;
-use crate::endpoints::{Stage, close_one, counts_of, lowered, move_one, open_one};
-use crate::exchange::{Change, Exchange, ExchangeNumber, Opening, Sending};
 use crate::index::{ExchangeKeys, Index, Sought, first_sought, keys_at, keys_in, keys_of};
 use crate::indexed_exchange::{IndexedExchange, client_of};
-use crate::peer::Peer;
-use crate::send_queue::{SendQueue, head_of, peer_of};
+use crate::opening::Opening;
+use crate::send_queue::{SendQueue, head_of, mover_of};
 use crate::table::{AdmitError, Items, Table};
-use crate::timer::Fire;
+use crate::turns::first_turn;
 use coap_endpoint::{Endpoint, Target};
 use coap_message::{Moment, OutOfMemory};
+use coap_pending::due::{later, sooner};
+use coap_pending::{Change, Exchange, ExchangeNumber, Fire, Sending};
 use coap_store::{Answer, CacheKey};
+use endpoint_counts::by_client::{count_of, depart, enter};
+use endpoint_counts::{EndpointMap, Peer, Stage, close_one, lowered, move_one, open_one};
 use std::alloc::Global;
 use std::marker::Model;
 
@@ -64,12 +64,12 @@ impl Drop for Exchanges {
 }
 
 impl Model for Exchanges {
-    ghost use Rattle.coap_exchange.specs.declared.exchange.Exchange.{Exchange};
-    ghost use Rattle.coap_exchange.specs.Clients.{AreOfClients, AreWithin};
-    ghost use Rattle.coap_exchange.specs.Exchanges.{AreExchanges, is_opened_by};
+    ghost use Rattle.coap_pending.specs.declared.exchange.Exchange.{Exchange};
+    ghost use Rattle.endpoint_counts.specs.Clients.{AreOfClients, AreWithin};
+    ghost use Rattle.coap_pending.specs.Exchanges.{AreExchanges, is_opened_by};
     ghost use Rattle.coap_exchange.specs.Index.{AreIndexed};
-    ghost use Rattle.coap_exchange.specs.Endpoints.{AreCounted, HaveRoom};
-    ghost use Rattle.coap_exchange.specs.Table.{Table};
+    ghost use Rattle.coap_exchange.specs.Counted.{AreCounted, HaveRoom};
+    ghost use Rattle.coap_pending.specs.Table.{Table};
     ghost use Rattle.coap_exchange.specs.SendQueue.{IsSendQueue};
 
     ghost Value = { Table Exchange };
@@ -172,25 +172,6 @@ impl Exchanges {
         }
     }
 
-    /// When the earliest of the answers came, in milliseconds.
-    pub(crate) fn first_got(&self) -> Option<Moment>
-        ensures exact { IsFirstGot self.now.items result }
-        ensures sound { IsTable self.now }
-    {
-        self.table.laws();
-        match self.index.dones.first() {
-            Some(pair) => Some(pair.0),
-            None => None,
-        }
-    }
-
-    /// The least number greater than `after` of an exchange whose answer came at this moment.
-    pub(crate) fn next_got(&self, moment: Moment, after: ExchangeNumber) -> Option<ExchangeNumber>
-        ensures exact { IsNextGot moment after self.now.items result }
-    {
-        self.index.dones.next_of(moment, after)
-    }
-
     /// The number of the exchange whose answer a GET with this key may share: a GET with an equal
     /// key, whose target hasn't changed since it was sent, and whose answer hasn't come. If there
     /// are several, the first.
@@ -277,6 +258,31 @@ impl Exchanges {
         if count_of(&self.clients, opener) == self.table.per_client() {
             return Err(AdmitError::ClientFull);
         }
+        Ok(self.admit_in_room(opening, opener)?)
+    }
+
+    /// `admit` without its two tests: there is room for another exchange, and for one more of the
+    /// client, which is `opener`.
+    ///
+    /// # Errors
+    /// Out of memory. The table is unchanged then.
+    pub(crate) fn admit_in_room(
+        &mut self,
+        opening: Opening<'_>,
+        opener: Peer,
+    ) -> Result<ExchangeNumber, OutOfMemory>
+        requires numbers { self.old.admitted < 2 ^ 64 - 1 }
+        requires now { opening.now ≤ 2 ^ 62 }
+        requires opener { opener ≡ opening.client }
+        requires room { length self.old.items < self.old.limit }
+        requires client_room { count (is_opened_by opening.client) self.old.items
+            < self.old.per_client }
+        ensures number { IfOk result (λ number. number ≡ self.old.admitted + 1) }
+        ensures ok { OnOk result (self.new ≡ admitted_to (opened opening.entry) self.old) }
+        ensures err { OnErr result (self.new ≡ self.old) }
+        ensures sound { IsTable self.old }
+    {
+        self.table.laws();
         let listed = IndexedExchange::opened(opening, opener)?;
         self.list(listed)
     }
@@ -285,8 +291,8 @@ impl Exchanges {
     /// room for it, and for one more of its client.
     ///
     /// # Errors
-    /// `OutOfMemory`. The table is unchanged then.
-    fn list(&mut self, listed: IndexedExchange) -> Result<ExchangeNumber, AdmitError>
+    /// Out of memory. The table is unchanged then.
+    fn list(&mut self, listed: IndexedExchange) -> Result<ExchangeNumber, OutOfMemory>
         requires numbers { self.old.admitted < 2 ^ 64 - 1 }
         requires state { listed.state ≡ Queued }
         requires sending { listed.sending ≡ None }
@@ -296,7 +302,6 @@ impl Exchanges {
             < self.old.per_client }
         ensures number { IfOk result (λ number. number ≡ self.old.admitted + 1) }
         ensures ok { OnOk result (self.new ≡ admitted_to listed self.old) }
-        ensures memory { IfErr result (λ error. (error ≢ Full) × (error ≢ ClientFull)) }
         ensures err { OnErr result (self.new ≡ self.old) }
     {
         let (opener, at) = (listed.client(), listed.peer());
@@ -318,10 +323,10 @@ impl Exchanges {
                 self.send_queue.note(now);
                 Ok(number)
             }
-            Err(error) => {
+            Err(_) => {
                 close_one(&mut self.endpoints, at, Stage::QUEUED);
                 depart(&mut self.clients, Some(opener));
-                Err(error)
+                Err(OutOfMemory)
             }
         }
     }
@@ -415,7 +420,7 @@ impl Exchanges {
             ≡ record self.old { items = updated_at changed_by change number self.old.items } }
     {
         let found = self.table.get(number);
-        let at = peer_of(found);
+        let at = mover_of(found, &change);
         let head = head_of(&self.table, &self.index, &self.endpoints, &at);
         let queued = queued_without(self.queued, &self.table, number, found);
         recount(&mut self.endpoints, &self.table, number, found, &change);
@@ -467,99 +472,6 @@ impl Table<IndexedExchange> {
             } }
     {
         taint_under(&mut self.items, number, target);
-    }
-}
-
-/// Which of the queued exchanges is to be sent first. They are only scanned if they weren't
-/// admitted in order.
-fn first_turn(
-    exchanges: &Table<IndexedExchange>,
-    endpoints: &EndpointMap,
-    queued: usize,
-    send_queue: &SendQueue,
-    nstart: usize,
-) -> Option<(Moment, ExchangeNumber)>
-    requires queued { queued ≡ count is_queued exchanges.now.items }
-    requires counted { AreCounted exchanges.now.items endpoints.now }
-    requires send_queue { IsSendQueue exchanges.now.items send_queue.now }
-    ensures exact { result
-        ≡ first_due (turn_among nstart exchanges.now.items) exchanges.now.items }
-{
-    if send_queue.in_order {
-        first_in_order(exchanges, send_queue, nstart)
-    } else {
-        first_of_all(exchanges, endpoints, queued, nstart)
-    }
-}
-
-/// The same, if they were admitted in order.
-fn first_in_order(
-    exchanges: &Table<IndexedExchange>,
-    send_queue: &SendQueue,
-    nstart: usize,
-) -> Option<(Moment, ExchangeNumber)>
-    requires send_queue { IsSendQueue exchanges.now.items send_queue.now }
-    requires order { send_queue.now.in_order ≡ true }
-    ensures exact { result
-        ≡ first_due (turn_among nstart exchanges.now.items) exchanges.now.items }
-{
-    exchanges.laws();
-    let number = send_queue.first(nstart)?;
-    let exchange = exchanges.exchange(number)?;
-    Some((exchange.admitted, number))
-}
-
-/// The same, in whatever order they were admitted. `queued` of them are waiting. A proxy, to which
-/// time never goes back, never comes here.
-fn first_of_all(
-    exchanges: &Table<IndexedExchange>,
-    endpoints: &EndpointMap,
-    queued: usize,
-    nstart: usize,
-) -> Option<(Moment, ExchangeNumber)>
-    requires queued { queued ≡ count is_queued exchanges.now.items }
-    requires counted { AreCounted exchanges.now.items endpoints.now }
-    ensures exact { result
-        ≡ first_due (turn_among nstart exchanges.now.items) exchanges.now.items }
-{
-    exchanges.laws();
-    if queued == 0 {
-        return None;
-    }
-    exchanges.first_turn(endpoints, nstart)
-}
-
-impl Table<IndexedExchange> {
-    fn first_turn(&self, endpoints: &EndpointMap, nstart: usize) -> Option<(Moment, ExchangeNumber)>
-        requires counted { AreCounted self.now.items endpoints.now }
-        ensures exact { result ≡ first_due (turn_among nstart self.now.items) self.now.items }
-    {
-        let mut first = None;
-        for (number, listed) in self.items.iter() {
-            let turn = self.turn_at(endpoints, *number, listed, nstart);
-            first = sooner(first, turn);
-        }
-        first
-    }
-
-    /// When a queued exchange of the table gets its turn, with its number.
-    fn turn_at(
-        &self,
-        endpoints: &EndpointMap,
-        number: ExchangeNumber,
-        listed: &IndexedExchange,
-        nstart: usize,
-    ) -> Option<(Moment, ExchangeNumber)>
-        requires counted { AreCounted self.now.items endpoints.now }
-        ensures exact { result
-            ≡ due_row (turn_among nstart self.now.items) (number, listed.now) }
-    {
-        let exchange = listed.exchange();
-        if exchange.is_queued() && counts_of(endpoints, listed.peer()).sent < nstart {
-            Some((exchange.admitted, number))
-        } else {
-            None
-        }
     }
 }
 

@@ -1,15 +1,15 @@
 //! What exchanges are looked up by, so that no lookup scans them all.
 ghost use Rattle.std.specs.Prelude.{◌≡◌, Some, IfOk};
 ghost use Rattle.std.specs.Option.{option_copied};
-ghost use Rattle.coap_exchange.specs.Index.{empty_indexes, queue_of, end_of, got_of, id_of, cache_key_of, target_of, is_met, opening_of, keys_at, AreListed, CanRekeyAll, HaveRekeyed};
+ghost use Rattle.coap_exchange.specs.Index.{empty_indexes, queue_of, end_of, id_of, cache_key_of, target_of, is_met, opening_of, keys_at, AreListed, CanRekeyAll, HaveRekeyed};
 ghost use Rattle.ordered_index.specs.Ordered.{empty_index};
-ghost use Rattle.coap_exchange.specs.Table.{first_that, item_at, passes, IsRising, IsTable};
+ghost use Rattle.coap_pending.specs.Table.{first_that, item_at, passes, IsRising, IsTable};
 
-use crate::exchange::{Exchange, ExchangeNumber};
 use crate::indexed_exchange::IndexedExchange;
 use crate::table::Table;
 use coap_endpoint::Endpoint;
 use coap_message::{Moment, OutOfMemory};
+use coap_pending::{Exchange, ExchangeNumber};
 use coap_store::CacheKey;
 use ordered_index::{HashedIndex, OrderedIndex};
 use std::alloc::Global;
@@ -18,8 +18,6 @@ use std::alloc::Global;
 pub(crate) struct Index {
     /// By the Message ID that they were sent with.
     pub(crate) ids: HashedIndex,
-    /// By the moment when their answer came.
-    pub(crate) dones: OrderedIndex,
     /// By the moment of their admission, until their answer comes.
     pub(crate) openings: OrderedIndex,
     /// By the end of the current timeout.
@@ -37,7 +35,6 @@ impl Drop for Index {
     fn drop(self) {
         let Index {
             ids: _,
-            dones: _,
             openings: _,
             ends: _,
             queues: _,
@@ -51,7 +48,6 @@ impl Drop for Index {
 #[derive(Clone, Copy)]
 pub(crate) struct ExchangeKeys {
     pub(crate) id: Option<u64>,
-    pub(crate) got: Option<Moment>,
     pub(crate) opening: Option<Moment>,
     pub(crate) end: Option<Moment>,
     pub(crate) queue: Option<u64>,
@@ -106,14 +102,12 @@ impl Index {
     pub(crate) fn new(alloc: Global, limit: usize, seed: u64) -> Result<Index, OutOfMemory>
         ensures empty { IfOk result (λ index. index ≡ empty_indexes limit) }
     {
-        let dones = OrderedIndex::new(alloc, limit)?;
         let openings = OrderedIndex::new(alloc, limit)?;
         let ends = OrderedIndex::new(alloc, limit)?;
         let (ids, queues) = two_indexes(alloc, limit, seed)?;
         let (cache_keys, targets) = two_indexes(alloc, limit, seed)?;
         Ok(Index {
             ids,
-            dones,
             openings,
             ends,
             queues,
@@ -128,7 +122,6 @@ impl Index {
         ensures exact { HaveRekeyed self.old self.new number was is }
     {
         self.ids.rekey(number, was.id, is.id);
-        self.dones.rekey(number, was.got, is.got);
         self.openings.rekey(number, was.opening, is.opening);
         self.ends.rekey(number, was.end, is.end);
         self.queues.rekey(number, was.queue, is.queue);
@@ -153,7 +146,6 @@ pub(crate) fn keys_in(found: Option<&IndexedExchange>) -> ExchangeKeys
         Some(listed) => keys_of(listed),
         None => ExchangeKeys {
             id: None,
-            got: None,
             opening: None,
             end: None,
             queue: None,
@@ -170,7 +162,6 @@ pub(crate) fn keys_of(listed: &IndexedExchange) -> ExchangeKeys
     let exchange = listed.exchange();
     ExchangeKeys {
         id: id_of(exchange),
-        got: got_of(exchange),
         opening: opening_of(exchange),
         end: end_of(exchange),
         queue: queue_of(listed),
@@ -184,15 +175,6 @@ fn id_of(exchange: &Exchange) -> Option<u64>
 {
     match &exchange.sending {
         Some(sending) => Some(u64::from(sending.id)),
-        None => None,
-    }
-}
-
-fn got_of(exchange: &Exchange) -> Option<Moment>
-    ensures exact { result ≡ got_of exchange.now }
-{
-    match exchange.answer() {
-        Some(answer) => Some(answer.got),
         None => None,
     }
 }

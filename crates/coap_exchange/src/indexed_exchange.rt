@@ -2,16 +2,17 @@
 ghost use Rattle.std.specs.Prelude.{◌≡◌, IfOk};
 ghost use Rattle.std.specs.Option.{option_copied, option_map};
 ghost use Rattle.coap_exchange.specs.Digests.{digest_of_key, digest_of_target};
-ghost use Rattle.coap_exchange.specs.Exchanges.{changed_by, is_queued, is_sent, opened, tainted_by, CanChange};
-ghost use Rattle.coap_exchange.specs.Table.{item_at, IsTable};
+ghost use Rattle.coap_pending.specs.Exchanges.{changed_by, is_queued, is_sent, tainted_by, CanChange};
+ghost use Rattle.coap_exchange.specs.Opening.{opened};
+ghost use Rattle.coap_pending.specs.Table.{item_at, IsTable};
 
 use crate::digests::Digests;
-use crate::endpoints::Stage;
-use crate::exchange::{Change, Exchange, ExchangeNumber, Opening};
-use crate::peer::Peer;
+use crate::opening::Opening;
 use crate::table::Table;
 use coap_endpoint::Target;
 use coap_message::OutOfMemory;
+use coap_pending::{Change, Exchange, ExchangeNumber};
+use endpoint_counts::{Peer, Stage};
 use std::marker::Model;
 
 /// An exchange, and the digests that it is looked up by, which it is opened with. A contract sees
@@ -26,7 +27,7 @@ pub(crate) struct IndexedExchange {
 
 impl Model for IndexedExchange {
     ghost use Rattle.std.specs.Prelude.{◌≡◌};
-    ghost use Rattle.coap_exchange.specs.declared.exchange.Exchange.{Exchange};
+    ghost use Rattle.coap_pending.specs.declared.exchange.Exchange.{Exchange};
     ghost use Rattle.coap_exchange.specs.Digests.{digests_of};
 
     ghost Value = { Exchange };
@@ -84,7 +85,10 @@ impl IndexedExchange {
         ensures sent { result.sent ≡ is_sent self.now }
         ensures queued { result.queued ≡ is_queued self.now }
     {
-        self.exchange.stage()
+        Stage {
+            sent: self.exchange.is_sent(),
+            queued: self.exchange.is_queued(),
+        }
     }
 
     /// The digest of its cache key.

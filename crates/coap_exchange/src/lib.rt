@@ -27,35 +27,26 @@
 //! ```
 #![tactic(auto)]
 
-mod by_client;
 mod digests;
-mod due;
-mod endpoint_map;
-mod endpoints;
-pub mod examples;
-mod exchange;
 mod exchanges;
-mod ids;
 mod index;
 mod indexed_exchange;
-pub mod laws;
-mod peer;
+mod opening;
 mod send_queue;
-mod slots;
 mod table;
-mod timer;
+mod turns;
 mod under_way;
-mod waiter;
 mod waiter_index;
 mod waiters;
 
+pub use coap_pending::{
+    Exchange, ExchangeNumber, ExchangeState, Fire, Ids, Joining, Sending, Timer, Waiter,
+    WaiterNumber, WaiterState,
+};
 pub use coap_store::Answer;
 pub use digests::HashedKey;
-pub use exchange::{Exchange, ExchangeNumber, ExchangeState, Opening, Sending};
 pub use exchanges::Exchanges;
-pub use ids::Ids;
+pub use opening::Opening;
 pub use table::AdmitError;
-pub use timer::{Fire, Timer};
 pub use under_way::UnderWay;
-pub use waiter::{Joining, Waiter, WaiterNumber, WaiterState};
 pub use waiters::Waiters;

@@ -2,17 +2,15 @@
 ghost use Rattle.std.specs.Prelude.{◌≡◌, ◌<◌, [], true, IfOk};
 ghost use Rattle.std.specs.Option.{option_copied};
 ghost use Rattle.coap_exchange.specs.Index.{AreIndexed};
-ghost use Rattle.coap_exchange.specs.Endpoints.{AreCounted};
-ghost use Rattle.coap_exchange.specs.SendQueue.{endpoint_in, head_in, lower, noted, IsSendQueue, IsLowestUnder};
+ghost use Rattle.coap_exchange.specs.Counted.{AreCounted};
+ghost use Rattle.coap_exchange.specs.SendQueue.{head_in, lower, mover, noted, IsSendQueue, IsLowestUnder};
 
-use crate::endpoint_map::EndpointMap;
-use crate::endpoints::counts_of;
-use crate::exchange::ExchangeNumber;
 use crate::index::{Index, Sought, first_sought};
 use crate::indexed_exchange::IndexedExchange;
-use crate::peer::Peer;
 use crate::table::Table;
 use coap_message::{Moment, OutOfMemory};
+use coap_pending::{Change, ExchangeNumber};
+use endpoint_counts::{EndpointMap, Peer, counts_of};
 use ordered_index::OrderedIndex;
 use std::alloc::Global;
 
@@ -78,13 +76,22 @@ fn lower(first: Option<ExchangeNumber>, number: ExchangeNumber) -> Option<Exchan
     }
 }
 
-/// The endpoint of an exchange, if there is one.
-pub(crate) fn peer_of(found: Option<&IndexedExchange>) -> Option<Peer>
-    ensures exact { result ≡ endpoint_in (option_copied found.entry) }
+/// The endpoint of which the head may be another after a change of this exchange, or, without a
+/// change, once it is removed. It is that of an exchange that waits for its turn, or that enters or
+/// leaves the sent state.
+pub(crate) fn mover_of(found: Option<&IndexedExchange>, change: &Option<Change>) -> Option<Peer>
+    ensures exact { result ≡ mover change.now (option_copied found.entry) }
 {
-    match found {
-        Some(listed) => Some(listed.peer()),
-        None => None,
+    let listed = found?;
+    let was = listed.stage();
+    let sent = match change {
+        Some(change) => change.sends(was.sent),
+        None => false,
+    };
+    if was.queued || was.sent != sent {
+        Some(listed.peer())
+    } else {
+        None
     }
 }
 

@@ -1,27 +1,29 @@
 //! What is under way: exchanges, and the clients that wait for them.
 ghost use Rattle.std.specs.Prelude.{◌≡◌, ◌+◌, ◌-◌, ◌<◌, ◌≤◌, ◌^◌, ◌↔◌, [], true, false, length, OnOk, OnErr, IfOk, IfErr, IfSome};
 ghost use Rattle.std.specs.Option.{option_copied};
-ghost use Rattle.coap_exchange.specs.declared.exchange.Exchange.{Exchange};
-ghost use Rattle.coap_exchange.specs.declared.waiter.Waiter.{Waiter};
-ghost use Rattle.coap_exchange.specs.declared.table.AdmitError.TheVariants.{ClientFull, Full};
-ghost use Rattle.coap_exchange.specs.Due.{first_due};
-ghost use Rattle.coap_exchange.specs.Exchanges.{acked, answered, changed_by, fire_at, fired_exchange, is_done, is_opened_by, is_queued, is_sent, opened, sent, tainted_by, CanUpdate, IsDue};
+ghost use Rattle.coap_pending.specs.declared.exchange.Exchange.{Exchange};
+ghost use Rattle.coap_pending.specs.declared.waiter.Waiter.{Waiter};
+ghost use Rattle.coap_pending.specs.Due.{first_due};
+ghost use Rattle.coap_pending.specs.Exchanges.{acked, answered, changed_by, fire_at, fired_exchange, is_done, is_opened_by, is_queued, is_sent, sent, tainted_by, CanUpdate, IsDue};
+ghost use Rattle.coap_exchange.specs.Opening.{opened};
 ghost use Rattle.coap_exchange.specs.Ready.{ready_in};
-ghost use Rattle.coap_exchange.specs.Table.{Table, item_at, admitted_to, without, withdrawn, changed_at, all_changed, count, IsTable};
-ghost use Rattle.coap_exchange.specs.Waiters.{delivered, due_after, fired_waiter, is_of, is_waiting, joined};
-ghost use Rattle.coap_exchange.specs.Waiters as waiters;
+ghost use Rattle.coap_pending.specs.Table.{Table, item_at, admitted_to, without, withdrawn, changed_at, all_changed, count, IsTable};
+ghost use Rattle.coap_pending.specs.Waiters.{delivered, due_after, fired_waiter, is_of, is_waiting, joined};
+ghost use Rattle.coap_pending.specs.Waiters as waiters;
 ghost use Rattle.coap_exchange.specs.Updates.{updated_at};
 
-use crate::due::sooner;
-use crate::exchange::{Change, Exchange, ExchangeNumber, Opening, Sending};
 use crate::exchanges::Exchanges;
-use crate::table::AdmitError;
-use crate::timer::{Fire, Timer};
-use crate::waiter::{Joining, Waiter, WaiterChange, WaiterNumber};
+use crate::opening::Opening;
 use crate::waiters::{Waiters, due_at};
 use coap_endpoint::Target;
 use coap_message::{Moment, OutOfMemory, Seq};
+use coap_pending::due::sooner;
+use coap_pending::{
+    Change, Exchange, ExchangeNumber, Fire, Joining, Sending, Timer, Waiter, WaiterChange,
+    WaiterNumber,
+};
 use coap_store::Answer;
+use endpoint_counts::Peer;
 use ordered_index::OrderedIndex;
 use std::alloc::Global;
 use std::marker::Model;
@@ -120,31 +122,28 @@ impl UnderWay {
         sooner(self.waiters.first_end(), self.ready.first())
     }
 
-    /// Opens an exchange: `Exchanges::admit`.
+    /// Opens an exchange: `Exchanges::admit`, where there is room for it, and for one more that its
+    /// client opens.
     ///
     /// # Errors
-    /// Those of `Exchanges::admit`. Nothing is changed then.
-    pub fn open(&mut self, opening: Opening<'_>) -> Result<ExchangeNumber, AdmitError>
+    /// Out of memory. Nothing is changed then.
+    pub fn open(&mut self, opening: Opening<'_>) -> Result<ExchangeNumber, OutOfMemory>
         requires numbers { self.old.exchanges.admitted < 2 ^ 64 - 1 }
         requires now { opening.now ≤ 2 ^ 62 }
+        requires room { length self.old.exchanges.items < self.old.exchanges.limit }
+        requires client_room { count (is_opened_by opening.client) self.old.exchanges.items
+            < self.old.exchanges.per_client }
         ensures number { IfOk result (λ number. number ≡ self.old.exchanges.admitted + 1) }
         ensures ok { OnOk result
             (self.new
             ≡ record self.old {
               exchanges = admitted_to (opened opening.entry) self.old.exchanges;
             }) }
-        ensures full { IfErr result (λ error.
-            (error ≡ Full)
-            ↔ (length self.old.exchanges.items ≡ self.old.exchanges.limit)) }
-        ensures client_full { IfErr result (λ error.
-            (error ≡ ClientFull)
-            ↔ ((length self.old.exchanges.items < self.old.exchanges.limit)
-            × (count (is_opened_by opening.entry.client) self.old.exchanges.items
-            ≡ self.old.exchanges.per_client))) }
         ensures err { OnErr result (self.new ≡ self.old) }
         ensures sound { IsTable self.old.exchanges }
     {
-        self.exchanges.admit(opening)
+        let opener = Peer::new(opening.client);
+        self.exchanges.admit_in_room(opening, opener)
     }
 
     /// Undoes an `open`: `Exchanges::withdraw`.
@@ -251,30 +250,28 @@ impl UnderWay {
         self.update_exchange(number, None);
     }
 
-    /// Has a client wait for an exchange: `Waiters::admit`.
+    /// Has a client wait for an exchange: `Waiters::admit`, where there is room for it, and for one
+    /// more of the client.
     ///
     /// # Errors
-    /// Those of `Waiters::admit`. Nothing is changed then.
-    pub fn join(&mut self, joining: Joining) -> Result<WaiterNumber, AdmitError>
-        requires { self.old.waiters.admitted < 2 ^ 64 - 1 }
+    /// Out of memory. Nothing is changed then.
+    pub fn join(&mut self, joining: Joining) -> Result<WaiterNumber, OutOfMemory>
+        requires numbers { self.old.waiters.admitted < 2 ^ 64 - 1 }
+        requires room { length self.old.waiters.items < self.old.waiters.limit }
+        requires client_room { count (is_of joining.client) self.old.waiters.items
+            < self.old.waiters.per_client }
         ensures number { IfOk result (λ number. number ≡ self.old.waiters.admitted + 1) }
         ensures ok { OnOk result
             (self.new
             ≡ record self.old { waiters = admitted_to (joined joining) self.old.waiters }) }
-        ensures full { IfErr result (λ error.
-            (error ≡ Full) ↔ (length self.old.waiters.items ≡ self.old.waiters.limit)) }
-        ensures client_full { IfErr result (λ error.
-            (error ≡ ClientFull)
-            ↔ ((length self.old.waiters.items < self.old.waiters.limit)
-            × (count (is_of joining.client) self.old.waiters.items
-            ≡ self.old.waiters.per_client))) }
         ensures err { OnErr result (self.new ≡ self.old) }
         ensures sound { IsTable self.old.waiters }
     {
         let exchange = Some(joining.exchange);
+        let client = Peer::new(joining.client);
         self.ready.laws();
         let was = ready_in(&self.exchanges, &self.waiters, exchange);
-        let number = self.waiters.admit(joining)?;
+        let number = self.waiters.admit_in_room(joining, client)?;
         let is = ready_in(&self.exchanges, &self.waiters, exchange);
         self.ready.replace(was, is);
         Ok(number)

@@ -3,9 +3,8 @@ ghost use Rattle.std.specs.Prelude.{◌≡◌, IfOk};
 ghost use Rattle.std.specs.Option.{option_copied};
 ghost use Rattle.coap_exchange.specs.WaiterIndex.{empty_waiter_index, waiter_keys_at, CanRekeyWaiter, HaveRekeyedWaiter};
 
-use crate::exchange::ExchangeNumber;
-use crate::waiter::{Waiter, WaiterNumber, WaiterState};
 use coap_message::{Moment, OutOfMemory};
+use coap_pending::{ExchangeNumber, Waiter, WaiterNumber, WaiterState};
 use ordered_index::OrderedIndex;
 use std::alloc::Global;
 

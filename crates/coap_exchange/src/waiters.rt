@@ -7,25 +7,22 @@ ghost use Rattle.indexmap.specs.IndexMap.{get};
 ghost use Rattle.coap_exchange.specs.declared.table.AdmitError.TheVariants.{ClientFull, Full};
 ghost use Rattle.coap_exchange.specs.Answered.{due_at};
 ghost use Rattle.coap_endpoint.specs.declared.endpoint.Endpoint.{Endpoint};
-ghost use Rattle.coap_exchange.specs.Clients.{count_of, AreWithin};
-ghost use Rattle.coap_exchange.specs.Due.{due_row, first_due};
+ghost use Rattle.endpoint_counts.specs.Clients.{count_of, AreWithin};
+ghost use Rattle.coap_pending.specs.Due.{due_row, first_due};
 ghost use Rattle.coap_exchange.specs.WaiterIndex.{answered_of, end_of, waiter_keys_at};
-ghost use Rattle.coap_exchange.specs.Table.{empty_table, item_at, admitted_to, without, withdrawn, changed_at, count, first_that, passes, IsTable};
-ghost use Rattle.coap_exchange.specs.Waiters.{awaited_by, changed_by, delivered, due_after, fire_at, fired_waiter, is_of, is_waiting, joined, waits_for, was_sent_as, CanChange, CanUpdate, IsDue};
+ghost use Rattle.coap_pending.specs.Table.{empty_table, item_at, admitted_to, without, withdrawn, changed_at, count, first_that, passes, IsTable};
+ghost use Rattle.coap_pending.specs.Waiters.{awaited_by, changed_by, delivered, due_after, fire_at, fired_waiter, is_of, is_waiting, joined, waits_for, was_sent_as, CanChange, CanUpdate, IsDue};
 ghost use Rattle.coap_exchange.specs.Updates.{leaver, updated, updated_at, Allows};
 
-use crate::by_client::{count_of, depart, enter};
-use crate::due::{due_under, sooner};
-use crate::endpoint_map::EndpointMap;
-use crate::exchange::ExchangeNumber;
 use crate::exchanges::Exchanges;
-use crate::peer::Peer;
 use crate::table::{AdmitError, Items, Table};
-use crate::timer::{Fire, Timer};
-use crate::waiter::{Joining, Waiter, WaiterChange, WaiterNumber};
 use crate::waiter_index::{WaiterIndex, WaiterKeys, waiter_keys_in, waiter_keys_of};
 use coap_endpoint::Endpoint;
 use coap_message::{Moment, OutOfMemory, Seq};
+use coap_pending::due::{due_under, sooner};
+use coap_pending::{ExchangeNumber, Fire, Joining, Timer, Waiter, WaiterChange, WaiterNumber};
+use endpoint_counts::by_client::{count_of, depart, enter};
+use endpoint_counts::{EndpointMap, Peer};
 use std::alloc::Global;
 use std::marker::Model;
 
@@ -56,12 +53,12 @@ impl Drop for Waiters {
 
 impl Model for Waiters {
     ghost use Rattle.std.specs.Prelude.{◌≡◌};
-    ghost use Rattle.coap_exchange.specs.declared.waiter.Waiter.{Waiter};
-    ghost use Rattle.coap_exchange.specs.Clients.{AreOfClients, AreWithin};
+    ghost use Rattle.coap_pending.specs.declared.waiter.Waiter.{Waiter};
+    ghost use Rattle.endpoint_counts.specs.Clients.{AreOfClients, AreWithin};
     ghost use Rattle.coap_exchange.specs.WaiterIndex.{AreWaitersIndexed};
-    ghost use Rattle.coap_exchange.specs.Table.{Table, IsTable};
+    ghost use Rattle.coap_pending.specs.Table.{Table, IsTable};
     ghost use Rattle.coap_exchange.specs.Tally.{AreWaiters};
-    ghost use Rattle.coap_exchange.specs.Waiters.{is_of};
+    ghost use Rattle.coap_pending.specs.Waiters.{is_of};
 
     ghost Value = { Table Waiter };
 
@@ -220,32 +217,12 @@ impl Waiters {
 
     /// The moment when the first waiter is due, in milliseconds, and its number. If several are due
     /// at the same moment, the one with the least number. A waiter is due when the answer of its
-    /// exchange comes, and, once the response was sent, at the end of the current timeout.
+    /// exchange comes, and, once the response was sent, at the end of the current timeout. All
+    /// waiters are scanned: a proxy, which keeps who is due, calls `UnderWay::waiter_due`.
     pub fn due(&self, exchanges: &Exchanges) -> Option<(Moment, WaiterNumber)>
         ensures exact { result ≡ first_due (due_after exchanges.now.items) self.now.items }
     {
-        sooner(self.first_end(), self.first_answered(exchanges))
-    }
-
-    /// Which waiter is due first because an answer has come. Those whose answer came first are
-    /// found without a scan. All are scanned only if none waits for an answer that came first.
-    fn first_answered(&self, exchanges: &Exchanges) -> Option<(Moment, WaiterNumber)>
-        ensures exact { result ≡ first_due (answered_of exchanges.now.items) self.now.items }
-    {
-        let Some(moment) = exchanges.first_got() else {
-            return None;
-        };
-        let mut first = None;
-        let mut after = 0;
-        while let Some(exchange) = exchanges.next_got(moment, after) {
-            let number = self.index.awaited.next_of(exchange, 0);
-            first = sooner(first, due_at(moment, number));
-            after = exchange;
-        }
-        match first {
-            Some(due) => Some(due),
-            None => self.table.first_answered(exchanges),
-        }
+        sooner(self.first_end(), self.table.first_answered(exchanges))
     }
 
     /// Adds a waiter after the others, which waits for an exchange, and returns its number.
@@ -277,6 +254,29 @@ impl Waiters {
         if count_of(&self.clients, peer) == self.table.per_client() {
             return Err(AdmitError::ClientFull);
         }
+        Ok(self.admit_in_room(joining, peer)?)
+    }
+
+    /// `admit` without its two tests: there is room for another waiter, and for one more of the
+    /// client, which is `peer`.
+    ///
+    /// # Errors
+    /// Out of memory. The table is unchanged then.
+    pub(crate) fn admit_in_room(
+        &mut self,
+        joining: Joining,
+        peer: Peer,
+    ) -> Result<WaiterNumber, OutOfMemory>
+        requires numbers { self.old.admitted < 2 ^ 64 - 1 }
+        requires peer { peer ≡ joining.client }
+        requires room { length self.old.items < self.old.limit }
+        requires client_room { count (is_of joining.client) self.old.items < self.old.per_client }
+        ensures number { IfOk result (λ number. number ≡ self.old.admitted + 1) }
+        ensures ok { OnOk result (self.new ≡ admitted_to (joined joining) self.old) }
+        ensures err { OnErr result (self.new ≡ self.old) }
+        ensures sound { IsTable self.old }
+    {
+        self.table.laws();
         self.clients.laws();
         enter(&mut self.clients, peer);
         let waiter = joining.joined();
@@ -287,9 +287,9 @@ impl Waiters {
                 self.index.rekey(number, was, is);
                 Ok(number)
             }
-            Err(error) => {
+            Err(_) => {
                 depart(&mut self.clients, Some(peer));
-                Err(error)
+                Err(OutOfMemory)
             }
         }
     }
@@ -403,6 +403,7 @@ impl Table<Waiter> {
         change_under(&mut self.items, number, change, alloc)
     }
 
+    /// Which waiter is due first because an answer has come. All are scanned.
     fn first_answered(&self, exchanges: &Exchanges) -> Option<(Moment, WaiterNumber)>
         ensures exact { result ≡ first_due (answered_of exchanges.now.items) self.now.items }
     {

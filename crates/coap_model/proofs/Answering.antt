@@ -9,10 +9,10 @@ use Rattle.coap_message.proofs.Spellings.{spelled}
 use Rattle.coap_endpoint.specs.declared.endpoint.Endpoint.{Endpoint}
 use Rattle.coap_endpoint.proofs.Lists.{All-weaken}
 use Rattle.coap_dedup.specs.Records.{Records}
-use Rattle.coap_exchange.specs.declared.exchange.Exchange.{Exchange}
-use Rattle.coap_exchange.specs.Exchanges.{acked, answered, is_queued, is_sent_to}
-use Rattle.coap_exchange.specs.Table.{Numbered, item_at, passes}
-use Rattle.coap_exchange.proofs.Counts.{one_if, count-moved}
+use Rattle.coap_pending.specs.declared.exchange.Exchange.{Exchange}
+use Rattle.coap_pending.specs.Exchanges.{acked, answered, is_queued, is_sent_to}
+use Rattle.coap_pending.specs.Table.{Numbered, item_at, passes}
+use Rattle.coap_pending.proofs.Counts.{one_if, count-moved}
 use Rattle.coap_model.specs.Events.{arrival}
 use Rattle.coap_forward.specs.Messages.{is_con, is_ack, acknowledgement}
 use Rattle.coap_store.specs.Entries.{Entry}

@@ -19,25 +19,25 @@ use Rattle.coap_endpoint.specs.Endpoint.{same_endpoint}
 use Rattle.coap_endpoint.specs.Equality.{same_bytes}
 use Rattle.coap_endpoint.proofs.Equality.{Tells-both, Tells-endpoint}
 use Rattle.coap_endpoint.proofs.Lists.{none-found}
-use Rattle.coap_exchange.specs.declared.exchange.Exchange.{Exchange}
-use Rattle.coap_exchange.specs.declared.exchange.ExchangeState.{ExchangeState}
-use Rattle.coap_exchange.specs.declared.exchange.ExchangeState.TheVariants.{Queued, Sent, Acked, Done}
-use Rattle.coap_exchange.specs.declared.exchange.Sending.{Sending}
-use Rattle.coap_exchange.specs.declared.timer.Timer.{Timer}
-use Rattle.coap_exchange.specs.declared.waiter.Waiter.{Waiter}
-use Rattle.coap_exchange.specs.declared.waiter.WaiterState.{WaiterState}
-use Rattle.coap_exchange.specs.declared.waiter.WaiterState.TheVariants.{Waiting, Delivering}
-use Rattle.coap_exchange.specs.Waiters as waiters
-use Rattle.coap_exchange.specs.Waiters.{is_delivered_as}
-use Rattle.coap_exchange.specs.Exchanges.{is_sent_state, is_acked, is_acked_state, is_as, is_some_as, was_sent_as}
-use Rattle.coap_exchange.specs.Table.{Numbered, IsRising, first_that, item_at}
+use Rattle.coap_pending.specs.declared.exchange.Exchange.{Exchange}
+use Rattle.coap_pending.specs.declared.exchange.ExchangeState.{ExchangeState}
+use Rattle.coap_pending.specs.declared.exchange.ExchangeState.TheVariants.{Queued, Sent, Acked, Done}
+use Rattle.coap_pending.specs.declared.exchange.Sending.{Sending}
+use Rattle.coap_pending.specs.declared.timer.Timer.{Timer}
+use Rattle.coap_pending.specs.declared.waiter.Waiter.{Waiter}
+use Rattle.coap_pending.specs.declared.waiter.WaiterState.{WaiterState}
+use Rattle.coap_pending.specs.declared.waiter.WaiterState.TheVariants.{Waiting, Delivering}
+use Rattle.coap_pending.specs.Waiters as waiters
+use Rattle.coap_pending.specs.Waiters.{is_delivered_as}
+use Rattle.coap_pending.specs.Exchanges.{is_sent_state, is_acked, is_acked_state, is_as, is_some_as, was_sent_as, is_in_flight, was_sent_with}
+use Rattle.coap_pending.specs.Table.{Numbered, IsRising, first_that, item_at}
 use Rattle.coap_model.specs.Setting.{Setting}
 use Rattle.coap_model.specs.Events.{arrival}
 use Rattle.coap_message.specs.Codes.{is_response}
 use Rattle.coap_forward.specs.Messages.{is_ack, is_rst, is_bare, is_empty, brings_requests, brings_responses, token_of}
 use Rattle.coap_model.specs.State.{State, records_of}
 use Rattle.coap_model.specs.Step.{message_in}
-use Rattle.coap_model.specs.Responses.{is_in_flight, was_sent_with, has_id, awaits, awaiting}
+use Rattle.coap_model.specs.Responses.{has_id, awaits, awaiting}
 use Rattle.coap_model.specs.Standing.{sent, stage_of, told, service_of}
 use Rattle.coap_dedup.specs.Lists.{record_of}
 use Rattle.coap_dedup.specs.Records.{living_at}

@@ -8,17 +8,17 @@ use Rattle.coap_message.specs.Uint.{IsBytes}
 use Rattle.coap_message.specs.Message.{Message}
 use Rattle.coap_endpoint.specs.declared.endpoint.Endpoint.{Endpoint}
 use Rattle.coap_endpoint.proofs.Lists.{All-weaken}
-use Rattle.coap_exchange.specs.declared.timer.Timer.{Timer}
-use Rattle.coap_exchange.specs.declared.timer.Fire.TheVariants.{Again, GiveUp}
-use Rattle.coap_exchange.specs.declared.waiter.Waiter.{Waiter}
-use Rattle.coap_exchange.specs.declared.waiter.WaiterState.{WaiterState}
-use Rattle.coap_exchange.specs.declared.waiter.WaiterState.TheVariants.{Waiting, Delivering}
-use Rattle.coap_exchange.specs.Table.{Numbered, IsRising, item_at, changed, changed_at, without, count, passes}
-use Rattle.coap_exchange.specs.Timers.{goes_on, sent_again, fired, fire_of}
-use Rattle.coap_exchange.specs.Waiters.{is_waiting, is_waiting_state, waits_for, waits_in_state, fired_state, fired_waiter, due_in, due_after}
-use Rattle.coap_exchange.proofs.Changes.{length-changed_at, IsRising-changed_at}
-use Rattle.coap_exchange.proofs.Counts.{one_if, count-without, count-kept}
-use Rattle.coap_exchange.proofs.Tables.{IsRising-without}
+use Rattle.coap_pending.specs.declared.timer.Timer.{Timer}
+use Rattle.coap_pending.specs.declared.timer.Fire.TheVariants.{Again, GiveUp}
+use Rattle.coap_pending.specs.declared.waiter.Waiter.{Waiter}
+use Rattle.coap_pending.specs.declared.waiter.WaiterState.{WaiterState}
+use Rattle.coap_pending.specs.declared.waiter.WaiterState.TheVariants.{Waiting, Delivering}
+use Rattle.coap_pending.specs.Table.{Numbered, IsRising, item_at, changed, changed_at, without, count, passes}
+use Rattle.coap_pending.specs.Timers.{goes_on, sent_again, fired, fire_of}
+use Rattle.coap_pending.specs.Waiters.{is_waiting, is_waiting_state, waits_for, waits_in_state, fired_state, fired_waiter, due_in, due_after}
+use Rattle.coap_pending.proofs.Changes.{length-changed_at, IsRising-changed_at}
+use Rattle.coap_pending.proofs.Counts.{one_if, count-without, count-kept}
+use Rattle.coap_pending.proofs.Tables.{IsRising-without}
 use Rattle.std.proofs.lemmas.Option.{same_Some}
 use Rattle.coap_model.specs.declared.due.DueItem.TheVariants.{OfWaiter}
 use Rattle.coap_model.specs.declared.report.Outcome.TheVariants.{Resent, Delivered}

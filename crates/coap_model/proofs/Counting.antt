@@ -11,13 +11,13 @@ use Rattle.coap_message.proofs.Spellings.{options-length}
 use Rattle.coap_store.specs.declared.key.CacheKey.{CacheKey}
 use Rattle.coap_store.specs.declared.stored.Stored.{Stored}
 use Rattle.coap_store.specs.Sizes.{host_size, key_size, options_size, value_size, values_size}
-use Rattle.coap_exchange.specs.declared.exchange.ExchangeState.{ExchangeState}
-use Rattle.coap_exchange.specs.declared.exchange.ExchangeState.TheVariants.{Queued, Sent, Acked, Done}
-use Rattle.coap_exchange.specs.declared.exchange.Exchange.{Exchange}
-use Rattle.coap_exchange.specs.declared.waiter.Waiter.{Waiter}
-use Rattle.coap_exchange.specs.declared.waiter.WaiterState.{WaiterState}
-use Rattle.coap_exchange.specs.declared.waiter.WaiterState.TheVariants.{Waiting, Delivering}
-use Rattle.coap_exchange.specs.Table.{Numbered}
+use Rattle.coap_pending.specs.declared.exchange.ExchangeState.{ExchangeState}
+use Rattle.coap_pending.specs.declared.exchange.ExchangeState.TheVariants.{Queued, Sent, Acked, Done}
+use Rattle.coap_pending.specs.declared.exchange.Exchange.{Exchange}
+use Rattle.coap_pending.specs.declared.waiter.Waiter.{Waiter}
+use Rattle.coap_pending.specs.declared.waiter.WaiterState.{WaiterState}
+use Rattle.coap_pending.specs.declared.waiter.WaiterState.TheVariants.{Waiting, Delivering}
+use Rattle.coap_pending.specs.Table.{Numbered}
 use Rattle.coap_model.specs.State.{State}
 use Rattle.coap_model.specs.Held.{host_bytes, key_bytes, response_bytes, copy_bytes, state_bytes, exchange_bytes, answer_bytes, waiter_bytes, held, response_size, answer_size, copy_size, exchange_size, waiter_size, bytes_held}
 

@@ -14,26 +14,26 @@ use Rattle.coap_option.specs.Selection.{tags_of}
 use Rattle.coap_endpoint.proofs.Lists.{All-weaken}
 use Rattle.coap_store.specs.declared.answer.Answer.{Answer}
 use Rattle.coap_store.specs.declared.key.CacheKey.{CacheKey}
-use Rattle.coap_exchange.specs.declared.exchange.Exchange.{Exchange}
-use Rattle.coap_exchange.specs.declared.waiter.Waiter.{Waiter}
-use Rattle.coap_exchange.specs.declared.waiter.WaiterState.{WaiterState}
-use Rattle.coap_exchange.specs.declared.waiter.WaiterState.TheVariants.{Waiting, Delivering}
-use Rattle.coap_exchange.specs.Exchanges.{is_queued, is_sent_to, answer_in_state, answer_at, answer_of}
-use Rattle.coap_exchange.specs.declared.timer.Timer.{Timer}
-use Rattle.coap_exchange.specs.Timers.{started}
-use Rattle.coap_exchange.specs.Waiters.{is_waiting, is_waiting_state, waits_for, waits_in_state, delivered, moment_of, due_in, due_after}
-use Rattle.coap_exchange.specs.Table.{Numbered, IsRising, item_at, changed, changed_at, without, count, passes}
-use Rattle.coap_exchange.proofs.Changes.{length-changed_at, IsRising-changed_at}
-use Rattle.coap_exchange.proofs.Counts.{one_if, count-moved, count-without}
-use Rattle.coap_exchange.proofs.Tables.{IsRising-without}
+use Rattle.coap_pending.specs.declared.exchange.Exchange.{Exchange}
+use Rattle.coap_pending.specs.declared.waiter.Waiter.{Waiter}
+use Rattle.coap_pending.specs.declared.waiter.WaiterState.{WaiterState}
+use Rattle.coap_pending.specs.declared.waiter.WaiterState.TheVariants.{Waiting, Delivering}
+use Rattle.coap_pending.specs.Exchanges.{is_queued, is_sent_to, answer_in_state, answer_at, answer_of}
+use Rattle.coap_pending.specs.declared.timer.Timer.{Timer}
+use Rattle.coap_pending.specs.Timers.{started}
+use Rattle.coap_pending.specs.Waiters.{is_waiting, is_waiting_state, waits_for, waits_in_state, delivered, moment_of, due_in, due_after}
+use Rattle.coap_pending.specs.Table.{Numbered, IsRising, item_at, changed, changed_at, without, count, passes}
+use Rattle.coap_pending.proofs.Changes.{length-changed_at, IsRising-changed_at}
+use Rattle.coap_pending.proofs.Counts.{one_if, count-moved, count-without}
+use Rattle.coap_pending.proofs.Tables.{IsRising-without}
 use Rattle.coap_forward.specs.Answers.{shown_as}
 use Rattle.coap_forward.specs.Messages.{is_con, is_get}
 use Rattle.coap_model.specs.declared.due.DueItem.TheVariants.{OfWaiter}
 use Rattle.coap_model.specs.declared.report.Outcome.{Outcome}
 use Rattle.coap_model.specs.declared.report.Outcome.TheVariants.{Answered, GaveUp}
 use Rattle.coap_model.specs.Events.{tick}
-use Rattle.coap_exchange.specs.declared.exchange.ExchangeState.{ExchangeState}
-use Rattle.coap_exchange.specs.declared.exchange.ExchangeState.TheVariants.{Queued, Sent, Acked, Done}
+use Rattle.coap_pending.specs.declared.exchange.ExchangeState.{ExchangeState}
+use Rattle.coap_pending.specs.declared.exchange.ExchangeState.TheVariants.{Queued, Sent, Acked, Done}
 use Rattle.coap_model.specs.Setting.{Setting}
 use Rattle.coap_model.specs.State.{State, next_id}
 use Rattle.coap_model.specs.Ticks.{item_due, if_due, without_idle, given_to, tells}

@@ -4,9 +4,8 @@ use Rattle.std.specs.List.{AllByRecursion}
 use Rattle.std.proofs.lemmas.Bool.Decides.{nat_tests}
 use Rattle.std.proofs.lemmas.Option.{same_Some}
 use Rattle.coap_endpoint.proofs.Lists.{All-weaken}
-use Rattle.coap_exchange.specs.Table.{Numbered}
-use Rattle.ordered_index.specs.Ordered.{is_before}
-use Rattle.coap_exchange.specs.Due.{sooner, as_due, due_row, first_due}
+use Rattle.coap_pending.specs.Table.{Numbered}
+use Rattle.coap_pending.specs.Due.{is_sooner, sooner, as_due, due_row, first_due}
 
 -- a moment and a number
 abbrev pub Due : Type 0
@@ -16,7 +15,7 @@ Due = ℕ × ℕ
 sooner-cases : (a b : Option Due) (d : Due) → sooner a b ≡ Some d → (a ≡ Some d) ⊎ (b ≡ Some d)
 sooner-cases None b d e = inr e
 sooner-cases (Some a) None d e = inl e
-sooner-cases (Some a) (Some b) d e = go (is_before b a) e
+sooner-cases (Some a) (Some b) d e = go (is_sooner b a) e
   where
     go : (t : Bool) → Some (cond t b a) ≡ Some d → (Some a ≡ Some d) ⊎ (Some b ≡ Some d)
     go true f = inr f
@@ -50,11 +49,11 @@ chain : (a b c : Due) → NotBefore a b → NotBefore b c → NotBefore a c
 chain a b c p q = let m = p.moment in let n = q.moment in let k = p.number in let l = q.number in record { moment = omega arith; number = λ e. omega arith }
 
 -- if the test succeeds, the first isn't before the second
-tested-true : (a b : Due) → is_before b a ≡ true → NotBefore b a
+tested-true : (a b : Due) → is_sooner b a ≡ true → NotBefore b a
 tested-true a b e = record { moment = grind (arith, nat_tests); number = λ same. grind (arith, nat_tests) }
 
 -- and if it fails, the second isn't before the first
-tested-false : (a b : Due) → is_before b a ≡ false → NotBefore a b
+tested-false : (a b : Due) → is_sooner b a ≡ false → NotBefore a b
 tested-false a b e = record { moment = grind (arith, nat_tests); number = λ same. grind (arith, nat_tests) }
 
 -- equal ones aren't before each other
@@ -65,9 +64,9 @@ same-first d y same = subst (λ (z : Due). NotBefore d z) same (self d)
 sooner-first : (a b : Option Due) (d y : Due) → sooner a b ≡ Some d → (a ≡ Some y) ⊎ (b ≡ Some y) → NotBefore d y
 sooner-first None b d y e h = ⊎_elim (λ (f : None ≡ Some y). absurd cc) (λ (f : b ≡ Some y). same-first d y (same_Some d y (sym e ∙ f))) h
 sooner-first (Some a) None d y e h = ⊎_elim (λ (f : Some a ≡ Some y). same-first d y (same_Some d y (sym e ∙ f))) (λ (f : None ≡ Some y). absurd cc) h
-sooner-first (Some a) (Some b) d y e h = go (is_before b a) refl e
+sooner-first (Some a) (Some b) d y e h = go (is_sooner b a) refl e
   where
-    go : (t : Bool) → is_before b a ≡ t → Some (cond t b a) ≡ Some d → NotBefore d y
+    go : (t : Bool) → is_sooner b a ≡ t → Some (cond t b a) ≡ Some d → NotBefore d y
     go true t f =
         let first : b ≡ d = same_Some b d f in
         subst (λ (z : Due). NotBefore z y) first

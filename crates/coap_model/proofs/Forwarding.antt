@@ -12,16 +12,16 @@ use Rattle.coap_endpoint.specs.declared.endpoint.Endpoint.{Endpoint}
 use Rattle.coap_endpoint.specs.Endpoint.{same_endpoint}
 use Rattle.coap_endpoint.proofs.Equality.{Tells-endpoint}
 use Rattle.coap_endpoint.proofs.Lists.{All-weaken}
-use Rattle.coap_exchange.specs.declared.exchange.Exchange.{Exchange}
-use Rattle.coap_exchange.specs.declared.exchange.ExchangeState.{ExchangeState}
-use Rattle.coap_exchange.specs.declared.exchange.ExchangeState.TheVariants.{Queued}
-use Rattle.coap_exchange.specs.declared.exchange.Sending.{Sending}
-use Rattle.coap_exchange.specs.Exchanges.{is_queued, is_queued_state, is_sent_state, is_sent_to, deadline, sent}
-use Rattle.coap_exchange.specs.Ids.{called}
-use Rattle.coap_exchange.specs.Table.{item_at, changed_at, count, passes}
-use Rattle.coap_exchange.specs.Timers.{started}
-use Rattle.coap_exchange.specs.Waiters.{is_waiting}
-use Rattle.coap_exchange.proofs.Counts.{one_if, count-moved}
+use Rattle.coap_pending.specs.declared.exchange.Exchange.{Exchange}
+use Rattle.coap_pending.specs.declared.exchange.ExchangeState.{ExchangeState}
+use Rattle.coap_pending.specs.declared.exchange.ExchangeState.TheVariants.{Queued}
+use Rattle.coap_pending.specs.declared.exchange.Sending.{Sending}
+use Rattle.coap_pending.specs.Exchanges.{is_queued, is_queued_state, is_sent_state, is_sent_to, deadline, sent}
+use Rattle.coap_pending.specs.Ids.{called}
+use Rattle.coap_pending.specs.Table.{item_at, changed_at, count, passes}
+use Rattle.coap_pending.specs.Timers.{started}
+use Rattle.coap_pending.specs.Waiters.{is_waiting}
+use Rattle.coap_pending.proofs.Counts.{one_if, count-moved}
 use Rattle.coap_forward.specs.Forms.{forwarded, tag_for}
 use Rattle.coap_forward.specs.Gaps.{given}
 use Rattle.coap_forward.specs.Messages.{is_get, token_of}

@@ -4,8 +4,8 @@ use Rattle.std.specs.Prelude.{◌/◌, ◌%◌}
 use Rattle.std.proofs.lemmas.Bool.{eqb-true, eqb-false, ne_eqb, cases_lt}
 use Rattle.coap_message.specs.Message.{Message}
 use Rattle.coap_message.proofs.WholeMessages.{one_message}
-use Rattle.coap_exchange.specs.declared.ids.Ids.{Ids as Given}
-use Rattle.coap_exchange.specs.Ids.{window, given_in, left_of, called}
+use Rattle.coap_pending.specs.declared.ids.Ids.{Ids as Given}
+use Rattle.coap_pending.specs.Ids.{window, given_in, left_of, called}
 use Rattle.coap_model.specs.State.{State}
 use Rattle.coap_model.specs.Standing.{window_ids}
 use Rattle.coap_model.specs.History.{Entry, Deed, Place, IsPlaceOf, gives_id, ids_in, last_of, IsInOrder, Gives, AreIds}

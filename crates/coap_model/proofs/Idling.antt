@@ -2,13 +2,13 @@
 -- isn't in the tables.
 use Rattle.std.proofs.Common.{◌≡◌, ℕ, ◌≤◌, List, ◌∷◌, Some, None, refl, sym, ap, ◌∙◌, subst, arith}
 use Rattle.std.proofs.lemmas.Option.{same_Some}
-use Rattle.coap_exchange.specs.declared.exchange.ExchangeState.{ExchangeState}
-use Rattle.coap_exchange.specs.declared.waiter.Waiter.{Waiter}
-use Rattle.coap_exchange.specs.declared.waiter.WaiterState.{WaiterState}
-use Rattle.coap_exchange.specs.Exchanges.{deadline, due_in, is_blocked}
-use Rattle.coap_exchange.specs.Table.{Numbered}
-use Rattle.coap_exchange.specs.Waiters as waiters
-use Rattle.coap_exchange.specs.Waiters.{moment_of, due_after}
+use Rattle.coap_pending.specs.declared.exchange.ExchangeState.{ExchangeState}
+use Rattle.coap_pending.specs.declared.waiter.Waiter.{Waiter}
+use Rattle.coap_pending.specs.declared.waiter.WaiterState.{WaiterState}
+use Rattle.coap_pending.specs.Exchanges.{deadline, due_in, is_blocked}
+use Rattle.coap_pending.specs.Table.{Numbered}
+use Rattle.coap_pending.specs.Waiters as waiters
+use Rattle.coap_pending.specs.Waiters.{moment_of, due_after}
 use Rattle.coap_model.specs.declared.due.DueItem.TheVariants.{OfExchange, OfWaiter}
 use Rattle.coap_model.specs.Events.{tick}
 use Rattle.coap_model.specs.State.{State}

@@ -11,11 +11,11 @@ use Rattle.coap_store.specs.Freshness.{is_fresh}
 use Rattle.coap_store.specs.Keys.{same_key}
 use Rattle.coap_store.specs.Alike.{same_key-only, same_key-itself}
 use Rattle.coap_endpoint.proofs.Lists.{none-found}
-use Rattle.coap_exchange.specs.declared.exchange.Exchange.{Exchange}
-use Rattle.coap_exchange.specs.declared.exchange.ExchangeState.{ExchangeState}
-use Rattle.coap_exchange.specs.declared.exchange.ExchangeState.TheVariants.{Queued, Sent, Acked, Done}
-use Rattle.coap_exchange.specs.Exchanges.{answer_in_state, answer_at, is_missing, is_joinable}
-use Rattle.coap_exchange.specs.Table.{Numbered, first_that}
+use Rattle.coap_pending.specs.declared.exchange.Exchange.{Exchange}
+use Rattle.coap_pending.specs.declared.exchange.ExchangeState.{ExchangeState}
+use Rattle.coap_pending.specs.declared.exchange.ExchangeState.TheVariants.{Queued, Sent, Acked, Done}
+use Rattle.coap_pending.specs.Exchanges.{answer_in_state, answer_at, is_missing, is_joinable}
+use Rattle.coap_pending.specs.Table.{Numbered, first_that}
 use Rattle.coap_model.specs.Setting.{Setting}
 use Rattle.coap_model.specs.Verdicts.{may_ask}
 use Rattle.coap_model.specs.State.{State}

@@ -5,20 +5,19 @@ use Rattle.std.specs.List.{AllByRecursion}
 use Rattle.std.proofs.lemmas.List.{length-map}
 use Rattle.std.proofs.lemmas.Option.{same_Some}
 use Rattle.coap_endpoint.specs.declared.target.Target.{Target}
-use Rattle.coap_exchange.specs.Table.{Numbered, IsRising}
+use Rattle.coap_pending.specs.Table.{Numbered, IsRising, item_at, changed, changed_at, count}
 use Rattle.coap_forward.specs.Changes.{changed_by, concerns}
 use Rattle.coap_model.specs.Answers.{tainted_all}
 use Rattle.coap_model.specs.Changed.{key_asked}
 use Rattle.coap_endpoint.specs.declared.endpoint.Endpoint.{Endpoint}
 use Rattle.coap_endpoint.proofs.Lists.{All-weaken}
 use Rattle.coap_store.specs.Entries as cache
-use Rattle.coap_exchange.specs.declared.exchange.Exchange.{Exchange}
-use Rattle.coap_exchange.specs.declared.ids.Ids.{Ids as Given}
-use Rattle.coap_exchange.specs.Exchanges.{is_queued, is_sent_to}
-use Rattle.coap_exchange.specs.Ids.{given_in}
-use Rattle.coap_exchange.specs.Table.{item_at, changed, changed_at, count}
-use Rattle.coap_exchange.specs.Waiters.{is_waiting, waits_for}
-use Rattle.coap_exchange.proofs.Changes.{length-changed_at, IsRising-changed_at}
+use Rattle.coap_pending.specs.declared.exchange.Exchange.{Exchange}
+use Rattle.coap_pending.specs.declared.ids.Ids.{Ids as Given}
+use Rattle.coap_pending.specs.Exchanges.{is_queued, is_sent_to}
+use Rattle.coap_pending.specs.Ids.{given_in}
+use Rattle.coap_pending.specs.Waiters.{is_waiting, waits_for}
+use Rattle.coap_pending.proofs.Changes.{length-changed_at, IsRising-changed_at}
 use Rattle.coap_model.specs.Cached.{IsStoreOf}
 use Rattle.coap_message.specs.declared.kind.Kind.TheVariants.{Con, Non}
 use Rattle.coap_dedup.specs.Records.{Records}

@@ -15,16 +15,16 @@ use Rattle.coap_store.specs.Lists.{of_key}
 use Rattle.coap_store.specs.Renewing.{tag_of}
 use Rattle.coap_store.specs.Showing.{is_content}
 use Rattle.coap_endpoint.proofs.Lists.{All-append, All-weaken}
-use Rattle.coap_exchange.specs.declared.exchange.Exchange.{Exchange}
-use Rattle.coap_exchange.specs.declared.waiter.Waiter.{Waiter}
-use Rattle.coap_exchange.specs.declared.waiter.WaiterState.{WaiterState}
-use Rattle.coap_exchange.specs.declared.waiter.WaiterState.TheVariants.{Waiting, Delivering}
-use Rattle.coap_exchange.specs.Exchanges.{is_queued, is_sent_to, is_joinable}
-use Rattle.coap_exchange.specs.Ids.{given_in}
-use Rattle.coap_exchange.specs.Table.{Numbered, IsRising, count, first_that}
-use Rattle.coap_exchange.specs.Waiters.{is_waiting, waits_for}
-use Rattle.coap_exchange.proofs.Counts.{one_if, count-push}
-use Rattle.coap_exchange.proofs.Tables.{IsRising-push}
+use Rattle.coap_pending.specs.declared.exchange.Exchange.{Exchange}
+use Rattle.coap_pending.specs.declared.waiter.Waiter.{Waiter}
+use Rattle.coap_pending.specs.declared.waiter.WaiterState.{WaiterState}
+use Rattle.coap_pending.specs.declared.waiter.WaiterState.TheVariants.{Waiting, Delivering}
+use Rattle.coap_pending.specs.Exchanges.{is_queued, is_sent_to, is_joinable}
+use Rattle.coap_pending.specs.Ids.{given_in}
+use Rattle.coap_pending.specs.Table.{Numbered, IsRising, count, first_that}
+use Rattle.coap_pending.specs.Waiters.{is_waiting, waits_for}
+use Rattle.coap_pending.proofs.Counts.{one_if, count-push}
+use Rattle.coap_pending.proofs.Tables.{IsRising-push}
 use Rattle.coap_forward.specs.Messages.{is_get}
 use Rattle.coap_forward.specs.Forms.{forwarded, form_fits, tag_if_fits, tag_to_send, tag_for}
 use Rattle.coap_forward.proofs.Tokens.{length-token_of}

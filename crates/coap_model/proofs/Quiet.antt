@@ -4,8 +4,8 @@ use Rattle.coap_message.specs.declared.kind.Kind.{Kind}
 use Rattle.coap_message.specs.declared.kind.Kind.TheVariants.{Con, Non}
 use Rattle.coap_store.specs.Entries as cache
 use Rattle.coap_dedup.specs.Records.{Records}
-use Rattle.coap_exchange.specs.declared.ids.Ids.{Ids as Given}
-use Rattle.coap_exchange.specs.Ids.{given_in}
+use Rattle.coap_pending.specs.declared.ids.Ids.{Ids as Given}
+use Rattle.coap_pending.specs.Ids.{given_in}
 use Rattle.coap_model.specs.Cached.{leaves, IsStoreOf}
 use Rattle.coap_model.specs.State.{State, reserved, later}
 use Rattle.coap_model.specs.History.{no_item, moves, serves, Deed, opens_one, admits_one, takes, gives_id, last_of}

@@ -8,8 +8,8 @@ use Rattle.coap_option.specs.Selection.{tags_of}
 use Rattle.coap_store.specs.declared.key.CacheKey.{CacheKey}
 use Rattle.coap_store.specs.Entries.{Entry, entry_key, entry_size}
 use Rattle.coap_store.specs.Lists.{of_key, others, put}
-use Rattle.coap_exchange.specs.declared.exchange.Exchange.{Exchange}
-use Rattle.coap_exchange.specs.Table.{Numbered}
+use Rattle.coap_pending.specs.declared.exchange.Exchange.{Exchange}
+use Rattle.coap_pending.specs.Table.{Numbered}
 use Rattle.coap_forward.specs.Answers.{answer_of, is_storable}
 use Rattle.coap_forward.specs.Changes.{changed_by, concerns}
 use Rattle.coap_forward.specs.Messages.{is_get, token_of}
@@ -18,7 +18,8 @@ use Rattle.coap_model.specs.declared.report.Storing.{Storing}
 use Rattle.coap_model.specs.declared.report.Storing.TheVariants.{Kept, TooLarge, NoMemory, NotStored}
 use Rattle.coap_model.specs.Keys.{key_sent}
 use Rattle.coap_model.specs.State.{State}
-use Rattle.coap_model.specs.Answers.{marked_all, asked_of, entry_made, may_store, answer_for}
+use Rattle.coap_model.specs.Answers.{marked_all, entry_made, may_store, answer_for}
+use Rattle.coap_pending.specs.Exchanges.{asked_of}
 use Rattle.coap_model.specs.History.{Deed, Place, moves, takes, Brings, Matches, Gets}
 use Rattle.coap_model.specs.Changed.{key_asked, Unchanged, IsTold}
 use Rattle.coap_model.specs.Cached.{entry_of_cached, copied, answer_got, entry_got, leaves, WasCacheAt, IsStored, IsStoreOf}

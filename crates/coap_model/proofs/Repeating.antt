@@ -5,18 +5,18 @@ use Rattle.std.proofs.Math.Nat.{mul_assoc, pow-suc}
 use Rattle.coap_endpoint.specs.declared.endpoint.Endpoint.{Endpoint}
 use Rattle.coap_endpoint.proofs.Lists.{All-weaken}
 use Rattle.coap_store.specs.declared.answer.Answer.{Answer}
-use Rattle.coap_exchange.specs.declared.exchange.Exchange.{Exchange}
-use Rattle.coap_exchange.specs.declared.exchange.ExchangeState.{ExchangeState}
-use Rattle.coap_exchange.specs.declared.exchange.ExchangeState.TheVariants.{Queued, Sent, Acked, Done}
-use Rattle.coap_exchange.specs.declared.exchange.Sending.{Sending}
-use Rattle.coap_exchange.specs.declared.timer.Timer.{Timer}
-use Rattle.coap_exchange.specs.declared.timer.Fire.TheVariants.{Again, GiveUp}
-use Rattle.coap_exchange.specs.Exchanges.{is_queued, is_sent_to, is_blocked, deadline, due_in, answered, fired_sending, fired_option, fired_exchange, fire_of_sending}
-use Rattle.coap_exchange.specs.Ids.{given_in}
-use Rattle.coap_exchange.specs.Table.{Numbered, IsRising, item_at, changed_at, count, passes}
-use Rattle.coap_exchange.specs.Timers.{goes_on, fire_of, fired}
-use Rattle.coap_exchange.specs.Waiters.{is_waiting}
-use Rattle.coap_exchange.proofs.Counts.{one_if, count-moved, count-kept}
+use Rattle.coap_pending.specs.declared.exchange.Exchange.{Exchange}
+use Rattle.coap_pending.specs.declared.exchange.ExchangeState.{ExchangeState}
+use Rattle.coap_pending.specs.declared.exchange.ExchangeState.TheVariants.{Queued, Sent, Acked, Done}
+use Rattle.coap_pending.specs.declared.exchange.Sending.{Sending}
+use Rattle.coap_pending.specs.declared.timer.Timer.{Timer}
+use Rattle.coap_pending.specs.declared.timer.Fire.TheVariants.{Again, GiveUp}
+use Rattle.coap_pending.specs.Exchanges.{is_queued, is_sent_to, is_blocked, deadline, due_in, answered, fired_sending, fired_option, fired_exchange, fire_of_sending}
+use Rattle.coap_pending.specs.Ids.{given_in}
+use Rattle.coap_pending.specs.Table.{Numbered, IsRising, item_at, changed_at, count, passes}
+use Rattle.coap_pending.specs.Timers.{goes_on, fire_of, fired}
+use Rattle.coap_pending.specs.Waiters.{is_waiting}
+use Rattle.coap_pending.proofs.Counts.{one_if, count-moved, count-kept}
 use Rattle.coap_message.specs.Spelling.{spelling}
 use Rattle.coap_forward.specs.Forms.{forwarded, tag_for}
 use Rattle.coap_model.specs.Cached.{kept_for}

@@ -19,8 +19,8 @@ use Rattle.coap_dedup.specs.Lists.{record_of}
 use Rattle.coap_store.specs.declared.key.CacheKey.{CacheKey}
 use Rattle.coap_model.specs.Events.{arrival}
 use Rattle.coap_message.specs.Codes.{is_request, is_response}
-use Rattle.coap_exchange.specs.declared.exchange.Exchange.{Exchange}
-use Rattle.coap_exchange.specs.Table.{Numbered}
+use Rattle.coap_pending.specs.declared.exchange.Exchange.{Exchange}
+use Rattle.coap_pending.specs.Table.{Numbered}
 use Rattle.coap_model.specs.Responses.{awaiting}
 use Rattle.coap_forward.specs.Messages.{is_con, brings_requests, reset, own_reply, busy_reply, at_once, reply_id}
 use Rattle.coap_model.specs.Remembered.{remembered_at}
@@ -29,8 +29,8 @@ use Rattle.coap_model.specs.State.{State, next_id, known_of, has_record_room, re
 use Rattle.coap_model.specs.Requests.{lacks_id, refuses, overloads}
 use Rattle.coap_model.specs.Step.{message_in}
 use Rattle.coap_model.specs.History.{Entry, no_item, Deed, comes_con, gives_id, ids_in, IsRequestOf}
-use Rattle.coap_exchange.specs.declared.ids.Ids.{Ids as Given}
-use Rattle.coap_exchange.specs.Ids.{given_in, called}
+use Rattle.coap_pending.specs.declared.ids.Ids.{Ids as Given}
+use Rattle.coap_pending.specs.Ids.{given_in, called}
 use Rattle.coap_model.specs.Justified.{Comes, IsNew, HasIdFor, SaysAgain, IsAwaited, Acknowledges, Closes, Closes, IsUnprocessable}
 use Rattle.coap_model.specs.Runs.{entry_of}
 use Rattle.coap_model.specs.Carries.{Ids, Bears}

@@ -5,10 +5,10 @@ use Rattle.std.proofs.lemmas.Bool.{leb-true, leb-false, and_parts}
 use Rattle.std.proofs.lemmas.List.{length-map}
 use Rattle.coap_endpoint.specs.declared.endpoint.Endpoint.{Endpoint}
 use Rattle.coap_endpoint.specs.Endpoint.{same_endpoint}
-use Rattle.coap_exchange.specs.Exchanges as exchanges
-use Rattle.coap_exchange.specs.Waiters.{is_of, is_waiting}
-use Rattle.coap_exchange.specs.Ids.{given_in}
-use Rattle.coap_exchange.specs.Table.{count}
+use Rattle.coap_pending.specs.Exchanges as exchanges
+use Rattle.coap_pending.specs.Waiters.{is_of, is_waiting}
+use Rattle.coap_pending.specs.Ids.{given_in}
+use Rattle.coap_pending.specs.Table.{count}
 use Rattle.coap_model.specs.State.{State, exchanges_of, reserved, has_ids, has_exchange_room, has_waiter_room, has_room_to_join, has_room_to_open, waiters_of}
 use Rattle.coap_model.specs.History.{Deed}
 use Rattle.coap_model.specs.Standing as service

@@ -26,11 +26,11 @@ use Rattle.coap_forward.specs.Changes.{changed_by}
 use Rattle.coap_forward.specs.Forms.{form_fits}
 use Rattle.coap_store.specs.declared.stored.Stored.{Stored}
 use Rattle.coap_store.specs.declared.answer.Answer.{Answer}
-use Rattle.coap_exchange.specs.declared.exchange.Exchange.{Exchange}
-use Rattle.coap_exchange.specs.declared.waiter.Waiter.{Waiter}
-use Rattle.coap_exchange.specs.Table.{Numbered, changed_at, first_that, item_at, without}
-use Rattle.coap_exchange.specs.Timers.{started, fire_of}
-use Rattle.coap_exchange.specs.Waiters as waiters
+use Rattle.coap_pending.specs.declared.exchange.Exchange.{Exchange}
+use Rattle.coap_pending.specs.declared.waiter.Waiter.{Waiter}
+use Rattle.coap_pending.specs.Table.{Numbered, changed_at, first_that, item_at, without}
+use Rattle.coap_pending.specs.Timers.{started, fire_of}
+use Rattle.coap_pending.specs.Waiters as waiters
 use Rattle.coap_model.specs.Events.{Event, arrival, tick, IsEvent}
 use Rattle.coap_message.specs.Codes.{is_request, is_response}
 use Rattle.coap_forward.specs.Messages.{is_con, is_get, brings_requests, brings_responses, is_ack, is_rst, is_bare, is_empty, is_recorded, acknowledgement}
@@ -42,15 +42,15 @@ use Rattle.coap_model.specs.Answers.{Arrived, with_changed, may_store, answer_fo
 use Rattle.coap_model.specs.Responses.{awaiting, on_awaited, on_separate, on_unknown, on_response_in, on_response}
 use Rattle.coap_model.specs.Empties.{acknowledges, closes, on_told, on_client, settles, on_sent, on_empty}
 use Rattle.coap_model.specs.Empties as empties
-use Rattle.coap_exchange.specs.declared.exchange.ExchangeState.{ExchangeState}
-use Rattle.coap_exchange.specs.declared.exchange.ExchangeState.TheVariants.{Queued, Sent, Acked, Done}
-use Rattle.coap_exchange.specs.declared.timer.Timer.{Timer}
-use Rattle.coap_exchange.specs.declared.timer.Fire.{Fire}
-use Rattle.coap_exchange.specs.declared.timer.Fire.TheVariants.{Again, GiveUp}
-use Rattle.coap_exchange.specs.declared.waiter.WaiterState.{WaiterState}
-use Rattle.coap_exchange.specs.declared.waiter.WaiterState.TheVariants.{Waiting, Delivering}
-use Rattle.coap_exchange.specs.Exchanges as exchanges
-use Rattle.coap_exchange.specs.Exchanges.{deadline, answer_at, answer_in, fire_of_sending, is_sent, is_joinable, was_sent_as}
+use Rattle.coap_pending.specs.declared.exchange.ExchangeState.{ExchangeState}
+use Rattle.coap_pending.specs.declared.exchange.ExchangeState.TheVariants.{Queued, Sent, Acked, Done}
+use Rattle.coap_pending.specs.declared.timer.Timer.{Timer}
+use Rattle.coap_pending.specs.declared.timer.Fire.{Fire}
+use Rattle.coap_pending.specs.declared.timer.Fire.TheVariants.{Again, GiveUp}
+use Rattle.coap_pending.specs.declared.waiter.WaiterState.{WaiterState}
+use Rattle.coap_pending.specs.declared.waiter.WaiterState.TheVariants.{Waiting, Delivering}
+use Rattle.coap_pending.specs.Exchanges as exchanges
+use Rattle.coap_pending.specs.Exchanges.{deadline, answer_at, answer_in, fire_of_sending, is_sent, is_joinable, was_sent_as}
 use Rattle.coap_model.specs.declared.due.DueItem.{DueItem}
 use Rattle.coap_model.specs.declared.due.DueItem.TheVariants.{OfExchange, OfWaiter}
 use Rattle.coap_model.specs.Ticks.{item_due, if_due, sends, resends, gives_up, on_request_timeout, in_time, on_exchange, given_to, tells, redelivers, abandons, on_delivery_timeout, on_answer, on_awaited as on_exchange_of, on_waiting, on_waiter, idles, on_item}

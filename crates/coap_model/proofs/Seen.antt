@@ -6,16 +6,16 @@ use Rattle.std.proofs.lemmas.Bool.{eqb-true, eqb-false, eq-eqb, ne_eqb}
 use Rattle.std.proofs.lemmas.Option.{same_Some}
 use Rattle.coap_endpoint.specs.declared.endpoint.Endpoint.{Endpoint}
 use Rattle.coap_endpoint.specs.Endpoint.{same_endpoint}
-use Rattle.coap_exchange.specs.declared.exchange.Exchange.{Exchange}
-use Rattle.coap_exchange.specs.declared.exchange.ExchangeState.{ExchangeState}
-use Rattle.coap_exchange.specs.declared.exchange.ExchangeState.TheVariants.{Queued, Sent, Acked, Done}
-use Rattle.coap_exchange.specs.declared.timer.Timer.{Timer}
-use Rattle.coap_exchange.specs.declared.waiter.Waiter.{Waiter}
-use Rattle.coap_exchange.specs.declared.waiter.WaiterState.{WaiterState}
-use Rattle.coap_exchange.specs.declared.waiter.WaiterState.TheVariants.{Waiting, Delivering}
-use Rattle.coap_exchange.specs.Exchanges as exchanges
-use Rattle.coap_exchange.specs.Waiters as waiters
-use Rattle.coap_exchange.specs.Table.{Numbered, item_at, changed_at, without, count}
+use Rattle.coap_pending.specs.declared.exchange.Exchange.{Exchange}
+use Rattle.coap_pending.specs.declared.exchange.ExchangeState.{ExchangeState}
+use Rattle.coap_pending.specs.declared.exchange.ExchangeState.TheVariants.{Queued, Sent, Acked, Done}
+use Rattle.coap_pending.specs.declared.timer.Timer.{Timer}
+use Rattle.coap_pending.specs.declared.waiter.Waiter.{Waiter}
+use Rattle.coap_pending.specs.declared.waiter.WaiterState.{WaiterState}
+use Rattle.coap_pending.specs.declared.waiter.WaiterState.TheVariants.{Waiting, Delivering}
+use Rattle.coap_pending.specs.Exchanges as exchanges
+use Rattle.coap_pending.specs.Waiters as waiters
+use Rattle.coap_pending.specs.Table.{Numbered, item_at, changed_at, without, count}
 use Rattle.coap_model.specs.Standing.{Standing, Stage, Open, told, is_queued, is_sent_to, staged, others_than, as_told, is_waiting, waits_for, one_if, count_if}
 use Rattle.coap_model.specs.Carries.{HasNumber, stage_at, stage_seen, service_in, standing_seen}
 

@@ -13,13 +13,13 @@ use Rattle.coap_endpoint.proofs.Equality.{Tells-endpoint}
 use Rattle.coap_endpoint.proofs.Lists.{none-found}
 use Rattle.coap_forward.specs.Messages.{token_of}
 use Rattle.coap_store.specs.declared.key.CacheKey.{CacheKey}
-use Rattle.coap_exchange.specs.declared.exchange.Exchange.{Exchange}
-use Rattle.coap_exchange.specs.declared.exchange.ExchangeState.{ExchangeState}
-use Rattle.coap_exchange.specs.declared.exchange.ExchangeState.TheVariants.{Queued, Sent, Acked, Done}
-use Rattle.coap_exchange.specs.declared.exchange.Sending.{Sending}
-use Rattle.coap_exchange.specs.declared.timer.Timer.{Timer}
-use Rattle.coap_exchange.specs.Exchanges.{is_as, is_some_as, was_sent_as}
-use Rattle.coap_exchange.specs.Table.{Numbered, first_that}
+use Rattle.coap_pending.specs.declared.exchange.Exchange.{Exchange}
+use Rattle.coap_pending.specs.declared.exchange.ExchangeState.{ExchangeState}
+use Rattle.coap_pending.specs.declared.exchange.ExchangeState.TheVariants.{Queued, Sent, Acked, Done}
+use Rattle.coap_pending.specs.declared.exchange.Sending.{Sending}
+use Rattle.coap_pending.specs.declared.timer.Timer.{Timer}
+use Rattle.coap_pending.specs.Exchanges.{is_as, is_some_as, was_sent_as}
+use Rattle.coap_pending.specs.Table.{Numbered, first_that}
 use Rattle.coap_model.specs.declared.report.Outcome.{Outcome}
 use Rattle.coap_model.specs.declared.report.Outcome.TheVariants.{SentRequest, Resent, Delivered}
 use Rattle.coap_model.specs.Setting.{Setting}

@@ -4,13 +4,13 @@ use Rattle.std.specs.Prelude.{not}
 use Rattle.std.specs.List.{AllByRecursion}
 use Rattle.std.proofs.lemmas.Bool.{eqb-true, eqb-false, eq-eqb, ne_eqb}
 use Rattle.std.proofs.lemmas.Option.{same_Some}
-use Rattle.coap_exchange.specs.Table.{Numbered, item_at, changed, changed_at, without, IsRising, count}
-use Rattle.coap_exchange.proofs.Counts.{one_if}
-use Rattle.coap_exchange.proofs.Tables.{none-below}
+use Rattle.coap_pending.specs.Table.{Numbered, item_at, changed, changed_at, without, IsRising, count}
+use Rattle.coap_pending.proofs.Counts.{one_if}
+use Rattle.coap_pending.proofs.Tables.{none-below}
 use Rattle.coap_model.proofs.Lists.{Has, Has-holds}
-use Rattle.coap_exchange.specs.declared.exchange.Exchange.{Exchange}
-use Rattle.coap_exchange.specs.declared.waiter.WaiterState.{WaiterState}
-use Rattle.coap_exchange.specs.declared.waiter.WaiterState.TheVariants.{Waiting, Delivering}
+use Rattle.coap_pending.specs.declared.exchange.Exchange.{Exchange}
+use Rattle.coap_pending.specs.declared.waiter.WaiterState.{WaiterState}
+use Rattle.coap_pending.specs.declared.waiter.WaiterState.TheVariants.{Waiting, Delivering}
 use Rattle.coap_model.specs.Carries.{HasNumber, HasExchange}
 
 -- ---- what is found

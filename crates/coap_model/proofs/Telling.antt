@@ -8,8 +8,8 @@ use Rattle.coap_message.specs.Reading.{head_at}
 use Rattle.coap_endpoint.specs.declared.endpoint.Endpoint.{Endpoint}
 use Rattle.coap_store.specs.Entries.{Entry, entry_key, entry_size}
 use Rattle.coap_store.specs.Lists.{of_key, others}
-use Rattle.coap_exchange.specs.declared.exchange.Exchange.{Exchange}
-use Rattle.coap_exchange.specs.Table.{Numbered, first_that, item_at}
+use Rattle.coap_pending.specs.declared.exchange.Exchange.{Exchange}
+use Rattle.coap_pending.specs.Table.{Numbered, first_that, item_at}
 use Rattle.coap_model.specs.declared.report.Outcome.{Outcome}
 use Rattle.coap_model.specs.declared.report.Outcome.TheVariants.{Answered}
 use Rattle.coap_model.specs.declared.report.Storing.{Storing}
@@ -20,7 +20,7 @@ use Rattle.coap_model.specs.History.{grown_of}
 use Rattle.coap_message.specs.declared.kind.Kind.{Kind}
 use Rattle.coap_message.specs.declared.kind.Kind.TheVariants.{Con, Non, Ack, Rst}
 use Rattle.coap_dedup.specs.declared.record.Record.{Record}
-use Rattle.coap_exchange.specs.Exchanges.{is_sent, was_sent_as}
+use Rattle.coap_pending.specs.Exchanges.{is_sent, was_sent_as}
 use Rattle.coap_forward.specs.Messages.{brings_requests, brings_responses, is_con, is_ack, is_bare, acknowledgement}
 use Rattle.coap_model.specs.Answers.{Arrived, with_changed, entry_made, answers_so, keeps_if, may_store, answer_for, answers}
 use Rattle.coap_model.specs.Empties.{on_client, acknowledges, settles, on_exchange, on_sent, on_empty}

@@ -7,10 +7,9 @@ use Rattle.coap_endpoint.specs.declared.target.Target.{Target}
 use Rattle.coap_store.specs.Entries.{Entry, entry_key, entry_size, marked}
 use Rattle.coap_store.specs.Lists.{of_key, others, put}
 use Rattle.coap_store.specs.declared.answer.Answer.{Answer}
-use Rattle.coap_exchange.specs.declared.exchange.Exchange.{Exchange}
-use Rattle.coap_exchange.specs.declared.exchange.Sending.{Sending}
-use Rattle.coap_exchange.specs.Exchanges.{answered, tainted_by}
-use Rattle.coap_exchange.specs.Table.{Numbered, all_changed, changed_at}
+use Rattle.coap_pending.specs.declared.exchange.Exchange.{Exchange}
+use Rattle.coap_pending.specs.Exchanges.{answered, tainted_by, asked_of}
+use Rattle.coap_pending.specs.Table.{Numbered, all_changed, changed_at}
 use Rattle.coap_model.specs.declared.report.Outcome.TheVariants.{Answered}
 use Rattle.coap_model.specs.declared.report.Storing.{Storing}
 use Rattle.coap_model.specs.declared.report.Storing.TheVariants.{Kept, TooLarge, NoMemory, NotStored}
@@ -46,11 +45,6 @@ pub record Arrived : Type 0 where
   pub message : Message
   pub exchange : Numbered Exchange
   pub answer : Answer
-
--- the number of the event in which the request of an exchange was sent; 0 before that
-abbrev pub asked_of : Option Sending → ℕ
-asked_of None = 0
-asked_of (Some s) = s.asked
 
 -- the entry that is stored for the answer of an exchange
 abbrev pub entry_made : State → ℕ → Exchange → Answer → Entry

@@ -3,10 +3,10 @@
 use Rattle.std.specs.Prelude.{ℕ, Bool, if◌then◌else◌, Option, Some, None}
 use Rattle.coap_message.specs.Message.{Message}
 use Rattle.coap_endpoint.specs.declared.endpoint.Endpoint.{Endpoint}
-use Rattle.coap_exchange.specs.declared.exchange.Exchange.{Exchange}
-use Rattle.coap_exchange.specs.Exchanges.{acked, is_sent, was_sent_as}
-use Rattle.coap_exchange.specs.Table.{changed_at, first_that, item_at, without}
-use Rattle.coap_exchange.specs.Waiters as waiters
+use Rattle.coap_pending.specs.declared.exchange.Exchange.{Exchange}
+use Rattle.coap_pending.specs.Exchanges.{acked, is_sent, was_sent_as}
+use Rattle.coap_pending.specs.Table.{changed_at, first_that, item_at, without}
+use Rattle.coap_pending.specs.Waiters as waiters
 use Rattle.coap_model.specs.declared.report.Outcome.TheVariants.{Acked}
 use Rattle.coap_forward.specs.Messages.{is_ack}
 use Rattle.coap_model.specs.State.{State, Step, later, silent, ignores}

@@ -13,13 +13,13 @@ use Rattle.coap_store.specs.Entries.{entry_size}
 use Rattle.coap_store.specs.Lists.{total}
 use Rattle.coap_store.specs.Sizes.{key_size, options_size}
 use Rattle.coap_dedup.specs.Lists.{bytes_of}
-use Rattle.coap_exchange.specs.declared.exchange.ExchangeState.{ExchangeState}
-use Rattle.coap_exchange.specs.declared.exchange.ExchangeState.TheVariants.{Queued, Sent, Acked, Done}
-use Rattle.coap_exchange.specs.declared.exchange.Exchange.{Exchange}
-use Rattle.coap_exchange.specs.declared.waiter.Waiter.{Waiter}
-use Rattle.coap_exchange.specs.declared.waiter.WaiterState.{WaiterState}
-use Rattle.coap_exchange.specs.declared.waiter.WaiterState.TheVariants.{Waiting, Delivering}
-use Rattle.coap_exchange.specs.Table.{Numbered}
+use Rattle.coap_pending.specs.declared.exchange.ExchangeState.{ExchangeState}
+use Rattle.coap_pending.specs.declared.exchange.ExchangeState.TheVariants.{Queued, Sent, Acked, Done}
+use Rattle.coap_pending.specs.declared.exchange.Exchange.{Exchange}
+use Rattle.coap_pending.specs.declared.waiter.Waiter.{Waiter}
+use Rattle.coap_pending.specs.declared.waiter.WaiterState.{WaiterState}
+use Rattle.coap_pending.specs.declared.waiter.WaiterState.TheVariants.{Waiting, Delivering}
+use Rattle.coap_pending.specs.Table.{Numbered}
 use Rattle.coap_limits.specs.Limits.{Limits}
 use Rattle.coap_model.specs.State.{State}
 

@@ -10,13 +10,13 @@ use Rattle.coap_dedup.specs.Lists.{record_of}
 use Rattle.coap_dedup.specs.Records.{Records, living_at, living_of, no_records, with_kept}
 use Rattle.coap_store.specs.Entries.{Entry, entry_size}
 use Rattle.coap_store.specs.Lists.{total}
-use Rattle.coap_exchange.specs.declared.exchange.Exchange.{Exchange}
-use Rattle.coap_exchange.specs.declared.waiter.Waiter.{Waiter}
-use Rattle.coap_exchange.specs.declared.ids.Ids.{Ids}
-use Rattle.coap_exchange.specs.Exchanges.{is_opened_by, is_queued}
-use Rattle.coap_exchange.specs.Waiters.{is_of, is_waiting}
-use Rattle.coap_exchange.specs.Ids.{new_ids, given_in}
-use Rattle.coap_exchange.specs.Table.{Numbered, count}
+use Rattle.coap_pending.specs.declared.exchange.Exchange.{Exchange}
+use Rattle.coap_pending.specs.declared.waiter.Waiter.{Waiter}
+use Rattle.coap_pending.specs.declared.ids.Ids.{Ids}
+use Rattle.coap_pending.specs.Exchanges.{is_opened_by, is_queued}
+use Rattle.coap_pending.specs.Waiters.{is_of, is_waiting}
+use Rattle.coap_pending.specs.Ids.{new_ids, given_in}
+use Rattle.coap_pending.specs.Table.{Numbered, count}
 use Rattle.coap_model.specs.declared.report.Outcome.{Outcome}
 use Rattle.coap_model.specs.declared.report.Outcome.TheVariants.{Ignored, Rejected, Again, NoRecordRoom}
 use Rattle.coap_model.specs.declared.report.Report.{Report}

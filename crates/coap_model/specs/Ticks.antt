@@ -1,20 +1,20 @@
 -- The step of a tick: what is due is done, one thing at a time (RFC 7252, 4.2 and 4.7).
 use Rattle.std.specs.Prelude.{ℕ, ◌==◌, Bool, nat_le, if◌then◌else◌, List, Option, Some, None, option_map}
 use Rattle.coap_store.specs.declared.answer.Answer.{Answer}
-use Rattle.coap_exchange.specs.declared.exchange.ExchangeState.{ExchangeState}
-use Rattle.coap_exchange.specs.declared.exchange.ExchangeState.TheVariants.{Queued, Sent, Acked, Done}
-use Rattle.coap_exchange.specs.declared.exchange.Exchange.{Exchange}
-use Rattle.coap_exchange.specs.declared.timer.Fire.{Fire}
-use Rattle.coap_exchange.specs.declared.timer.Fire.TheVariants.{Again, GiveUp}
-use Rattle.coap_exchange.specs.declared.waiter.Waiter.{Waiter}
-use Rattle.coap_exchange.specs.declared.waiter.WaiterState.{WaiterState}
-use Rattle.coap_exchange.specs.declared.waiter.WaiterState.TheVariants.{Waiting, Delivering}
-use Rattle.coap_exchange.specs.Due.{first_due}
-use Rattle.coap_exchange.specs.Exchanges.{deadline, due_among, answer_at, sent, fired_exchange, answered, fire_of_sending}
-use Rattle.coap_exchange.specs.Ids.{called}
-use Rattle.coap_exchange.specs.Table.{Numbered, item_at, changed_at, without, count}
-use Rattle.coap_exchange.specs.Timers.{started, fire_of}
-use Rattle.coap_exchange.specs.Waiters.{waits_for, delivered, fired_waiter, due_after}
+use Rattle.coap_pending.specs.declared.exchange.ExchangeState.{ExchangeState}
+use Rattle.coap_pending.specs.declared.exchange.ExchangeState.TheVariants.{Queued, Sent, Acked, Done}
+use Rattle.coap_pending.specs.declared.exchange.Exchange.{Exchange}
+use Rattle.coap_pending.specs.declared.timer.Fire.{Fire}
+use Rattle.coap_pending.specs.declared.timer.Fire.TheVariants.{Again, GiveUp}
+use Rattle.coap_pending.specs.declared.waiter.Waiter.{Waiter}
+use Rattle.coap_pending.specs.declared.waiter.WaiterState.{WaiterState}
+use Rattle.coap_pending.specs.declared.waiter.WaiterState.TheVariants.{Waiting, Delivering}
+use Rattle.coap_pending.specs.Due.{first_due}
+use Rattle.coap_pending.specs.Exchanges.{deadline, due_among, answer_at, sent, fired_exchange, answered, fire_of_sending}
+use Rattle.coap_pending.specs.Ids.{called}
+use Rattle.coap_pending.specs.Table.{Numbered, item_at, changed_at, without, count}
+use Rattle.coap_pending.specs.Timers.{started, fire_of}
+use Rattle.coap_pending.specs.Waiters.{waits_for, delivered, fired_waiter, due_after}
 use Rattle.coap_message.specs.Message.{Message}
 use Rattle.coap_message.specs.Spelling.{spelling, with_id}
 use Rattle.coap_model.specs.declared.due.DueItem.{DueItem}

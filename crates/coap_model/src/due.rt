@@ -1,7 +1,7 @@
 //! What is due.
 
-use coap_exchange::{ExchangeNumber, WaiterNumber};
 use coap_message::Moment;
+use coap_pending::{ExchangeNumber, WaiterNumber};
 
 /// Something that is due from the moment `at` on, in milliseconds, with the number of its exchange
 /// or of its client.

@@ -9,7 +9,7 @@ ghost use Rattle.coap_uri.specs.Uri.{host_of, host_text};
 ghost use Rattle.coap_target.specs.Hosts as names;
 ghost use Rattle.coap_target.specs.Request as spec;
 ghost use Rattle.coap_target.specs.MappedTarget.{seen};
-ghost use Rattle.coap_target.specs.Routes.{AreRoutes, mapped, mapped_target, path_of, query_of};
+ghost use Rattle.coap_target.specs.Routes.{AreRoutes, map_of, mapped, mapped_target, path_of, query_of};
 ghost use Rattle.coap_target.specs.declared.error.TargetError.TheVariants as errors;
 
 use crate::error::TargetError;
@@ -250,6 +250,21 @@ fn is_coap(scheme: &[u8]) -> bool
 }
 
 impl Routes {
+    /// The map for the path of a request: among those whose prefix begins it, the one with the
+    /// longest prefix, and the earliest of several. Doesn't allocate.
+    pub fn map_for(&self, request: &MessageRef<'_>) -> Option<&Map>
+        ensures { option_copied result ≡ map_of self.now.maps (path_of request.now) }
+    {
+        map_of(self.maps.as_slice(), &path_of(request))
+    }
+
+    /// Whether requests for hosts that aren't the proxy itself are sent to another proxy.
+    pub fn has_next(&self) -> bool
+        ensures { result ≡ is_some self.now.next }
+    {
+        self.next.is_some()
+    }
+
     /// What a request to the proxy itself is mapped to, if one of the maps matches its path (RFC
     /// 7252, 5.7.3). Copies nothing and doesn't allocate.
     #[tactic(auto, unfolding(crate::specs::Routes::mapped_target))]

@@ -1,25 +1,25 @@
 -- What is known about a port over a socket.
-use Rattle.std.specs.Prelude.{◌≡◌, ◌≤◌, ◌+◌, ◌^◌, ◌==◌, ◌&&◌, ⊤, ℕ, List, [], Bool, true, false, Option, Result, Ok, Err}
+use Rattle.std.specs.Prelude.{◌≡◌, ◌≤◌, ◌+◌, ◌^◌, ◌==◌, ⊤, ℕ, List, [], Bool, true, false, Option, Result, Ok, Err}
 use Rattle.std.specs.IoError.{error_kind}
 use Rattle.std.specs.declared.io.Error.{Error}
 use Rattle.std.specs.declared.io.ErrorKind.{ErrorKind}
 use Rattle.std.specs.declared.net.socket_addr.SocketAddr.{SocketAddr}
-use Rattle.coap_model.specs.Events.{Event, arrival, tick}
+use Rattle.coap_model.specs.Events.{Event, tick}
 use Rattle.coap_model.specs.Runs.{Turn}
 use Rattle.coap_endpoint.specs.declared.endpoint.Endpoint.{Endpoint}
 use Rattle.coap_endpoint.specs.declared.endpoint.Ip.{Ip}
 use Rattle.coap_endpoint.specs.declared.endpoint.Ip.TheVariants.{V4, V6}
 use Rattle.coap_udp.specs.Systems.{IsEvent, IsFrom, IsTo, ReadsBy, SendsWhole, ends}
-use Rattle.coap_udp.specs.Values.{draw_of, moment_after, read_waits, rest_of, silent_after}
+use Rattle.coap_udp.specs.Values.{draw_of, moment_after, read_waits, rest_of}
 
 -- its socket, clock and generator, whether the calls of the socket wait, whether its socket is an
--- IPv6 socket, how many turns in a row were silent, its last moment in milliseconds, and how often
--- it failed
+-- IPv6 socket, whether anything was handed over since its last read, its last moment in
+-- milliseconds, and how often it failed
 pub record Udp (S : Type 0) : Type 0 where
   pub system : S
   pub waiting : Bool
   pub is_ipv6 : Bool
-  pub silent : ℕ
+  pub handed : Bool
   pub last : ℕ
   pub failures : ℕ
 
@@ -33,7 +33,7 @@ port_over system is_ipv6 = record {
   system = system;
   waiting = true;
   is_ipv6 = is_ipv6;
-  silent = 0;
+  handed = false;
   last = 0;
   failures = 0;
 }
@@ -50,10 +50,6 @@ IsRead (Ok d) (Err e) bytes = ⊥
 IsRead (Err k) (Ok from) bytes = ⊥
 IsRead (Err k) (Err e) bytes = (error_kind e ≡ k) × (bytes ≡ [])
 
-abbrev pub is_tick : Event → Bool
-is_tick (arrival from bytes) = false
-is_tick tick = true
-
 module _ {S : Type 0} (sets : S → Bool → Result ⊤ ErrorKind → S → Type 0)
     (receives : S → ℕ → Result (List ℕ × SocketAddr) ErrorKind → S → Type 0)
     (awaits : S → ℕ → Result Bool ErrorKind → S → Type 0) where
@@ -61,7 +57,7 @@ module _ {S : Type 0} (sets : S → Bool → Result ⊤ ErrorKind → S → Type
   -- reads, its system, and whether its socket waits from then on
   abbrev pub ReadsFor : ℕ → Udp S → ℕ → Result (List ℕ × SocketAddr) ErrorKind → S → Bool → Type 0
   ReadsFor room p wait r t now = ReadsBy sets receives awaits p.system p.waiting (read_waits wait)
-      room (rest_of wait p.silent) r t now
+      room (rest_of wait p.handed) r t now
 
   abbrev pub ReadsInto : ℕ → Udp S → ℕ → Result Endpoint Error → List ℕ → Udp S → Type 0
   ReadsInto room p wait result bytes q = (r : Result (List ℕ × SocketAddr) ErrorKind)
@@ -75,20 +71,17 @@ module _ {S : Type 0} (sets : S → Bool → Result ⊤ ErrorKind → S → Type
     pub left : q
         ≡ record p { system = q.system; waiting = q.waiting; failures = p.failures + 1 }
 
-  -- the state after a read: whether its socket waits, and how many turns were silent
-  abbrev pub after_read : Udp S → ℕ → Event → S → Bool → Udp S
-  after_read p wait event system waiting = record p {
-    system = system;
-    waiting = waiting;
-    silent = silent_after p.silent ((rest_of wait p.silent == 0) && is_tick event);
-  }
+  -- the state after a read: whether its socket waits; nothing was handed over since
+  abbrev pub after_read : Udp S → S → Bool → Udp S
+  after_read p system waiting =
+      record p { system = system; waiting = waiting; handed = false }
 
   -- a read for a buffer with this room led to this event
   pub record Arrives (room : ℕ) (p : Udp S) (wait : ℕ) (event : Event) (q : Udp S) : Type 0 where
     pub read : Result (List ℕ × SocketAddr) ErrorKind
     pub reads : ReadsFor room p wait read q.system q.waiting
     pub given : IsEvent read event
-    pub left : q ≡ after_read p wait event q.system q.waiting
+    pub left : q ≡ after_read p q.system q.waiting
 
 module _ {S : Type 0} (shows : S → Option ℕ → S → Type 0) (draws : S → ℕ → S → Type 0) where
   -- the moment is what the clock shows now, and the draw is drawn now
@@ -118,15 +111,14 @@ module _ {S : Type 0} (sets : S → Bool → Result ⊤ ErrorKind → S → Type
     pub left : q ≡ record p {
       system = q.system;
       waiting = q.waiting;
-      silent = q.silent;
+      handed = q.handed;
       last = t.now;
     }
 
--- what was handed to the socket: these bytes, for the address of the endpoint; the next turn isn't
--- one of several silent ones
+-- what was handed to the socket: these bytes, for the address of the endpoint
 abbrev pub Takes : {S : Type 0} → (S → Bool → Result ⊤ ErrorKind → S → Type 0)
     → (S → List ℕ → SocketAddr → Result ℕ ErrorKind → S → Type 0) → Udp S → Endpoint → List ℕ
     → Bool → Udp S → Type 0
 Takes sets sends p to bytes went q = (a : SocketAddr) × IsTo p.is_ipv6 to a
     × SendsWhole sets sends p.system p.waiting bytes a went q.system q.waiting
-    × (q ≡ record p { system = q.system; waiting = q.waiting; silent = 0 })
+    × (q ≡ record p { system = q.system; waiting = q.waiting; handed = true })

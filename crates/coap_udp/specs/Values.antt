@@ -1,5 +1,5 @@
 -- What the values mean that the system gives, and how long a port waits.
-use Rattle.std.specs.Prelude.{ℕ, ◌-◌, ◌+◌, ◌/◌, ◌%◌, ◌^◌, ◌||◌, min, max, nat_le, nat_lt, Bool, true, false, Option, Some, None, Result, Ok, Err, if◌then◌else◌}
+use Rattle.std.specs.Prelude.{ℕ, ◌-◌, ◌+◌, ◌/◌, ◌%◌, ◌^◌, ◌||◌, min, max, nat_le, nat_lt, Bool, not, Option, Some, None, Result, Ok, Err, if◌then◌else◌}
 use Rattle.std.specs.IoError.{error_kind}
 use Rattle.std.specs.Time.{instant_nanos}
 use Rattle.std.specs.declared.io.Error.{Error}
@@ -31,12 +31,8 @@ abbrev pub read_waits : ℕ → Bool
 read_waits wait = nat_le 8 wait
 
 -- For how long a port waits after a read that gave nothing. A read that waits takes at least four
--- milliseconds. With a wait of one there is no other, until this many turns in a row were silent.
-abbrev pub rest_of : ℕ → ℕ → ℕ
-rest_of wait silent =
-    if read_waits wait then wait - 4 else (if nat_lt 1 wait || nat_le 32 silent then wait else 0)
-
--- how many turns in a row were silent, after one that was, or that wasn't
-abbrev pub silent_after : ℕ → Bool → ℕ
-silent_after silent true = min (silent + 1) 18446744073709551615
-silent_after silent false = 0
+-- milliseconds. With a wait of one there is no other if anything was handed over since the turn
+-- before: then something more may be due already.
+abbrev pub rest_of : ℕ → Bool → ℕ
+rest_of wait handed =
+    if read_waits wait then wait - 4 else (if nat_lt 1 wait || not handed then wait else 0)

@@ -9,7 +9,7 @@ use crate::address::{address_of, endpoint_of};
 use crate::exchanging::{read_by, send_whole};
 use crate::host::Host;
 use crate::system::System;
-use crate::values::{draw_of, moment_after, read_waits, rest_of, silent_after, turn_of_read};
+use crate::values::{draw_of, moment_after, read_waits, rest_of, turn_of_read};
 use coap_endpoint::{Endpoint, Ip};
 use coap_message::{Datagram, Moment};
 use coap_port::{Port, PortFault, Turn};
@@ -29,16 +29,17 @@ use std::time::Clock;
 /// A datagram is read straight into the buffer that the port is handed, and the system cuts it to
 /// the room there. A read takes one system call while datagrams come, and so does a send. If
 /// nothing is there, the port waits for as long as it was asked to, which takes up to five more.
-/// With a wait of one millisecond it only looks, since something may be due already; after 32 turns
-/// in a row in which nothing came and nothing was handed over it waits. A send that finds no room
-/// to send waits for some, at most 50 ms, and is tried once more.
+/// With a wait of one millisecond it only looks if anything was handed over since its last read,
+/// since something more may be due already. A send that finds no room to send waits for some, at
+/// most 50 ms, and is tried once more.
 ///
 /// An IPv6 socket uses IPv4-mapped addresses, `::ffff:a.b.c.d`, for IPv4 endpoints.
 pub struct UdpPort<S> {
     system: S,
     waiting: bool,
     is_ipv6: bool,
-    silent: u64,
+    /// Whether anything was handed over since the last read.
+    handed: bool,
     last: Moment,
     failures: u64,
 }
@@ -49,7 +50,7 @@ impl<S: Drop> Drop for UdpPort<S> {
             system: _,
             waiting: _,
             is_ipv6: _,
-            silent: _,
+            handed: _,
             last: _,
             failures: _,
         } = self;
@@ -67,7 +68,7 @@ impl<S> Model for UdpPort<S> {
           system = p.system;
           waiting = p.waiting;
           is_ipv6 = p.is_ipv6;
-          silent = p.silent;
+          handed = p.handed;
           last = p.last;
           failures = p.failures;
         } };
@@ -118,7 +119,7 @@ impl<S: System + Drop> UdpPort<S> {
             system,
             waiting: true,
             is_ipv6,
-            silent: 0,
+            handed: false,
             last: 0,
             failures: 0,
         }
@@ -140,7 +141,7 @@ impl<S: System + Drop> UdpPort<S> {
             ≡ record self.old { system = self.new.system; waiting = self.new.waiting } }
         ensures room { into.new.room ≡ into.old.room }
     {
-        let rest = rest_of(wait, self.silent);
+        let rest = rest_of(wait, self.handed);
         let waits = read_waits(wait);
         let read = read_by(
             &mut self.system,
@@ -152,7 +153,7 @@ impl<S: System + Drop> UdpPort<S> {
         source_of(read, into)
     }
 
-    /// Reads a datagram, and notes how silent the turn is. Returns its source, or none for a tick.
+    /// Reads a datagram. Returns its source, or none for a tick.
     ///
     /// # Errors
     /// The socket can't be read any more. The failure is counted.
@@ -164,11 +165,10 @@ impl<S: System + Drop> UdpPort<S> {
             (EndsBy S.sets S.receives S.awaits into.old.room self.old wait self.new) }
         ensures room { into.new.room ≡ into.old.room }
     {
-        let looks = rest_of(wait, self.silent) == 0;
         let read = self.read(wait, into);
         match turn_of_read(read) {
             Ok(from) => {
-                self.silent = silent_after(self.silent, looks && from.is_none());
+                self.handed = false;
                 Ok(from)
             }
             Err(fault) => {
@@ -238,7 +238,7 @@ impl<S: System + Drop> Port for UdpPort<S> {
     }
 
     fn send(&mut self, to: Endpoint, bytes: &[u8]) -> bool {
-        self.silent = 0;
+        self.handed = true;
         let address = address_of(to, self.is_ipv6);
         send_whole(&mut self.system, &mut self.waiting, bytes, address)
     }

@@ -15,9 +15,6 @@ const WAITING_READ: u64 = 8;
 /// How long a read that waits takes at least, if nothing comes, in milliseconds.
 const FIRST_WAIT: u64 = 4;
 
-/// After how many silent turns in a row a wait of one millisecond is a wait.
-const SILENT_TURNS: u64 = 32;
-
 /// The draw that a random number gives, in milliseconds.
 pub(crate) fn draw_of(number: u32) -> u16
     ensures exact { result ≡ spec.draw_of number }
@@ -68,25 +65,15 @@ pub(crate) fn read_waits(wait: u64) -> bool
     wait >= WAITING_READ
 }
 
-/// For how long a port waits after a read that gave nothing, after this many silent turns in a row.
-pub(crate) fn rest_of(wait: u64, silent: u64) -> u64
-    ensures { result ≡ spec.rest_of wait silent }
+/// For how long a port waits after a read that gave nothing; `handed` says whether anything was
+/// handed over since the turn before.
+pub(crate) fn rest_of(wait: u64, handed: bool) -> u64
+    ensures { result ≡ spec.rest_of wait handed }
 {
     if read_waits(wait) {
         wait - FIRST_WAIT
-    } else if wait > 1 || silent >= SILENT_TURNS {
+    } else if wait > 1 || !handed {
         wait
-    } else {
-        0
-    }
-}
-
-/// How many turns in a row were silent, after one that was, or that wasn't.
-pub(crate) fn silent_after(silent: u64, is_silent: bool) -> u64
-    ensures { result ≡ spec.silent_after silent is_silent }
-{
-    if is_silent {
-        silent.saturating_add(1)
     } else {
         0
     }

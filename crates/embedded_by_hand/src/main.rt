@@ -31,11 +31,6 @@ const COMES: [(u64, Option<(u16, &[u8])>); 4] = [
 /// A random number of milliseconds, at most 1,000, which a server would draw anew for each step.
 const DRAW: u16 = 250;
 
-/// The last moment, in milliseconds, and the greatest number of events that a core handles.
-const LAST_MOMENT: u64 = 1 << 62;
-
-const MOST_EVENTS: u64 = 1 << 63;
-
 /// An endpoint of this host.
 fn at(port: u16) -> Endpoint {
     let ip = Ip::V4([127, 0, 0, 1]);
@@ -66,12 +61,8 @@ impl Proxy {
 
     /// Hands an event to the core, and prints what that sends.
     fn step(&mut self, rt: &HostRuntime, now: u64, event: Event<'_>) -> anyhow::Result<()> {
-        // what a step relies on
-        if now < self.core.last() || now > LAST_MOMENT || self.core.events() >= MOST_EVENTS {
-            bail!("a moment or an event out of range");
-        }
-        if self.out.room() < self.core.datagram() {
-            bail!("no room for a datagram");
+        if !self.core.can_step(now, DRAW, &self.out) {
+            bail!("a moment or an event is out of range, or there is no room for a datagram");
         }
         let report = self.core.step(now, DRAW, event, &mut self.out)?;
         if let Some(to) = report.send {

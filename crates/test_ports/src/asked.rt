@@ -1,6 +1,4 @@
 //! What a port asks of its system, over one in memory.
-ghost use Rattle.std.specs.Prelude.{◌≡◌, ◌<◌, ◌^◌, OnOk};
-
 use crate::systems::{Call, MemorySystem, Read, Script};
 use coap_message::{Datagram, OutOfMemory, Seq};
 use coap_proxyd::{Port, PortFault, Turn};
@@ -179,9 +177,10 @@ fn sends(alloc: Global, answers: &[Result<(), ErrorKind>]) -> Result<(bool, Stri
 const FULL: Result<(), ErrorKind> = Err(ErrorKind::WouldBlock);
 
 /// What a port asks for that sends once, and one that sends twice.
-const ONCE: &str = "not waiting, read 5, clock, draw; send 3 to 40001, ";
+const ONCE: &str = "not waiting, read 5, wait 1, clock, draw; send 3 to 40001, ";
 
-const TWICE: &str = "not waiting, read 5, clock, draw; send 3 to 40001, waiting, send 3 to 40001, ";
+const TWICE: &str =
+    "not waiting, read 5, wait 1, clock, draw; send 3 to 40001, waiting, send 3 to 40001, ";
 
 #[test]
 fn a_send_without_room_is_tried_once_more(rt: HostRuntime) -> Result<(), Fail> {
@@ -199,36 +198,23 @@ fn a_send_without_room_is_tried_once_more(rt: HostRuntime) -> Result<(), Fail> {
     Ok(())
 }
 
-/// Takes as many turns with a wait of one millisecond.
-fn look<P: Port>(port: &mut P, into: &mut Datagram, turns: u64) -> Result<(), PortFault>
-    requires { P.failures port.old < 2 ^ 63 }
-    ensures { OnOk result (P.failures port.new ≡ P.failures port.old) }
-{
-    for done in 0..turns {
-        port.next(1, into)?;
-    }
-    Ok(())
-}
-
-/// What a port asks for in so many silent turns, each with a wait of one millisecond.
-fn asked_in(alloc: Global, turns: u64) -> Result<String, Fail> {
+#[test]
+fn a_turn_after_a_send_only_looks(rt: HostRuntime) -> Result<(), Fail> {
+    let alloc = rt.alloc();
     let mut into = Datagram::new(alloc, ROOM)?;
     let mut port = UdpPort::over(MemorySystem::new(alloc, Script::new(alloc)), false);
-    look(&mut port, &mut into, turns)?;
-    Ok(shown(alloc, port.system().calls())?)
-}
-
-#[test]
-fn the_33rd_silent_turn_waits(rt: HostRuntime) -> Result<(), Fail> {
-    let alloc = rt.alloc();
-    assert!(rt; !asked_in(alloc, 32)?.as_str().contains("wait "));
-    assert!(rt;
-        asked_in(alloc, 33)?
-            .as_str()
-            .ends_with("read 5, wait 1, clock, draw; ")
-    );
+    let ip = Ip::V4([127, 0, 0, 1]);
+    port.send(Endpoint { ip, port: PEER }, b"abc");
+    port.next(1, &mut into)?;
+    port.next(1, &mut into)?;
+    let asked = shown(alloc, port.system().calls())?;
+    assert_eq!(rt; asked.as_str(), LOOKS);
     Ok(())
 }
+
+/// What a port asks for that sends, and then takes two turns with a wait of one millisecond.
+const LOOKS: &str =
+    "send 3 to 40001, not waiting, read 5, clock, draw; read 5, wait 1, clock, draw; ";
 
 /// The errors of a read that a port passes over.
 const PASSING: [ErrorKind; 10] = [

@@ -1,7 +1,7 @@
 -- Moments at which a message is sent, latest first, and Message IDs with the moments at which they
 -- are given out.
 use Rattle.std.specs.Prelude.{ℕ, List, [], ◌∷◌}
-use Rattle.coap_exchange.specs.Ids.{Given}
+use Rattle.coap_pending.specs.Ids.{Given}
 
 -- each sending comes when it is due, with the shortest timeout, and with the longest
 abbrev pub shortest_four : List ℕ

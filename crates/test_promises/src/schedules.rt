@@ -1,8 +1,8 @@
 //! Retransmissions and Message IDs at the edges of their times: accepted at the edge, and refused
 //! one step beyond it.
 ghost use Rattle.std.specs.Prelude.{◌∷◌, []};
-ghost use Rattle.coap_exchange.specs.Ids.{AreApart};
-ghost use Rattle.coap_exchange.specs.Timers.{AreSpaced, IsSchedule};
+ghost use Rattle.coap_pending.specs.Ids.{AreApart};
+ghost use Rattle.coap_pending.specs.Timers.{AreSpaced, IsSchedule};
 ghost use Rattle.coap_model.specs.Schedules as traffic;
 ghost use Rattle.coap_model.specs.WordExamples.{sending};
 ghost use Rattle.coap_model.specs.MessageIds.{IdsDiffer};

@@ -10,13 +10,6 @@ use std::alloc::Global;
 use std::io;
 use std::io::ErrorKind;
 
-/// The last moment, in milliseconds, the greatest draw, and the greatest number of events.
-const LAST_MOMENT: u64 = 1 << 62;
-
-const GREATEST_DRAW: u16 = 1_000;
-
-const MOST_EVENTS: u64 = 1 << 63;
-
 /// How a run ends in which memory may be refused.
 #[derive(Clone, Copy)]
 pub(crate) enum Ending {
@@ -100,11 +93,8 @@ impl<S: Store + Drop> Player<S> {
 
     /// Has the core handle the event of a turn.
     fn step(&mut self, turn: Turn) -> Result<Result<Report, OutOfMemory>, &'static str> {
-        if turn.now < self.core.last() || turn.now > LAST_MOMENT || turn.draw > GREATEST_DRAW {
-            return Err("its moment or its draw is out of range");
-        }
-        if self.core.events() >= MOST_EVENTS || self.output.room() < self.core.datagram() {
-            return Err("there are too many events, or there is no room for a datagram");
+        if !self.core.can_step(turn.now, turn.draw, &self.output) {
+            return Err("its moment or its draw is out of range, or there are too many events");
         }
         let seen = Seen::begun(turn.now, turn.draw, turn.from, self.input.bytes());
         Ok(

@@ -1,6 +1,6 @@
 use Rattle.std.proofs.Common.{◌≡◌, ℕ, ◌-◌, ◌≤◌, ◌^◌, false}
 use Rattle.coap_exchange.specs.Index.{is_met}
-use Rattle.coap_exchange.specs.Table.{item_at, passes}
+use Rattle.coap_pending.specs.Table.{item_at, passes}
 use Rattle.coap_exchange.proofs.index.first_sought.Given as goal
 
 abbrev pub invariant-loop-number : goal.invariant-loop-number

@@ -1,6 +1,6 @@
 use Rattle.std.proofs.Common.{◌≡◌, ◌∙◌, ◌<◌, Some, ap, sym, arith}
 use Rattle.std.specs.Option.{option_copied}
-use Rattle.coap_exchange.specs.Table.{item_at}
+use Rattle.coap_pending.specs.Table.{item_at}
 use Rattle.coap_model.specs.declared.report.Outcome.TheVariants.{Answered}
 use Rattle.coap_core.specs.Storing.{targets_in}
 use Rattle.coap_core.proofs.Puts.{left-open, left-events, answer-does}

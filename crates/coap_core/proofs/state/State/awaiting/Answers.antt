@@ -1,8 +1,8 @@
-use Rattle.std.proofs.Common.{◌≡◌, ◌≢◌, ◌^◌, ◌<◌, ◌∙◌, true, false, Some, length, sym, ap, arith}
+use Rattle.std.proofs.Common.{◌≡◌, ◌≢◌, ◌^◌, ◌<◌, ◌∙◌, ℕ, true, false, Some, length, sym, ap, subst}
 use Rattle.std.specs.Prelude.{option_map}
 use Rattle.coap_endpoint.specs.Endpoint.{same_endpoint}
-use Rattle.coap_exchange.specs.declared.exchange.Exchange.{Exchange}
-use Rattle.coap_exchange.specs.Table.{Numbered, item_at}
+use Rattle.coap_pending.specs.declared.exchange.Exchange.{Exchange}
+use Rattle.coap_pending.specs.Table.{Numbered, Table, item_at}
 use Rattle.coap_forward.specs.Messages.{token_of}
 use Rattle.coap_core.proofs.Awaiting.{nobody-awaits, awaits-none, awaits-one, open-with}
 use Rattle.coap_core.proofs.state.State.awaiting.Given.{Over}
@@ -21,7 +21,7 @@ token g c = rw (← c.token.ensures.bytes) c.in_ok-number.ensures.found
 
 -- the numbers that were given fit eight bytes
 few : (g : Over) (c : After-exchange g) → c.self.inside.under_way.exchanges.admitted < 2 ^ 64
-few g c = let o = rw (← c.self.view_is) at c.requires.opened in omega (arith, o)
+few g c = subst (λ (n : ℕ). n < 2 ^ 64) (c.admitted-few.ensures.exact ∙ ap (λ (t : Table Exchange). t.admitted) c.exchanges.ensures.exact) c.admitted-few.type_inv
 
 pub returns-in_err-exchange-clause-exact : goal.returns-in_err-exchange-clause-exact
 returns-in_err-exchange-clause-exact g c =

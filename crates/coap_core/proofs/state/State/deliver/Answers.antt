@@ -1,6 +1,6 @@
 use Rattle.std.proofs.Common.{◌≡◌, ◌<◌, true, refl, sym, subst}
-use Rattle.coap_exchange.specs.Ids.{left_of}
-use Rattle.coap_exchange.specs.Waiters.{is_waiting}
+use Rattle.coap_pending.specs.Ids.{left_of}
+use Rattle.coap_pending.specs.Waiters.{is_waiting}
 use Rattle.coap_model.specs.State.{State}
 use Rattle.coap_core.proofs.Keeping.{id-for-waiting}
 use Rattle.coap_core.proofs.state.State.deliver.Goals as goal

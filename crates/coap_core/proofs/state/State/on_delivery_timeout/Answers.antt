@@ -1,8 +1,8 @@
 use Rattle.std.proofs.Common.{◌≡◌, ◌≤◌, ◌∙◌, List, ℕ, Some, length, sym, ap, subst}
-use Rattle.coap_exchange.specs.declared.timer.Fire.TheVariants.{Again, GiveUp}
-use Rattle.coap_exchange.specs.Table.{Numbered, IsRising, item_at, changed_at}
-use Rattle.coap_exchange.specs.Waiters.{fire_of_state, fired_waiter}
-use Rattle.coap_exchange.specs.declared.waiter.Waiter.{Waiter}
+use Rattle.coap_pending.specs.declared.timer.Fire.TheVariants.{Again, GiveUp}
+use Rattle.coap_pending.specs.Table.{Numbered, IsRising, item_at, changed_at}
+use Rattle.coap_pending.specs.Waiters.{fire_of_state, fired_waiter}
+use Rattle.coap_pending.specs.declared.waiter.Waiter.{Waiter}
 use Rattle.coap_message.specs.Datagram.{holding}
 use Rattle.coap_model.specs.declared.report.Outcome.TheVariants.{Resent}
 use Rattle.coap_model.specs.Ticks.{abandons, redelivers}

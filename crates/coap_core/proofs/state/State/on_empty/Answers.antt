@@ -1,6 +1,6 @@
 use Rattle.std.proofs.Common.{◌≡◌, Some}
-use Rattle.coap_exchange.specs.Exchanges.{was_sent_as}
-use Rattle.coap_exchange.specs.Table.{first_that}
+use Rattle.coap_pending.specs.Exchanges.{was_sent_as}
+use Rattle.coap_pending.specs.Table.{first_that}
 use Rattle.coap_core.proofs.Awaiting.{first-there}
 use Rattle.coap_core.proofs.state.State.on_empty.Goals as goal
 

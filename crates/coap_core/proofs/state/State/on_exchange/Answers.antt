@@ -1,6 +1,6 @@
 use Rattle.std.proofs.Common.{◌≡◌, ◌≤◌, ◌∙◌, Some, length, refl, rules, sym, subst}
 use Rattle.std.proofs.lemmas.Option.{same_Some}
-use Rattle.coap_exchange.specs.Table.{item_at}
+use Rattle.coap_pending.specs.Table.{item_at}
 use Rattle.coap_model.specs.State.{Step}
 use Rattle.coap_core.specs.Steps.{Does, IsExchangeDue}
 use Rattle.coap_core.proofs.Ticking.{is-open, has-ended, queued-step, sent-step}

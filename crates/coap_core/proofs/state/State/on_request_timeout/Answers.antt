@@ -1,7 +1,7 @@
 use Rattle.std.proofs.Common.{◌≡◌, ◌≤◌, ◌∙◌, Some, length, refl, sym, subst}
-use Rattle.coap_exchange.specs.declared.timer.Fire.TheVariants.{Again, GiveUp}
-use Rattle.coap_exchange.specs.Exchanges.{fire_of_sending, fired_exchange, IsDue}
-use Rattle.coap_exchange.specs.Table.{IsRising, item_at, changed_at}
+use Rattle.coap_pending.specs.declared.timer.Fire.TheVariants.{Again, GiveUp}
+use Rattle.coap_pending.specs.Exchanges.{fire_of_sending, fired_exchange, IsDue}
+use Rattle.coap_pending.specs.Table.{IsRising, item_at, changed_at}
 use Rattle.coap_message.specs.Datagram.{holding}
 use Rattle.coap_model.specs.Ticks.{gives_up, resends}
 use Rattle.coap_model.specs.declared.report.Outcome.TheVariants.{Resent}

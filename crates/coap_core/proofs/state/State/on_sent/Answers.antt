@@ -1,6 +1,6 @@
 use Rattle.std.proofs.Common.{◌≡◌, true, false, Some, sym, subst}
-use Rattle.coap_exchange.specs.Exchanges.{is_sent}
-use Rattle.coap_exchange.specs.Table.{item_at}
+use Rattle.coap_pending.specs.Exchanges.{is_sent}
+use Rattle.coap_pending.specs.Table.{item_at}
 use Rattle.coap_forward.specs.Messages.{is_ack}
 use Rattle.coap_model.specs.History.{grown_of}
 use Rattle.coap_model.specs.State.{Step}

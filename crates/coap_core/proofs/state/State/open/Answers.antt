@@ -24,6 +24,3 @@ accept_request-done-requires-clause-events g c =
 
 pub open-requires-clause-now : goal.open-requires-clause-now
 open-requires-clause-now g c = c.requires.reply.ready.moment
-
-pub returns-in_default : goal.returns-in_default
-returns-in_default g c = record { exact = tt; err = rw c.in_default.ensures.err c.self.view_is; kept = refl }

@@ -1,8 +1,8 @@
 use Rattle.std.proofs.Common.{◌≡◌, ◌≤◌, ◌∙◌, List, ℕ, Some, length, refl, sym, ap, subst}
-use Rattle.coap_exchange.specs.declared.exchange.Sending.{Sending}
-use Rattle.coap_exchange.specs.Exchanges.{sent}
-use Rattle.coap_exchange.specs.Table.{changed_at}
-use Rattle.coap_exchange.specs.Timers.{started}
+use Rattle.coap_pending.specs.declared.exchange.Sending.{Sending}
+use Rattle.coap_pending.specs.Exchanges.{sent}
+use Rattle.coap_pending.specs.Table.{changed_at}
+use Rattle.coap_pending.specs.Timers.{started}
 use Rattle.coap_message.specs.Datagram.{holding}
 use Rattle.coap_model.specs.Ticks.{sends}
 use Rattle.coap_model.specs.declared.report.Outcome.TheVariants.{SentRequest}

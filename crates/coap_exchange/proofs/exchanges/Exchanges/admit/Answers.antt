@@ -1,23 +1,14 @@
 use Rattle.std.proofs.Common.{rules, refl, subst}
-use Rattle.coap_exchange.specs.Clients.{AreWithin}
-use Rattle.coap_exchange.specs.Exchanges.{is_opened_by}
-use Rattle.coap_exchange.specs.Table.{IsTable}
+use Rattle.endpoint_counts.specs.Clients.{AreWithin}
+use Rattle.coap_pending.specs.Exchanges.{is_opened_by}
+use Rattle.coap_pending.specs.Table.{IsTable}
 use Rattle.coap_exchange.proofs.exchanges.Exchanges.admit.Goals as goal
-
-pub returns-in_err-listed-clause-client_full : goal.returns-in_err-listed-clause-client_full
-returns-in_err-listed-clause-client_full c = search rules
-
-pub list-requires-clause-client_room : goal.list-requires-clause-client_room
-list-requires-clause-client_room c = search rules
 
 pub returns-clause-client_full : goal.returns-clause-client_full
 returns-clause-client_full c = search rules
 
 pub returns-clause-client_room : goal.returns-clause-client_room
 returns-clause-client_room c = search rules
-
-pub opened-requires : goal.opened-requires
-opened-requires c = search rules
 
 pub returns-then-is_full-clause-number : goal.returns-then-is_full-clause-number
 returns-then-is_full-clause-number c = tt
@@ -73,47 +64,8 @@ returns-then-count_of-per_client-clause-sound c = subst IsTable c.self.view_is c
 pub returns-then-count_of-per_client-clause-within : goal.returns-then-count_of-per_client-clause-within
 returns-then-count_of-per_client-clause-within c = subst (AreWithin is_opened_by) c.self.view_is c.self.invariant.5
 
-pub returns-in_err-listed-clause-number : goal.returns-in_err-listed-clause-number
-returns-in_err-listed-clause-number c = search rules
-
-pub returns-in_err-listed-clause-ok : goal.returns-in_err-listed-clause-ok
-returns-in_err-listed-clause-ok c = search rules
-
-pub returns-in_err-listed-clause-full : goal.returns-in_err-listed-clause-full
-returns-in_err-listed-clause-full c = search rules
-
-pub returns-in_err-listed-clause-room : goal.returns-in_err-listed-clause-room
-returns-in_err-listed-clause-room c = search rules
-
-pub returns-in_err-listed-clause-client_room : goal.returns-in_err-listed-clause-client_room
-returns-in_err-listed-clause-client_room c = search rules
-
-pub returns-in_err-listed-clause-err : goal.returns-in_err-listed-clause-err
-returns-in_err-listed-clause-err c = search rules
-
-pub returns-in_err-listed-clause-sound : goal.returns-in_err-listed-clause-sound
-returns-in_err-listed-clause-sound c = subst IsTable c.self.view_is c.is_full.ensures.sound
-
-pub returns-in_err-listed-clause-within : goal.returns-in_err-listed-clause-within
-returns-in_err-listed-clause-within c = subst (AreWithin is_opened_by) c.self.view_is c.self.invariant.5
-
-pub list-requires-clause-numbers : goal.list-requires-clause-numbers
-list-requires-clause-numbers c = search rules
-
-pub list-requires-clause-state : goal.list-requires-clause-state
-list-requires-clause-state c = search rules
-
-pub list-requires-clause-sending : goal.list-requires-clause-sending
-list-requires-clause-sending c = search rules
-
-pub list-requires-clause-now : goal.list-requires-clause-now
-list-requires-clause-now c = search rules
-
-pub list-requires-clause-room : goal.list-requires-clause-room
-list-requires-clause-room c = search rules
-
 pub returns-clause-number : goal.returns-clause-number
-returns-clause-number c = c.list.ensures.number
+returns-clause-number c = search rules
 
 pub returns-clause-ok : goal.returns-clause-ok
 returns-clause-ok c = search rules
@@ -125,7 +77,7 @@ pub returns-clause-room : goal.returns-clause-room
 returns-clause-room c = search rules
 
 pub returns-clause-err : goal.returns-clause-err
-returns-clause-err c = c.list.ensures.err
+returns-clause-err c = search rules
 
 pub returns-clause-sound : goal.returns-clause-sound
 returns-clause-sound c = subst IsTable c.self.view_is c.is_full.ensures.sound

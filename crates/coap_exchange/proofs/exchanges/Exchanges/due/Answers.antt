@@ -1,5 +1,5 @@
 use Rattle.std.proofs.Common.{◌≡◌, ◌^◌, sym}
-use Rattle.coap_exchange.specs.Due.{first_due}
+use Rattle.coap_pending.specs.Due.{first_due}
 use Rattle.coap_exchange.specs.Index.{opening_of, end_of}
 use Rattle.coap_exchange.proofs.Seeking.{first-early, openings-early, index-first, split-due}
 use Rattle.coap_exchange.proofs.exchanges.Exchanges.due.Goals as goal

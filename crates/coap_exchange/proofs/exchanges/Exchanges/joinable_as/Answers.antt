@@ -1,4 +1,4 @@
-use Rattle.coap_exchange.specs.Exchanges.{is_joinable}
+use Rattle.coap_pending.specs.Exchanges.{is_joinable}
 use Rattle.coap_exchange.specs.Digests.{digest_of_key}
 use Rattle.coap_exchange.specs.Index.{cache_key_of}
 use Rattle.coap_exchange.proofs.Seeking.{joinable-by-key, key-listed}

@@ -1,17 +1,17 @@
 use Rattle.std.proofs.Common.{◌≡◌, ◌∙◌, ◌+◌, ◌<◌, Some, true, false, length, ap, arith, refl, rules}
-use Rattle.coap_exchange.specs.declared.exchange.Exchange.{Exchange}
-use Rattle.coap_exchange.specs.Exchanges.{is_opened_by, is_queued, is_sent}
-use Rattle.coap_exchange.specs.Table.{Table, admitted_to, count}
-use Rattle.coap_exchange.specs.Endpoints.{is_with}
-use Rattle.coap_exchange.proofs.ByClient.{of_clients-push, of_clients-undone, within-push}
-use Rattle.coap_exchange.proofs.Counts.{count-length}
-use Rattle.coap_exchange.proofs.Indexing.{can-pass-as, have-passed-as, moves-admitted}
-use Rattle.coap_exchange.proofs.EndpointCounting.{counted-push, counted-undone, one-itself, queued-less, sent-less}
-use Rattle.coap_exchange.proofs.Fewer.{few-entries}
+use Rattle.coap_pending.specs.declared.exchange.Exchange.{Exchange}
+use Rattle.coap_pending.specs.Exchanges.{is_opened_by, is_queued, is_sent, is_with}
+use Rattle.coap_pending.specs.Table.{Table, admitted_to, count}
+use Rattle.endpoint_counts.proofs.ByClient.{of_clients-push, of_clients-undone, within-push}
+use Rattle.coap_pending.proofs.Counts.{count-length}
+use Rattle.coap_exchange.proofs.Indexing.{can-pass-as, have-passed-as}
+use Rattle.endpoint_counts.proofs.Indexing.{moves-admitted}
+use Rattle.coap_exchange.proofs.ExchangeCounting.{counted-push, counted-undone, one-itself, queued-less, sent-less}
+use Rattle.endpoint_counts.proofs.Fewer.{few-entries}
 use Rattle.coap_exchange.proofs.Heads.{head-among}
 use Rattle.coap_exchange.proofs.Ordering.{admitted-free, heads-room, one-most, send_queue-more}
-use Rattle.coap_exchange.proofs.Tables.{admitted-is, item_at-fresh, item_at-last}
-use Rattle.coap_exchange.proofs.Timely.{exchanges-push}
+use Rattle.coap_pending.proofs.Tables.{admitted-is, item_at-fresh, item_at-last}
+use Rattle.coap_pending.proofs.Timely.{exchanges-push}
 use Rattle.coap_exchange.proofs.exchanges.Exchanges.list.Goals as goal
 
 pub open_one-requires-clause-all : goal.open_one-requires-clause-all
@@ -156,9 +156,6 @@ returns-in-Ok-clause-number c = c.in-Ok.ensures.number ∙ ap (λ (t : Table Exc
 pub returns-in-Ok-clause-ok : goal.returns-in-Ok-clause-ok
 returns-in-Ok-clause-ok c = c.in-Ok.ensures.ok ∙ ap (admitted_to c.args.listed) c.self.view_is
 
-pub returns-in-Ok-clause-memory : goal.returns-in-Ok-clause-memory
-returns-in-Ok-clause-memory c = tt
-
 pub returns-in-Ok-clause-err : goal.returns-in-Ok-clause-err
 returns-in-Ok-clause-err c = tt
 
@@ -167,9 +164,6 @@ returns-in-Err-clause-number c = tt
 
 pub returns-in-Err-clause-ok : goal.returns-in-Err-clause-ok
 returns-in-Err-clause-ok c = tt
-
-pub returns-in-Err-clause-memory : goal.returns-in-Err-clause-memory
-returns-in-Err-clause-memory c = search rules
 
 pub returns-in-Err-clause-err : goal.returns-in-Err-clause-err
 returns-in-Err-clause-err c = c.in-Err.ensures.err ∙ c.self.view_is

@@ -1,7 +1,7 @@
 use Rattle.std.proofs.Common.{Option, ℕ, [], arith, refl}
 use Rattle.std.proofs.lemmas.Result.{IfOk-from_err}
-use Rattle.coap_exchange.specs.declared.exchange.Exchange.{Exchange}
-use Rattle.coap_exchange.specs.Index.{IsIndexOf}
+use Rattle.coap_pending.specs.declared.exchange.Exchange.{Exchange}
+use Rattle.endpoint_counts.specs.IndexOf.{IsIndexOf}
 use Rattle.coap_exchange.proofs.exchanges.Exchanges.seeded.Goals as goal
 use Rattle.ordered_index.specs.Ordered.{empty_index}
 
@@ -31,7 +31,7 @@ pub invariant_of-result : goal.invariant_of-result
 invariant_of-result c = rw (c.in_ok-table.ensures.empty, c.in_ok-endpoints.ensures.empty, c.in_ok-clients.ensures.empty, c.in_ok-index.ensures.empty) (
   record { queued = refl; timely = tt; short = tt },
   record { all = λ e. refl; sent = λ e. refl; queued = λ e. refl },
-  record { rising = tt; ids = none _ _; dones = none _ _; openings = none _ _; ends = none _ _; queues = none _ _; cache_keys = none _ _; targets = none _ _ },
+  record { rising = tt; ids = none _ _; openings = none _ _; ends = none _ _; queues = none _ _; cache_keys = none _ _; targets = none _ _ },
   c.in_ok-send_queue.ensures.empty,
   λ client. refl,
   λ client. omega arith,

@@ -1,4 +1,4 @@
-use Rattle.coap_exchange.specs.Exchanges.{was_sent_as}
+use Rattle.coap_pending.specs.Exchanges.{was_sent_as}
 use Rattle.coap_exchange.specs.Index.{id_of}
 use Rattle.coap_exchange.proofs.Seeking.{key-listed, sent-by-id}
 use Rattle.coap_exchange.proofs.exchanges.Exchanges.sent_as.Goals as goal

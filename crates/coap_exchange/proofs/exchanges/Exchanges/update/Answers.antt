@@ -1,14 +1,13 @@
 use Rattle.std.proofs.Common.{◌∙◌, refl, rules, subst, sym}
-use Rattle.coap_exchange.specs.declared.exchange.Exchange.{Exchange}
-use Rattle.coap_exchange.specs.Exchanges.{changed_by, CanUpdate}
-use Rattle.coap_exchange.specs.SendQueue.{endpoint_in}
-use Rattle.coap_exchange.specs.Table.{Table, item_at}
+use Rattle.coap_pending.specs.declared.exchange.Exchange.{Exchange}
+use Rattle.coap_pending.specs.Exchanges.{changed_by, CanUpdate}
+use Rattle.coap_exchange.specs.SendQueue.{mover}
+use Rattle.coap_pending.specs.Table.{Table, item_at}
 use Rattle.coap_exchange.specs.Updates.{updated_at}
-use Rattle.coap_exchange.proofs.ByClient.{client-after}
-use Rattle.coap_exchange.proofs.Heads.{at-its}
+use Rattle.coap_exchange.proofs.Openers.{client-after}
 use Rattle.coap_exchange.proofs.Indexing.{can-pass-as, have-passed-as}
 use Rattle.coap_exchange.proofs.Ordering.{send_queue-free, send_queue-moved, send_queue-room}
-use Rattle.coap_exchange.proofs.Updating.{at-updated, counted-updated, exchanges-updated, kept-updated, moves-updated, never-queued, of_clients-updated, updatable, updated-at, updated-is, updated-off, within-updated}
+use Rattle.coap_exchange.proofs.Updating.{counted-updated, exchanges-updated, kept-updated, moves-updated, never-queued, of_clients-updated, stays-updated, updatable, updated-at, updated-is, updated-off, within-updated}
 use Rattle.coap_exchange.proofs.exchanges.Exchanges.update.Goals as goal
 
 pub recount-requires-clause-queued : goal.recount-requires-clause-queued
@@ -43,12 +42,13 @@ head_of-next-requires-clause-counted c =
 
 pub replace-requires-clause-free : goal.replace-requires-clause-free
 replace-requires-clause-free c =
+    let can : CanUpdate c.args.change (item_at c.args.number c.self.inside.table.items) = subst (λ (t : Table Exchange). CanUpdate c.args.change (item_at c.args.number t.items)) (sym c.self.view_is) c.requires in
     let is = c.get-found.ensures.sound in
     let n = c.args.number in
     let t = c.self.inside.table in
     let ys = updated_at changed_by c.args.change n t.items in
-    rw (c.head_of-head.ensures.exact, c.head_of-next.ensures.exact, c.peer_of-at.ensures.exact, c.get-found.ensures.exact, c.update-is.ensures.updated)
-    (send_queue-free n t.items ys (endpoint_in (item_at n t.items)) (moves-updated changed_by n t is c.args.change) is.rising (updated-is changed_by n t is c.args.change).rising (at-its (item_at n t.items)) (at-updated n c.args.change t.items) c.self.inside.send_queue c.self.invariant.3)
+    rw (c.head_of-head.ensures.exact, c.head_of-next.ensures.exact, c.mover_of-at.ensures.exact, c.get-found.ensures.exact, c.update-is.ensures.updated)
+    (send_queue-free n t.items ys (mover c.args.change (item_at n t.items)) (moves-updated changed_by n t is c.args.change) is.rising (updated-is changed_by n t is c.args.change).rising (stays-updated n c.args.change t.items can) c.self.inside.send_queue c.self.invariant.3)
 
 pub replace-requires-clause-room : goal.replace-requires-clause-room
 replace-requires-clause-room c =
@@ -57,8 +57,8 @@ replace-requires-clause-room c =
     let n = c.args.number in
     let t = c.self.inside.table in
     let ys = updated_at changed_by c.args.change n t.items in
-    rw (c.head_of-head.ensures.exact, c.head_of-next.ensures.exact, c.peer_of-at.ensures.exact, c.get-found.ensures.exact, c.update-is.ensures.updated)
-    (send_queue-room n t.items ys (endpoint_in (item_at n t.items)) (moves-updated changed_by n t is c.args.change) is.rising (updated-is changed_by n t is c.args.change).rising (at-its (item_at n t.items)) (at-updated n c.args.change t.items) c.self.inside.send_queue c.self.invariant.3 (updated-off n c.args.change t.items can))
+    rw (c.head_of-head.ensures.exact, c.head_of-next.ensures.exact, c.mover_of-at.ensures.exact, c.get-found.ensures.exact, c.update-is.ensures.updated)
+    (send_queue-room n t.items ys (mover c.args.change (item_at n t.items)) (moves-updated changed_by n t is c.args.change) is.rising (updated-is changed_by n t is c.args.change).rising (stays-updated n c.args.change t.items can) c.self.inside.send_queue c.self.invariant.3 (updated-off n c.args.change t.items can))
 
 pub invariant_of-self : goal.invariant_of-self
 invariant_of-self c =
@@ -70,13 +70,13 @@ invariant_of-self c =
     let moves = moves-updated changed_by n t is c.args.change in
     let rising = (updated-is changed_by n t is c.args.change).rising in
     let passed = rw (c.keys_in-was.ensures.exact, c.get-found.ensures.exact, c.update-is.ensures.keys) at c.rekey.ensures.exact in
-    let len = rw (c.head_of-head.ensures.exact, c.head_of-next.ensures.exact, c.peer_of-at.ensures.exact, c.get-found.ensures.exact, c.update-is.ensures.updated) at c.replace.ensures.length in
-    let replaced = rw (c.head_of-head.ensures.exact, c.head_of-next.ensures.exact, c.peer_of-at.ensures.exact, c.get-found.ensures.exact, c.update-is.ensures.updated) at c.replace.ensures.replaced in
+    let len = rw (c.head_of-head.ensures.exact, c.head_of-next.ensures.exact, c.mover_of-at.ensures.exact, c.get-found.ensures.exact, c.update-is.ensures.updated) at c.replace.ensures.length in
+    let replaced = rw (c.head_of-head.ensures.exact, c.head_of-next.ensures.exact, c.mover_of-at.ensures.exact, c.get-found.ensures.exact, c.update-is.ensures.updated) at c.replace.ensures.replaced in
     rw c.update-is.ensures.updated (
       exchanges-updated n t is c.args.change c.self.inside.queued c.queued_without-queued.result c.self.invariant.0 can c.queued_without-queued.ensures.fewer,
       counted-updated n t is c.args.change c.self.inside.endpoints c.recount.new.endpoints c.self.invariant.1 c.recount.ensures.all c.recount.ensures.sent c.recount.ensures.queued,
       have-passed-as n t.limit t.items ys c.self.inside.index moves c.self.invariant.2 _ _ refl (updated-at changed_by n c.args.change t.items) c.rekey.new.self passed rising,
-      send_queue-moved n t.items ys (endpoint_in (item_at n t.items)) moves is.rising rising (at-its (item_at n t.items)) (at-updated n c.args.change t.items) c.self.inside.send_queue c.self.invariant.3 (kept-updated n t is c.args.change) (updated-off n c.args.change t.items can) c.replace.new.self c.replace.ensures.limit len replaced,
+      send_queue-moved n t.items ys (mover c.args.change (item_at n t.items)) moves is.rising rising (stays-updated n c.args.change t.items can) c.self.inside.send_queue c.self.invariant.3 (kept-updated n t is c.args.change) (updated-off n c.args.change t.items can) c.replace.new.self c.replace.ensures.limit len replaced,
       of_clients-updated changed_by n t is (λ (x : Exchange). x.client) client-after c.args.change c.self.inside.clients c.depart.new.clients (rw (c.leaver_of.ensures.exact, c.get-found.ensures.exact) at c.depart.ensures.exact) c.self.invariant.4,
       within-updated changed_by n t is (λ (x : Exchange). x.client) client-after c.args.change c.self.invariant.5,
       record { for_heads = c.replace.ensures.limit ∙ c.self.invariant.6.for_heads; for_endpoints = c.recount.ensures.limit ∙ c.self.invariant.6.for_endpoints; for_clients = c.depart.ensures.limit ∙ c.self.invariant.6.for_clients },

@@ -1,10 +1,10 @@
 use Rattle.std.proofs.Common.{refl, sym, subst}
 use Rattle.std.specs.Prelude.{IfSome, Option}
-use Rattle.coap_exchange.specs.declared.exchange.Exchange.{Exchange}
-use Rattle.coap_exchange.specs.Exchanges.{changed_by, CanChange}
-use Rattle.coap_exchange.specs.Table.{Table, by_number, item_at}
-use Rattle.coap_exchange.proofs.Changes.{changed_at-is, written-is}
-use Rattle.coap_exchange.proofs.ByNumber.{item_at-by_number}
+use Rattle.coap_pending.specs.declared.exchange.Exchange.{Exchange}
+use Rattle.coap_pending.specs.Exchanges.{changed_by, CanChange}
+use Rattle.coap_pending.specs.Table.{Table, by_number, item_at}
+use Rattle.coap_pending.proofs.Changes.{changed_at-is, written-is}
+use Rattle.coap_pending.proofs.ByNumber.{item_at-by_number}
 use Rattle.coap_exchange.proofs.exchanges.Table+IndexedExchange.change.Goals as goal
 
 pub change_under-requires : goal.change_under-requires

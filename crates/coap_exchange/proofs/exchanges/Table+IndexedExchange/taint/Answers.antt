@@ -1,7 +1,7 @@
 use Rattle.std.proofs.Common.{refl}
-use Rattle.coap_exchange.specs.Exchanges.{tainted_by}
-use Rattle.coap_exchange.specs.Table.{by_number}
-use Rattle.coap_exchange.proofs.Changes.{changed_at-is, written-is}
+use Rattle.coap_pending.specs.Exchanges.{tainted_by}
+use Rattle.coap_pending.specs.Table.{by_number}
+use Rattle.coap_pending.proofs.Changes.{changed_at-is, written-is}
 use Rattle.coap_exchange.proofs.exchanges.Table+IndexedExchange.taint.Goals as goal
 
 pub invariant_of-self : goal.invariant_of-self

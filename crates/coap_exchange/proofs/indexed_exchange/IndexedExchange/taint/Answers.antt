@@ -1,9 +1,9 @@
 use Rattle.std.proofs.Common.{◌≡◌, ◌∙◌, ap, sym, subst}
 use Rattle.coap_endpoint.specs.declared.endpoint.Endpoint.{Endpoint}
 use Rattle.coap_store.specs.declared.key.CacheKey.{CacheKey}
-use Rattle.coap_exchange.specs.declared.exchange.Exchange.{Exchange}
+use Rattle.coap_pending.specs.declared.exchange.Exchange.{Exchange}
 use Rattle.coap_exchange.specs.Digests.{digests_of}
-use Rattle.coap_exchange.proofs.ByClient.{client-tainted}
+use Rattle.coap_exchange.proofs.Openers.{client-tainted}
 use Rattle.coap_exchange.proofs.Ordering.{key-tainted}
 use Rattle.coap_exchange.proofs.indexed_exchange.IndexedExchange.taint.Goals as goal
 

@@ -1,5 +1,5 @@
 use Rattle.std.proofs.Common.{◌∙◌, sym}
-use Rattle.coap_exchange.proofs.ByNumber.{item_at-by_number}
+use Rattle.coap_pending.proofs.ByNumber.{item_at-by_number}
 use Rattle.coap_exchange.proofs.table.Table.get.Goals as goal
 
 pub returns-clause-exact : goal.returns-clause-exact

@@ -1,6 +1,6 @@
 use Rattle.std.proofs.Common.{◌≡◌, None, subst, sym}
-use Rattle.coap_exchange.specs.Table.{Table, by_number, item_at}
-use Rattle.coap_exchange.proofs.Tables.{given-back-is}
+use Rattle.coap_pending.specs.Table.{Table, by_number, item_at}
+use Rattle.coap_pending.proofs.Tables.{given-back-is}
 use Rattle.coap_exchange.proofs.table.Table.give_back.Goals as goal
 
 pub invariant_of-self : goal.invariant_of-self

@@ -1,5 +1,5 @@
 use Rattle.std.proofs.Common.{arith, sym, ◌∙◌}
-use Rattle.coap_exchange.proofs.ByNumber.{length-by_number}
+use Rattle.coap_pending.proofs.ByNumber.{length-by_number}
 use Rattle.coap_exchange.proofs.table.Table.len.Goals as goal
 
 pub returns : goal.returns

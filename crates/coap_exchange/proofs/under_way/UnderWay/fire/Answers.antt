@@ -1,11 +1,10 @@
-use Rattle.coap_exchange.specs.Exchanges.{fired_exchange}
-use Rattle.coap_exchange.proofs.Indexing.{changed-others}
-use Rattle.coap_exchange.proofs.Readying.{got-changed, got-fired}
+use Rattle.coap_pending.specs.Exchanges.{fired_exchange}
+use Rattle.endpoint_counts.proofs.Indexing.{changed-others}
+use Rattle.coap_exchange.proofs.Readying.{got-changed, got-fired, ready-same}
 use Rattle.std.proofs.Common.{ℕ, refl, ap, Option}
 use Rattle.coap_exchange.specs.Ready.{ready_of, Tables}
-use Rattle.coap_exchange.specs.Table.{first_that}
-use Rattle.coap_exchange.specs.Waiters.{waits_for}
-use Rattle.coap_exchange.proofs.Readying.{ready-same}
+use Rattle.coap_pending.specs.Table.{first_that}
+use Rattle.coap_pending.specs.Waiters.{waits_for}
 use Rattle.coap_exchange.proofs.under_way.UnderWay.fire.Goals as goal
 
 pub invariant_of-self : goal.invariant_of-self

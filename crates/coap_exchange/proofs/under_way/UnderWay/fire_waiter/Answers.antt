@@ -1,9 +1,9 @@
 use Rattle.std.proofs.Common.{ap}
-use Rattle.coap_exchange.specs.declared.waiter.Waiter.{Waiter}
+use Rattle.coap_pending.specs.declared.waiter.Waiter.{Waiter}
 use Rattle.coap_exchange.specs.Ready.{Tables}
-use Rattle.coap_exchange.specs.Table.{Table, IsTable}
-use Rattle.coap_exchange.specs.Waiters.{fired_waiter}
-use Rattle.coap_exchange.proofs.Changes.{changed_at-is}
+use Rattle.coap_pending.specs.Table.{Table, IsTable}
+use Rattle.coap_pending.specs.Waiters.{fired_waiter}
+use Rattle.coap_pending.proofs.Changes.{changed_at-is}
 use Rattle.coap_exchange.proofs.Readying.{ready-fired, ready-same}
 use Rattle.coap_exchange.proofs.under_way.UnderWay.fire_waiter.Goals as goal
 

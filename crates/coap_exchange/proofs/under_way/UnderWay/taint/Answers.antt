@@ -1,10 +1,9 @@
-use Rattle.coap_exchange.specs.Exchanges.{tainted_by}
-use Rattle.coap_exchange.proofs.Readying.{got-all, got-tainted}
+use Rattle.coap_pending.specs.Exchanges.{tainted_by}
+use Rattle.coap_exchange.proofs.Readying.{got-all, got-tainted, ready-same}
 use Rattle.std.proofs.Common.{ℕ, refl, ap, Option}
 use Rattle.coap_exchange.specs.Ready.{ready_of, Tables}
-use Rattle.coap_exchange.specs.Table.{first_that}
-use Rattle.coap_exchange.specs.Waiters.{waits_for}
-use Rattle.coap_exchange.proofs.Readying.{ready-same}
+use Rattle.coap_pending.specs.Table.{first_that}
+use Rattle.coap_pending.specs.Waiters.{waits_for}
 use Rattle.coap_exchange.proofs.under_way.UnderWay.taint.Goals as goal
 
 pub invariant_of-self : goal.invariant_of-self

@@ -1,5 +1,5 @@
 use Rattle.std.proofs.Common.{refl, Some}
-use Rattle.coap_exchange.specs.Exchanges.{changed_by}
+use Rattle.coap_pending.specs.Exchanges.{changed_by}
 use Rattle.coap_exchange.specs.Ready.{Tables}
 use Rattle.coap_exchange.proofs.Readying.{exchange-elsewhere, ready-free, ready-moved, ready-room}
 use Rattle.coap_exchange.proofs.Updating.{updated-others}

@@ -1,7 +1,7 @@
 use Rattle.std.proofs.Common.{ap}
-use Rattle.coap_exchange.specs.declared.waiter.Waiter.{Waiter}
+use Rattle.coap_pending.specs.declared.waiter.Waiter.{Waiter}
 use Rattle.coap_exchange.specs.Ready.{Tables}
-use Rattle.coap_exchange.specs.Table.{Table}
+use Rattle.coap_pending.specs.Table.{Table}
 use Rattle.coap_exchange.proofs.Readying.{ready-free, ready-moved, ready-room}
 use Rattle.coap_exchange.proofs.WaiterUpdating.{updated-elsewhere}
 use Rattle.coap_exchange.proofs.under_way.UnderWay.update_waiter.Goals as goal

@@ -1,6 +1,6 @@
 use Rattle.std.proofs.Common.{◌∙◌, sym}
 use Rattle.coap_exchange.specs.WaiterIndex.{answered_of, end_of}
-use Rattle.coap_exchange.specs.Waiters.{due_after}
+use Rattle.coap_pending.specs.Waiters.{due_after}
 use Rattle.coap_exchange.proofs.Dues.{first_due-split}
 use Rattle.coap_exchange.proofs.WaiterIndexing.{due-parts}
 use Rattle.coap_exchange.proofs.Readying.{ready-first}

@@ -1,5 +1,5 @@
 use Rattle.coap_exchange.specs.Ready.{Tables}
-use Rattle.coap_exchange.proofs.Readying.{withdrawn-others}
+use Rattle.coap_pending.proofs.Tables.{withdrawn-others}
 use Rattle.std.proofs.Common.{refl, Some}
 use Rattle.coap_exchange.proofs.Readying.{exchange-elsewhere, ready-free, ready-moved, ready-room}
 use Rattle.coap_exchange.proofs.under_way.UnderWay.withdraw_exchange.Goals as goal

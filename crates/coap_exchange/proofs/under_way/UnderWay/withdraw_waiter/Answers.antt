@@ -1,9 +1,8 @@
-use Rattle.coap_exchange.specs.Table.{item_at}
-use Rattle.coap_exchange.proofs.Indexing.{withdrawn-gone}
-use Rattle.coap_exchange.proofs.Tables.{withdrawn-limit}
+use Rattle.coap_pending.specs.Table.{item_at}
+use Rattle.endpoint_counts.proofs.Indexing.{withdrawn-gone}
+use Rattle.coap_pending.proofs.Tables.{withdrawn-limit, withdrawn-others}
 use Rattle.coap_exchange.specs.Ready.{Tables}
-use Rattle.coap_exchange.proofs.Readying.{waits-gone, withdrawn-others}
-use Rattle.coap_exchange.proofs.Readying.{waiter-elsewhere, waits-its, ready-free, ready-moved, ready-room}
+use Rattle.coap_exchange.proofs.Readying.{waits-gone, waiter-elsewhere, waits-its, ready-free, ready-moved, ready-room}
 use Rattle.coap_exchange.proofs.under_way.UnderWay.withdraw_waiter.Goals as goal
 
 pub replace-requires-clause-free : goal.replace-requires-clause-free

@@ -1,5 +1,5 @@
 use Rattle.coap_exchange.specs.WaiterIndex.{answered_of}
-use Rattle.coap_exchange.proofs.ByNumber.{first_due-by_number}
+use Rattle.coap_pending.proofs.ByNumber.{first_due-by_number}
 use Rattle.coap_exchange.proofs.waiters.Table+Waiter.first_answered.Goals as goal
 
 pub loop-number-init : goal.loop-number-init

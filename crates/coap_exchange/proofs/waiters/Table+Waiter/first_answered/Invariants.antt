@@ -1,5 +1,5 @@
 use Rattle.std.proofs.Common.{◌≡◌}
-use Rattle.coap_exchange.specs.Due.{sooner, first_due}
+use Rattle.coap_pending.specs.Due.{sooner, first_due}
 use Rattle.coap_exchange.specs.WaiterIndex.{answered_of}
 use Rattle.coap_exchange.proofs.waiters.Table+Waiter.first_answered.Given as goal
 

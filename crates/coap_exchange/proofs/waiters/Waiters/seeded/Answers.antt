@@ -1,7 +1,7 @@
 use Rattle.std.proofs.Common.{Option, ℕ, [], arith, refl}
 use Rattle.std.proofs.lemmas.Result.{IfOk-from_err}
-use Rattle.coap_exchange.specs.declared.waiter.Waiter.{Waiter}
-use Rattle.coap_exchange.specs.Index.{IsIndexOf}
+use Rattle.coap_pending.specs.declared.waiter.Waiter.{Waiter}
+use Rattle.endpoint_counts.specs.IndexOf.{IsIndexOf}
 use Rattle.coap_exchange.proofs.waiters.Waiters.seeded.Goals as goal
 use Rattle.ordered_index.specs.Ordered.{empty_index}
 

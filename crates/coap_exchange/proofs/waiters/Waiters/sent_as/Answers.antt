@@ -1,9 +1,9 @@
 use Rattle.std.proofs.Common.{◌≡◌, ℕ, Some, None, false, true, rules, subst, sym, arith}
 use Rattle.coap_exchange.specs.WaiterIndex.{id_of}
 use Rattle.ordered_index.specs.Ordered.{IsNextOf}
-use Rattle.coap_exchange.specs.Table.{item_at, passes}
-use Rattle.coap_exchange.specs.Waiters.{was_sent_as}
-use Rattle.coap_exchange.proofs.Firsts.{none-start, none-next, first-found, first-missing}
+use Rattle.coap_pending.specs.Table.{item_at, passes}
+use Rattle.coap_pending.specs.Waiters.{was_sent_as}
+use Rattle.endpoint_counts.proofs.Firsts.{none-start, none-next, first-found, first-missing}
 use Rattle.coap_exchange.proofs.WaiterIndexing.{unsent}
 use Rattle.coap_exchange.proofs.waiters.Waiters.sent_as.Goals as goal
 

@@ -1,8 +1,8 @@
 use Rattle.std.proofs.Common.{◌∙◌, refl, subst, sym}
-use Rattle.coap_exchange.specs.declared.waiter.Waiter.{Waiter}
-use Rattle.coap_exchange.specs.Table.{Table, item_at}
+use Rattle.coap_pending.specs.declared.waiter.Waiter.{Waiter}
+use Rattle.coap_pending.specs.Table.{Table, item_at}
 use Rattle.coap_exchange.specs.Updates.{updated_at}
-use Rattle.coap_exchange.specs.Waiters.{changed_by, CanUpdate}
+use Rattle.coap_pending.specs.Waiters.{changed_by, CanUpdate}
 use Rattle.coap_exchange.proofs.Steps.{step-updated, keys-can-pass, keys-passed}
 use Rattle.coap_exchange.proofs.Updating.{of_clients-updated, updated-at, updated-is, within-updated}
 use Rattle.coap_exchange.proofs.WaiterUpdating.{client-after, updatable, waiters-updated}

@@ -1,6 +1,6 @@
 use Rattle.std.proofs.Common.{◌≡◌, ◌∙◌, None, ap, rules}
-use Rattle.coap_exchange.specs.Table.{item_at}
-use Rattle.coap_exchange.proofs.Tables.{given-back-is, last-free, withdrawn-undoes}
+use Rattle.coap_pending.specs.Table.{item_at}
+use Rattle.coap_pending.proofs.Tables.{given-back-is, last-free, withdrawn-undoes}
 use Rattle.coap_exchange.proofs.waiters.Waiters.withdraw.Goals as goal
 
 pub returns-then-is_some-clause-undone : goal.returns-then-is_some-clause-undone

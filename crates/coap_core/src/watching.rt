@@ -1,0 +1,129 @@
+//! What a core shows to those who watch it: what its next tick is about, and what a message meets.
+ghost use Rattle.std.specs.Prelude.{◌≡◌, is_some};
+ghost use Rattle.std.specs.Option.{option_copied, option_map};
+ghost use Rattle.coap_pending.specs.Exchanges.{is_joinable};
+ghost use Rattle.coap_pending.specs.Table.{first_that, item_at};
+ghost use Rattle.coap_model.specs.Ticks.{item_due};
+ghost use Rattle.coap_store.specs.Entries.{stored_for};
+ghost use Rattle.coap_core.specs.Watching as spec;
+
+use crate::proxy::Core;
+use coap_endpoint::Endpoint;
+use coap_exchange::{Exchange, ExchangeNumber, Waiter};
+use coap_message::MessageRef;
+use coap_model::{DueItem, Limits};
+use coap_store::{CacheKey, Store, Stored};
+use coap_target::Routes;
+
+impl<S: Store + Drop> Core<S> {
+    /// The limits that it was made with.
+    pub fn limits(&self) -> &Limits
+        ensures exact { result.now ≡ self.now.setting.limits }
+    {
+        &self.state.setting.limits
+    }
+
+    /// The routes that it was made with.
+    pub fn routes(&self) -> &Routes
+        ensures exact { result.now ≡ self.now.setting.routes }
+    {
+        &self.state.setting.routes
+    }
+
+    /// The number of the exchange that what is due first is about.
+    fn due_number(&self) -> Option<ExchangeNumber>
+        ensures exact { result ≡ spec.number_of_item self.now (item_due self.now) }
+    {
+        match self.due? {
+            DueItem::OfExchange { number, .. } => Some(number),
+            DueItem::OfWaiter { number, .. } => self.state.under_way.waiter(number)?.exchange(),
+        }
+    }
+
+    /// The exchange that the next tick is about, if one is due then: its request is to be sent, or
+    /// sent again, or given up, or its answer is to be sent to a client. None if nothing is due, or
+    /// if a client is due that was sent its answer.
+    pub fn due_exchange(&self) -> Option<&Exchange>
+        ensures exact { option_copied result ≡ spec.due_exchange self.now }
+    {
+        self.state.under_way.exchange(self.due_number()?)
+    }
+
+    /// How many clients wait for that exchange.
+    pub fn due_waiting(&self) -> usize
+        ensures exact { result ≡ spec.due_waiting self.now }
+    {
+        match self.due_number() {
+            Some(number) => self.state.under_way.waiters().waiting_for(number),
+            None => 0,
+        }
+    }
+
+    /// The client that the next tick is about, if one is due then: it is to be sent its answer, or
+    /// sent it again, or given up.
+    pub fn due_waiter(&self) -> Option<&Waiter>
+        ensures exact { option_copied result ≡ spec.due_waiter self.now }
+    {
+        match self.due? {
+            DueItem::OfExchange { .. } => None,
+            DueItem::OfWaiter { number, .. } => self.state.under_way.waiter(number),
+        }
+    }
+
+    /// The exchange that awaits this response from this endpoint.
+    pub fn awaited(&self, from: Endpoint, response: &MessageRef<'_>) -> Option<&Exchange>
+        ensures exact { option_copied result ≡ spec.awaited self.now from response.now }
+    {
+        let number = self.state.awaiting(from, response)?;
+        self.state.under_way.exchange(number)
+    }
+
+    /// The exchange that was opened last, if it is still in progress.
+    pub fn newest_exchange(&self) -> Option<&Exchange>
+        ensures exact { option_copied result ≡ item_at self.now.opened self.now.exchanges }
+    {
+        let number = self.state.under_way.exchanges().admitted();
+        self.state.under_way.exchange(number)
+    }
+
+    /// Whether a GET with this key may share the answer of an exchange that is in progress.
+    pub fn is_joinable(&self, key: &CacheKey) -> bool
+        ensures exact { result
+            ≡ is_some (first_that (is_joinable key.now) self.now.exchanges) }
+    {
+        self.state.under_way.exchanges().joinable(key).is_some()
+    }
+
+    /// The key that the last request asked for of those that had one. It is what that step left
+    /// behind, of which no clause speaks.
+    pub fn last_key(&self) -> &CacheKey {
+        &self.state.room.key
+    }
+
+    /// The store.
+    pub fn store(&self) -> &S
+        ensures entries { S.entries result.now ≡ self.now.store }
+    {
+        &self.state.store
+    }
+
+    /// What is stored for a key, fresh or not. It doesn't count as a use.
+    pub fn stored(&self, key: &CacheKey) -> Option<&Stored>
+        ensures exact { option_map (λ stored. stored.now) result
+            ≡ stored_for key.now self.now.store }
+    {
+        self.state.store.peek(key)
+    }
+
+    /// The number of Message IDs that are free at the moment of the last step: neither given nor
+    /// reserved for requests that are still to be sent, or for clients that are still to be served.
+    pub fn free_ids(&self) -> u64
+        ensures exact { result ≡ spec.free_ids self.now }
+    {
+        let waiting = self.state.under_way.waiters().waiting() as u64;
+        let queued = self.state.under_way.exchanges().queued() as u64;
+        u64::from(self.state.ids.left(self.state.last))
+            .saturating_sub(waiting)
+            .saturating_sub(queued)
+    }
+}

@@ -1,0 +1,22 @@
+-- An exchange stays that of the client that opened it.
+use Rattle.std.proofs.Common.{◌≡◌, ◌+◌, ◌-◌, ◌<◌, ◌≤◌, Bool, true, false, cond, [], ◌∷◌, ◌++◌, refl, ◌∙◌, arith}
+use Rattle.coap_endpoint.specs.declared.target.Target.{Target}
+use Rattle.coap_pending.specs.declared.exchange.Exchange.{Exchange}
+use Rattle.coap_pending.specs.declared.exchange.Change.{Change}
+use Rattle.coap_pending.specs.declared.exchange.Change.TheVariants as change
+use Rattle.coap_pending.specs.Exchanges.{changed_by, is_changed_with, tainted_by}
+
+-- as it changes
+pub client-after : (ch : Change) (x : Exchange) → (changed_by ch x).client ≡ x.client
+client-after (change.Send s) x = refl
+client-after (change.Fire now) x = refl
+client-after change.Acknowledge x = refl
+client-after (change.Answer a) x = refl
+
+-- as it is tainted
+pub client-tainted : (target : Target) (x : Exchange) → (tainted_by target x).client ≡ x.client
+client-tainted target x = go (is_changed_with target x)
+  where
+    go : (b : Bool) → (cond b (record x { tainted = true }) x).client ≡ x.client
+    go true = refl
+    go false = refl

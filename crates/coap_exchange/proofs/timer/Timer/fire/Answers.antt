@@ -1,5 +1,0 @@
-use Rattle.std.proofs.Common.{rules}
-use Rattle.coap_exchange.proofs.timer.Timer.fire.Goals as goal
-
-pub returns-clause-fired : goal.returns-clause-fired
-returns-clause-fired c = search rules

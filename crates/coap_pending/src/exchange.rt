@@ -1,0 +1,266 @@
+//! Exchanges: requests on their way to an origin.
+ghost use Rattle.std.specs.Prelude.{◌≡◌, ◌≤◌, ◌^◌};
+ghost use Rattle.std.specs.Option.{option_copied};
+ghost use Rattle.coap_pending.specs.Exchanges.{answer_at, changed_by, fire_of_sending, fired_exchange, is_as, is_acked, is_changed_with, is_joinable, is_queued, is_sent, tainted_by, was_sent_as, CanChange, CanFire, is_queued_to, sends, asked_of, is_in_flight, was_sent_with};
+
+use crate::timer::{Fire, Timer};
+use coap_endpoint::{Endpoint, Target};
+use coap_message::{EXCHANGE_LIFETIME, Moment, Seq, set_id};
+use coap_store::{Answer, CacheKey, EventNumber, Stored};
+
+/// The number of an exchange. They count up from 1.
+pub type ExchangeNumber = u64;
+
+/// How a request was sent.
+#[derive(Clone, Copy)]
+pub struct Sending {
+    /// The number of the event in which the request was first sent.
+    pub asked: EventNumber,
+    /// The Message ID of the request.
+    pub id: u16,
+    pub timer: Timer,
+}
+
+impl Sending {
+    /// Whether it has this id, and started less than 247,000 milliseconds before `now`.
+    pub fn is_as(&self, id: u16, now: Moment) -> bool
+        ensures exact { result ≡ is_as id now self.now }
+    {
+        self.id == id && now.saturating_sub(self.timer.started) < EXCHANGE_LIFETIME
+    }
+}
+
+/// The state of an exchange.
+///
+/// ```text
+///           a tick sends          acknowledged           the answer            its last waiter
+/// Queued  -------------->  Sent  -------------->  Acked  --------->  Done     ----------------> closed
+///                                                                  is served
+/// ```
+///
+/// An answer may come in each of the first three states: a response, or the proxy's own answer if
+/// no response can come any more.
+#[derive(Drop)]
+pub enum ExchangeState {
+    /// The request is waiting for its turn.
+    Queued,
+    /// The request was sent, and neither an acknowledgement nor an answer has come.
+    Sent,
+    /// The request was acknowledged, and no answer has come.
+    Acked,
+    /// The answer has come.
+    Done(Answer),
+}
+
+/// A request on its way to an origin.
+pub struct Exchange {
+    /// The client that opened it.
+    pub client: Endpoint,
+    /// What its response is cached under: the target, and the options that are part of the cache
+    /// key.
+    pub key: CacheKey,
+    /// Whether the method is GET.
+    pub is_get: bool,
+    /// The encoded request that is forwarded. Its Message ID is 0 until it is sent.
+    pub form: Seq<u8>,
+    /// The stored response that the request asks to validate, if it does (RFC 7252, 5.6.2).
+    pub copy: Option<Stored>,
+    /// When the exchange was opened, in milliseconds.
+    pub admitted: Moment,
+    /// How the request was sent, once it has been.
+    pub sending: Option<Sending>,
+    /// Whether its target has changed since the request was sent (RFC 7252, 5.9.1).
+    pub tainted: bool,
+    pub state: ExchangeState,
+}
+
+impl Drop for Exchange {
+    fn drop(self) {
+        let Exchange {
+            client: _,
+            key: _,
+            is_get: _,
+            form: _,
+            copy: _,
+            admitted: _,
+            sending: _,
+            tainted: _,
+            state: _,
+        } = self;
+    }
+}
+
+/// A change to an exchange.
+#[derive(Drop)]
+pub enum Change {
+    /// Its request is sent.
+    Send(Sending),
+    /// Its timer is due at this moment, in milliseconds.
+    Fire(Moment),
+    /// Its request is acknowledged.
+    Acknowledge,
+    /// Its answer has come.
+    Answer(Answer),
+}
+
+impl Change {
+    /// Whether an exchange is in the sent state after this change, given whether it was before.
+    pub fn sends(&self, was: bool) -> bool
+        ensures exact { result ≡ sends self.now was }
+    {
+        match self {
+            Change::Send(_) => true,
+            Change::Fire(_) => was,
+            Change::Acknowledge | Change::Answer(_) => false,
+        }
+    }
+}
+
+impl Exchange {
+    /// Whether the request is waiting for its turn.
+    pub fn is_queued(&self) -> bool
+        ensures exact { result ≡ is_queued self.now }
+    {
+        match self.state {
+            ExchangeState::Queued => true,
+            ExchangeState::Sent | ExchangeState::Acked | ExchangeState::Done(_) => false,
+        }
+    }
+
+    /// Whether the request was sent, and neither an acknowledgement nor an answer has come.
+    pub fn is_sent(&self) -> bool
+        ensures exact { result ≡ is_sent self.now }
+    {
+        match self.state {
+            ExchangeState::Sent => true,
+            ExchangeState::Queued | ExchangeState::Acked | ExchangeState::Done(_) => false,
+        }
+    }
+
+    /// Whether the request was acknowledged, and no answer has come.
+    pub fn is_acked(&self) -> bool
+        ensures exact { result ≡ is_acked self.now }
+    {
+        match self.state {
+            ExchangeState::Acked => true,
+            ExchangeState::Queued | ExchangeState::Sent | ExchangeState::Done(_) => false,
+        }
+    }
+
+    /// Whether the request was sent, and no answer has come.
+    pub fn is_in_flight(&self) -> bool
+        ensures exact { result ≡ is_in_flight self.now }
+    {
+        self.is_sent() || self.is_acked()
+    }
+
+    /// Whether the request was sent with Message ID `id`, however long ago.
+    pub fn was_sent_with(&self, id: u16) -> bool
+        ensures exact { result ≡ was_sent_with id self.now.sending }
+    {
+        match &self.sending {
+            Some(sending) => sending.id == id,
+            None => false,
+        }
+    }
+
+    /// The number of the event in which the request was first sent; 0 before that.
+    pub fn asked(&self) -> EventNumber
+        ensures exact { result ≡ asked_of self.now.sending }
+    {
+        match &self.sending {
+            Some(sending) => sending.asked,
+            None => 0,
+        }
+    }
+
+    /// Whether the request is waiting for its turn with this endpoint.
+    pub fn is_queued_to(&self, at: Endpoint) -> bool
+        ensures exact { result ≡ is_queued_to at self.now }
+    {
+        self.is_queued() && self.key.target.at == at
+    }
+
+    /// The answer, if it has come.
+    pub fn answer(&self) -> Option<&Answer>
+        ensures exact { option_copied result ≡ answer_at self.now }
+    {
+        match &self.state {
+            ExchangeState::Done(answer) => Some(answer),
+            ExchangeState::Queued | ExchangeState::Sent | ExchangeState::Acked => None,
+        }
+    }
+
+    /// Whether a GET with this key may share its answer: the exchange is a GET with an equal key,
+    /// its target hasn't changed since it was sent, and its answer hasn't come.
+    pub fn is_joinable(&self, key: &CacheKey) -> bool
+        ensures exact { result ≡ is_joinable key.now self.now }
+    {
+        self.is_get && !self.tainted && self.answer().is_none() && self.key == *key
+    }
+
+    /// Whether its request was sent to the endpoint `at` with Message ID `id`, less than 247,000
+    /// milliseconds before `now` (RFC 7252, 4.4).
+    pub fn was_sent_as(&self, at: Endpoint, id: u16, now: Moment) -> bool
+        ensures exact { result ≡ was_sent_as at id now self.now }
+    {
+        match &self.sending {
+            Some(sending) => self.key.target.at == at && sending.is_as(id, now),
+            None => false,
+        }
+    }
+
+    /// Whether a change of this target affects its answer: its request to that target was sent, and
+    /// no answer has come.
+    pub fn is_changed_with(&self, target: &Target) -> bool
+        ensures exact { result ≡ is_changed_with target.now self.now }
+    {
+        (self.is_sent() || self.is_acked()) && self.key.target == *target
+    }
+
+    /// What its timer calls for, now that it is due.
+    pub fn fire_of(&self, now: Moment) -> Fire
+        ensures exact { result ≡ fire_of_sending now self.now.sending }
+    {
+        match &self.sending {
+            Some(sending) => sending.timer.fire_of(now),
+            None => Fire::GiveUp,
+        }
+    }
+
+    /// Applies a change.
+    pub fn change(&mut self, change: Change)
+        requires { CanChange change self.old }
+        ensures exact { self.new ≡ changed_by change self.old }
+    {
+        match change {
+            Change::Send(sending) => {
+                set_id(&mut self.form, sending.id);
+                self.sending = Some(sending);
+                self.state = ExchangeState::Sent;
+            }
+            Change::Fire(now) => self.fire(now),
+            Change::Acknowledge => self.state = ExchangeState::Acked,
+            Change::Answer(answer) => self.state = ExchangeState::Done(answer),
+        }
+    }
+
+    fn fire(&mut self, now: Moment)
+        requires now { now ≤ 2 ^ 62 }
+        requires timer { CanFire now self.old.sending }
+        ensures exact { self.new ≡ fired_exchange now self.old }
+    {
+        if let Some(sending) = &mut self.sending {
+            sending.timer.fire(now);
+        }
+    }
+
+    /// Taints it if a change of this target affects its answer.
+    pub fn taint(&mut self, target: &Target)
+        ensures exact { self.new ≡ tainted_by target.now self.old }
+    {
+        if self.is_changed_with(target) {
+            self.tainted = true;
+        }
+    }
+}

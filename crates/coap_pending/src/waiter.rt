@@ -1,0 +1,188 @@
+//! Waiters: clients that wait for an exchange.
+ghost use Rattle.std.specs.Prelude.{◌≡◌, ◌≤◌, ◌^◌};
+ghost use Rattle.coap_pending.specs.Waiters.{changed_by, exchange_of, fire_of_state, fired_waiter, is_waiting, joined, was_sent_as, waits_for, CanChange, CanFire};
+
+use crate::exchange::ExchangeNumber;
+use crate::timer::{Fire, Timer};
+use coap_endpoint::Endpoint;
+use coap_message::{EXCHANGE_LIFETIME, Kind, Moment, Pieces, Seq, Token};
+use std::alloc::Global;
+
+/// The number of a waiter. They count up from 1.
+pub type WaiterNumber = u64;
+
+/// The state of a waiter.
+///
+/// ```text
+///            its exchange is done, a tick serves it
+/// Waiting  ------------------------------------------>  closed, if its request was Non-confirmable
+///    |
+///    +------>  Delivering  -------------------------->  closed
+///                           acknowledged, or given up
+/// ```
+#[derive(Drop)]
+pub enum WaiterState {
+    /// It is waiting for the exchange of this number.
+    Waiting(ExchangeNumber),
+    /// It was sent the response in a Confirmable message, and hasn't acknowledged it.
+    Delivering {
+        /// The encoded response.
+        bytes: Seq<u8>,
+        /// The Message ID of the response.
+        id: u16,
+        timer: Timer,
+    },
+}
+
+/// A client that waits for an exchange, or that is being sent a response.
+pub struct Waiter {
+    pub client: Endpoint,
+    /// The type of the message that carried its request.
+    pub kind: Kind,
+    /// The token of its request; empty once the response was sent.
+    pub token: Token,
+    /// The ETags of the responses that it already holds (RFC 7252, 5.10.6.2); none once the
+    /// response was sent.
+    pub tags: Pieces,
+    pub state: WaiterState,
+}
+
+impl Drop for Waiter {
+    fn drop(self) {
+        let Waiter {
+            client: _,
+            kind: _,
+            token: _,
+            tags: _,
+            state: _,
+        } = self;
+    }
+}
+
+/// A request that waits for an exchange.
+#[derive(Drop)]
+pub struct Joining {
+    /// The client that sent it.
+    pub client: Endpoint,
+    /// The type of the message that carried it.
+    pub kind: Kind,
+    pub token: Token,
+    /// The ETags of the responses that the client already holds (RFC 7252, 5.10.6.2).
+    pub tags: Pieces,
+    /// The number of the exchange.
+    pub exchange: ExchangeNumber,
+}
+
+impl Joining {
+    /// The waiter that it becomes.
+    pub fn joined(self) -> Waiter
+        ensures exact { result ≡ joined self }
+    {
+        Waiter {
+            client: self.client,
+            kind: self.kind,
+            token: self.token,
+            tags: self.tags,
+            state: WaiterState::Waiting(self.exchange),
+        }
+    }
+}
+
+/// A change to a waiter.
+#[derive(Drop)]
+pub enum WaiterChange {
+    /// It is sent the response.
+    Deliver {
+        bytes: Seq<u8>,
+        id: u16,
+        timer: Timer,
+    },
+    /// Its timer is due at this moment, in milliseconds.
+    Fire(Moment),
+}
+
+impl Waiter {
+    /// The exchange that it waits for, if the response wasn't sent yet.
+    pub fn exchange(&self) -> Option<ExchangeNumber>
+        ensures exact { result ≡ exchange_of self.now.state }
+    {
+        match &self.state {
+            WaiterState::Waiting(exchange) => Some(*exchange),
+            WaiterState::Delivering { .. } => None,
+        }
+    }
+
+    /// Whether it waits for an exchange.
+    pub fn is_waiting(&self) -> bool
+        ensures exact { result ≡ is_waiting self.now }
+    {
+        match &self.state {
+            WaiterState::Waiting(_) => true,
+            WaiterState::Delivering { .. } => false,
+        }
+    }
+
+    /// Whether it waits for the exchange of this number.
+    pub fn waits_for(&self, exchange: ExchangeNumber) -> bool
+        ensures exact { result ≡ waits_for exchange self.now }
+    {
+        match &self.state {
+            WaiterState::Waiting(number) => *number == exchange,
+            WaiterState::Delivering { .. } => false,
+        }
+    }
+
+    /// Whether the response was sent to the endpoint `at` with Message ID `id`, less than 247,000
+    /// milliseconds before `now` (RFC 7252, 4.4).
+    pub fn was_sent_as(&self, at: Endpoint, id: u16, now: Moment) -> bool
+        ensures exact { result ≡ was_sent_as at id now self.now }
+    {
+        match &self.state {
+            WaiterState::Waiting(_) => false,
+            WaiterState::Delivering {
+                bytes: _,
+                id: other,
+                timer,
+            } => {
+                self.client == at
+                    && *other == id
+                    && now.saturating_sub(timer.started) < EXCHANGE_LIFETIME
+            }
+        }
+    }
+
+    /// What its timer calls for, now that it is due.
+    pub fn fire_of(&self, now: Moment) -> Fire
+        ensures exact { result ≡ fire_of_state now self.now.state }
+    {
+        match &self.state {
+            WaiterState::Waiting(_) => Fire::GiveUp,
+            WaiterState::Delivering { timer, .. } => timer.fire_of(now),
+        }
+    }
+
+    /// Applies a change.
+    pub fn change(&mut self, change: WaiterChange, alloc: Global)
+        requires { CanChange change self.old }
+        ensures exact { self.new ≡ changed_by change self.old }
+    {
+        match change {
+            WaiterChange::Deliver { bytes, id, timer } => {
+                self.token = Token::empty();
+                self.tags = Pieces::new(alloc);
+                self.state = WaiterState::Delivering { bytes, id, timer };
+            }
+            WaiterChange::Fire(now) => self.fire(now),
+        }
+    }
+
+    fn fire(&mut self, now: Moment)
+        requires now { now ≤ 2 ^ 62 }
+        requires timer { CanFire now self.old.state }
+        ensures exact { self.new ≡ fired_waiter now self.old }
+    {
+        if let WaiterState::Delivering { timer, .. } = &mut self.state {
+            timer.fire(now);
+        }
+    }
+}

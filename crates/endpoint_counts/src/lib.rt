@@ -1,0 +1,25 @@
+//! How many items of a table each endpoint has: exchanges with an origin, exchanges that a client
+//! opened, or requests of a client that wait.
+//!
+//! # First use
+//!
+//! ```rust
+//! let mut clients = EndpointMap::new(alloc, 256, 0)?;
+//! enter(&mut clients, Peer::new(client)); // a request of this client waits
+//! assert!(rt; count_of(&clients, Peer::new(client)) == 1);
+//! ```
+#![tactic(auto)]
+
+pub mod by_client;
+mod digest;
+mod endpoint_map;
+mod endpoints;
+mod peer;
+mod slots;
+
+pub use endpoint_map::EndpointMap;
+pub use endpoints::{
+    EndpointCounts, Stage, close_one, counts_at, counts_of, lowered, move_one, open_one,
+};
+pub use peer::Peer;
+pub use slots::Entry;
