@@ -1,50 +1,124 @@
-//! Why a message was refused, ignored or dropped, in words. The causes are found again from the
-//! message and from what the proxy holds: a step doesn't give them.
+//! Why a message was refused, ignored or dropped, in words, for an account and for a log. The causes
+//! are found again from the message and from what the proxy holds: a step doesn't give them.
 
-use coap_core::{Core, LimitValues};
+use crate::lacks::{Lack, Lacks, Share, Usage};
+use coap_core::{Core, Exchange};
 use coap_endpoint::Endpoint;
-use coap_forward::{SentRequest, answer_of};
 use coap_message::{Code, Kind, MessageRef};
 use coap_option::{screen_request_ref, screen_response_ref};
-use coap_store::Store;
-use std::alloc::Global;
+use coap_store::{Store, tag_of};
 use std::io;
 use std::io::Write;
 
+impl Share {
+    /// The name of a share, as an account has it.
+    fn name(self) -> &'static str {
+        match self {
+            Share::Exchanges => "exchanges",
+            Share::ClientExchanges => "client exchanges",
+            Share::Waiters => "waiters",
+            Share::ClientWaiters => "client waiters",
+            Share::Con => "con",
+            Share::ClientCon => "client con",
+            Share::Non => "non",
+            Share::ClientNon => "client non",
+            Share::Ids => "ids",
+        }
+    }
+
+    /// The same as a key of a log.
+    pub(crate) fn key(self) -> &'static str {
+        match self {
+            Share::ClientExchanges => "client_exchanges",
+            Share::ClientWaiters => "client_waiters",
+            Share::ClientCon => "client_con",
+            Share::ClientNon => "client_non",
+            Share::Exchanges | Share::Waiters | Share::Con | Share::Non | Share::Ids => self.name(),
+        }
+    }
+}
+
+/// Adds what is lacking: `NAME COUNT/LIMIT` for each share.
+pub(crate) fn put_lacks<W: Write>(line: &mut W, lacks: &Lacks) -> io::Result<()> {
+    for lack in lacks.iter().flatten() {
+        let Lack {
+            share,
+            count,
+            limit,
+        } = *lack;
+        let name = share.name();
+        write!(line, " {name} {count}/{limit}")?;
+    }
+    Ok(())
+}
+
+/// What was lacking for a request that was turned away with 5.03, in the step that was done last: a
+/// GET that could have shared the answer of an exchange needed less.
+pub(crate) fn overload_of<S: Store + Drop>(
+    core: &Core<S>,
+    client: Endpoint,
+    request: &MessageRef<'_>,
+) -> Lacks {
+    let mut usage = Usage::of(core, client);
+    if request.kind() == Kind::Non {
+        // its own reply took one
+        usage.free_ids = usage.free_ids.saturating_add(1);
+    }
+    if request.code() == Code::GET && core.is_joinable(core.last_key()) {
+        usage.to_join()
+    } else {
+        usage.to_open()
+    }
+}
+
 /// Why a request was refused with a code.
-pub(crate) fn put_refusal(
-    line: &mut Vec<u8>,
+#[derive(Clone, Copy, Debug, PartialEq, Eq)]
+pub(crate) enum Refusal {
+    /// An option that it may not have.
+    Option(u16),
+    Uri,
+    NoMap,
+    Method,
+    NotProxied,
+    Length,
+}
+
+/// Why a request was refused with a code.
+fn refusal_of(code: Code, request: &MessageRef<'_>) -> Refusal {
+    if code == Code::BAD_REQUEST {
+        Refusal::Uri
+    } else if code == Code::NOT_FOUND {
+        Refusal::NoMap
+    } else if code == Code::METHOD_NOT_ALLOWED {
+        Refusal::Method
+    } else if code == Code::PROXYING_NOT_SUPPORTED {
+        Refusal::NotProxied
+    } else {
+        match screen_request_ref(request) {
+            Err(bad) if code == Code::BAD_OPTION => Refusal::Option(bad.number),
+            Err(_) | Ok(()) => Refusal::Length,
+        }
+    }
+}
+
+/// Adds why a request was refused with a code.
+pub(crate) fn put_refusal<W: Write>(
+    line: &mut W,
     code: Code,
     request: &MessageRef<'_>,
 ) -> io::Result<()> {
-    if code == Code::BAD_OPTION {
-        return match screen_request_ref(request) {
-            Err(bad) => put_option_number(line, bad.number),
-            Ok(()) => Ok(()),
-        };
+    match refusal_of(code, request) {
+        Refusal::Option(number) => write!(line, " option {number}"),
+        Refusal::Uri => line.write_all(b" uri"),
+        Refusal::NoMap => line.write_all(b" no map"),
+        Refusal::Method => line.write_all(b" method"),
+        Refusal::NotProxied => line.write_all(b" not proxied"),
+        Refusal::Length => line.write_all(b" length"),
     }
-    if code == Code::BAD_REQUEST {
-        return line.write_all(b" uri");
-    }
-    if code == Code::NOT_FOUND {
-        return line.write_all(b" no map");
-    }
-    if code == Code::METHOD_NOT_ALLOWED {
-        return line.write_all(b" method");
-    }
-    if code == Code::PROXYING_NOT_SUPPORTED {
-        return line.write_all(b" not proxied");
-    }
-    line.write_all(b" length")
-}
-
-/// Adds the number of an option.
-fn put_option_number(line: &mut Vec<u8>, number: u16) -> io::Result<()> {
-    write!(line, " option {number}")
 }
 
 /// Why a message wasn't processed.
-pub(crate) fn put_unprocessed(line: &mut Vec<u8>, bytes: &[u8], most: u64) -> io::Result<()> {
+pub(crate) fn put_unprocessed<W: Write>(line: &mut W, bytes: &[u8], most: u64) -> io::Result<()> {
     if bytes.len() as u64 > most {
         return line.write_all(b" length");
     }
@@ -64,97 +138,84 @@ pub(crate) fn put_unprocessed(line: &mut Vec<u8>, bytes: &[u8], most: u64) -> io
     }
 }
 
-/// Adds a share, if it has reached its limit: `NAME COUNT/LIMIT`. Returns whether it has.
-fn put_full(line: &mut Vec<u8>, name: &str, count: u64, limit: u64) -> io::Result<bool> {
-    if count < limit {
-        return Ok(false);
-    }
-    write!(line, " {name} {count}/{limit}")?;
-    Ok(true)
+/// Why a client gets 5.02 of the proxy's own in place of what an origin sent.
+#[derive(Clone, Copy, Debug, PartialEq, Eq)]
+pub(crate) enum BadGateway {
+    /// It was a Reset.
+    Reset,
+    /// It has an option that it may not have.
+    Option(u16),
+    /// It is a 2.03 for another ETag than was asked for, or none was.
+    Tag,
+    /// It is too long, or what it renews is.
+    TooLong,
 }
 
-/// Why there was no room for an exchange or a waiter: what has reached its limit, of all clients or
-/// of this one; otherwise too few Message IDs were free.
-pub(crate) fn put_overload<S: Store + Drop>(
-    line: &mut Vec<u8>,
-    core: &Core<S>,
-    limits: &LimitValues,
-    client: Endpoint,
-) -> io::Result<()> {
-    let all = core.counts();
-    let own = core.client_counts(client);
-    let exchanges = put_full(line, "exchanges", all.exchanges, limits.exchanges)?;
-    let opened = put_full(
-        line,
-        "client exchanges",
-        own.exchanges,
-        limits.client_exchanges,
-    )?;
-    let waiters = put_full(line, "waiters", all.waiters, limits.waiters)?;
-    let waiting = put_full(line, "client waiters", own.waiters, limits.client_waiters)?;
-    if exchanges || opened || waiters || waiting {
-        return Ok(());
-    }
-    line.write_all(b" ids")
-}
-
-/// Why there was no room for a record of a message of this type: the records of all clients, or of
-/// this one.
-pub(crate) fn put_record_room<S: Store + Drop>(
-    line: &mut Vec<u8>,
-    core: &Core<S>,
-    limits: &LimitValues,
-    client: Endpoint,
-    kind: Kind,
-) -> io::Result<()> {
-    let all = core.counts();
-    let own = core.client_counts(client);
-    if kind == Kind::Con {
-        put_full(line, "con", all.con_records, limits.con_records)?;
-        put_full(
-            line,
-            "client con",
-            own.con_records,
-            limits.client_con_records,
-        )?;
-    } else {
-        put_full(line, "non", all.non_records, limits.non_records)?;
-        put_full(
-            line,
-            "client non",
-            own.non_records,
-            limits.client_non_records,
-        )?;
-    }
-    Ok(())
-}
-
-/// Why a response that was awaited is passed on as 5.02, if it is for what it holds itself: a Reset,
-/// an option, or its length. Of a 2.03 that isn't known, since it renews what is stored.
-pub(crate) fn put_bad_gateway(
-    line: &mut Vec<u8>,
-    alloc: Global,
-    response: &MessageRef<'_>,
-    most: u64,
-) -> io::Result<bool> {
-    if response.kind() == Kind::Rst {
-        line.write_all(b" 5.02 reset")?;
-        return Ok(true);
-    }
-    if let Err(bad) = screen_response_ref(response) {
-        line.write_all(b" 5.02")?;
-        put_option_number(line, bad.number)?;
-        return Ok(true);
-    }
-    let request = SentRequest {
-        is_get: false,
-        copy: None,
-    };
-    match answer_of(alloc, most as usize, request, 0, response) {
-        Ok(answer) if answer.own => {
-            line.write_all(b" 5.02 doesn't fit")?;
-            Ok(true)
+impl BadGateway {
+    /// The cause, if a response is passed on as 5.02. The exchange is the one that awaits it.
+    pub(crate) fn of(response: &MessageRef<'_>, awaited: Option<&Exchange>) -> BadGateway {
+        if response.kind() == Kind::Rst {
+            return BadGateway::Reset;
         }
-        _ => Ok(false),
+        if let Err(bad) = screen_response_ref(response) {
+            return BadGateway::Option(bad.number);
+        }
+        match awaited {
+            Some(exchange) if is_other_tag(response, exchange) => BadGateway::Tag,
+            Some(_) | None => BadGateway::TooLong,
+        }
+    }
+
+    /// The cause in a word.
+    pub(crate) fn word(self) -> &'static str {
+        match self {
+            BadGateway::Reset => "reset",
+            BadGateway::Option(_) => "option",
+            BadGateway::Tag => "tag",
+            BadGateway::TooLong => "length",
+        }
+    }
+
+    /// Adds the cause, as an account has it.
+    pub(crate) fn put<W: Write>(self, line: &mut W) -> io::Result<()> {
+        match self {
+            BadGateway::Option(number) => write!(line, "option {number}"),
+            BadGateway::TooLong => line.write_all(b"doesn't fit"),
+            BadGateway::Reset | BadGateway::Tag => line.write_all(self.word().as_bytes()),
+        }
+    }
+}
+
+/// Whether a response is a 2.03 to a GET that asked for another ETag, or for none (RFC 7252,
+/// 5.9.1.3).
+fn is_other_tag(response: &MessageRef<'_>, exchange: &Exchange) -> bool {
+    if response.code() != Code::VALID || !exchange.is_get {
+        return false;
+    }
+    let Some(copy) = &exchange.copy else {
+        return true;
+    };
+    tag_of(&response.option_list()) != tag_of(&copy.response.options.lent())
+}
+
+/// How far an exchange was when its origin was given up: why a client gets 5.04.
+#[derive(Clone, Copy, Debug, PartialEq, Eq)]
+pub(crate) enum Silence {
+    /// Its request never had its turn.
+    NotSent,
+    /// Its request was sent, and not acknowledged.
+    NotAcknowledged,
+    /// Its request was acknowledged, and not answered.
+    NotAnswered,
+}
+
+impl Silence {
+    /// The cause in a word.
+    pub(crate) fn word(self) -> &'static str {
+        match self {
+            Silence::NotSent => "unsent",
+            Silence::NotAcknowledged => "unacknowledged",
+            Silence::NotAnswered => "unanswered",
+        }
     }
 }

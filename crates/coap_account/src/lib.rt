@@ -1,9 +1,9 @@
-//! Accounts: what each event was and what it did, in a line of words.
+//! Accounts and logs: what each event was and what it did, in a line of words; and what goes wrong.
 //!
 //! # First use
 //!
 //! ```rust
-//! let mut explainer = Explainer::new(alloc, limits, routes, &mut output);
+//! let mut explainer = Explainer::new(alloc, &mut output)?;
 //! let budget = Budget { alloc, turns: 1 };
 //! replay_watched(budget, &mut input, &mut lines, &mut core, &mut explainer)?;
 //! drop(explainer);
@@ -13,8 +13,14 @@
 #![tactic(auto)]
 
 mod causes;
+mod due;
 mod explainer;
+mod lacks;
+mod logger;
 mod messages;
 mod outcomes;
+mod ring;
+mod silent;
 
 pub use explainer::Explainer;
+pub use logger::Logger;

@@ -11,20 +11,20 @@ use std::net::Ipv6Addr;
 const DEFAULT_PORT: u16 = 5683;
 
 /// Adds four numbers, with dots between them.
-fn put_octets(line: &mut Vec<u8>, octets: [u8; 4]) -> io::Result<()> {
+fn put_octets<W: Write>(line: &mut W, octets: [u8; 4]) -> io::Result<()> {
     let [a, b, c, d] = octets;
     write!(line, "{a}.{b}.{c}.{d}")
 }
 
 /// Adds eight groups in brackets, with colons between them.
-fn put_groups(line: &mut Vec<u8>, octets: [u8; 16]) -> io::Result<()> {
+fn put_groups<W: Write>(line: &mut W, octets: [u8; 16]) -> io::Result<()> {
     let [a, b, c, d, e, f, g, h] = Ipv6Addr::from_octets(octets).segments();
     write!(line, "[{a:x}:{b:x}:{c:x}:{d:x}:")?;
     write!(line, "{e:x}:{f:x}:{g:x}:{h:x}]")
 }
 
 /// Adds an address: four numbers, or eight groups in brackets.
-fn put_ip(line: &mut Vec<u8>, ip: Ip) -> io::Result<()> {
+fn put_ip<W: Write>(line: &mut W, ip: Ip) -> io::Result<()> {
     match ip {
         Ip::V4(octets) => put_octets(line, octets),
         Ip::V6(octets) => put_groups(line, octets),
@@ -32,7 +32,7 @@ fn put_ip(line: &mut Vec<u8>, ip: Ip) -> io::Result<()> {
 }
 
 /// Adds an endpoint as a replay's lines have it: its address, a colon, and its port.
-pub(crate) fn put_endpoint(line: &mut Vec<u8>, endpoint: Endpoint) -> io::Result<()> {
+pub(crate) fn put_endpoint<W: Write>(line: &mut W, endpoint: Endpoint) -> io::Result<()> {
     put_ip(line, endpoint.ip)?;
     let port = endpoint.port;
     write!(line, ":{port}")
@@ -50,7 +50,7 @@ fn kind_name(kind: Kind) -> &'static str {
 
 /// Adds a code: the name of a method (RFC 7252, 5.8), or the class, a dot and the detail in two
 /// digits.
-pub(crate) fn put_code(line: &mut Vec<u8>, code: Code) -> io::Result<()> {
+pub(crate) fn put_code<W: Write>(line: &mut W, code: Code) -> io::Result<()> {
     match code.0 {
         1 => line.write_all(b"GET"),
         2 => line.write_all(b"POST"),
@@ -64,7 +64,7 @@ pub(crate) fn put_code(line: &mut Vec<u8>, code: Code) -> io::Result<()> {
 }
 
 /// Adds the type of a message, and its method or its code.
-pub(crate) fn put_kind(line: &mut Vec<u8>, message: &MessageRef<'_>) -> io::Result<()> {
+pub(crate) fn put_kind<W: Write>(line: &mut W, message: &MessageRef<'_>) -> io::Result<()> {
     let kind = kind_name(message.kind());
     write!(line, " {kind} ")?;
     put_code(line, message.code())
@@ -79,7 +79,7 @@ const PLAIN_IN_PARTS: &[u8] = b"-._~!$'()*+,;=:@";
 
 /// Adds bytes that a peer chose, with `%XX` for each that is no letter, no digit, and none of
 /// these.
-fn put_escaped(line: &mut Vec<u8>, bytes: &[u8], plain: &[u8]) -> io::Result<()> {
+fn put_escaped<W: Write>(line: &mut W, bytes: &[u8], plain: &[u8]) -> io::Result<()> {
     for byte in bytes {
         if byte.is_ascii_alphanumeric() || plain.contains(byte) {
             line.write_all(&[*byte])?;
@@ -91,7 +91,7 @@ fn put_escaped(line: &mut Vec<u8>, bytes: &[u8], plain: &[u8]) -> io::Result<()>
 }
 
 /// Adds a host that a client named: a name, or an IPv6 address in brackets.
-fn put_host(line: &mut Vec<u8>, host: &[u8]) -> io::Result<()> {
+fn put_host<W: Write>(line: &mut W, host: &[u8]) -> io::Result<()> {
     let [b'[', address @ .., b']'] = host else {
         return put_escaped(line, host, PLAIN_IN_NAMES);
     };
@@ -101,7 +101,7 @@ fn put_host(line: &mut Vec<u8>, host: &[u8]) -> io::Result<()> {
 }
 
 /// Adds a port of a URI behind a colon, unless it is the default one.
-fn put_port(line: &mut Vec<u8>, port: u16) -> io::Result<()> {
+fn put_port<W: Write>(line: &mut W, port: u16) -> io::Result<()> {
     if port == DEFAULT_PORT {
         return Ok(());
     }
@@ -109,7 +109,7 @@ fn put_port(line: &mut Vec<u8>, port: u16) -> io::Result<()> {
 }
 
 /// Adds the scheme, the host and the port of a target.
-fn put_authority(line: &mut Vec<u8>, target: &Target) -> io::Result<()> {
+fn put_authority<W: Write>(line: &mut W, target: &Target) -> io::Result<()> {
     line.write_all(b"coap://")?;
     match &target.host {
         Some(host) => put_host(line, host.as_slice())?,
@@ -119,7 +119,7 @@ fn put_authority(line: &mut Vec<u8>, target: &Target) -> io::Result<()> {
 }
 
 /// Adds the URI of a target.
-pub(crate) fn put_target(line: &mut Vec<u8>, target: &Target) -> io::Result<()> {
+pub(crate) fn put_target<W: Write>(line: &mut W, target: &Target) -> io::Result<()> {
     put_authority(line, target)?;
     if target.path.is_empty() {
         line.write_all(b"/")?;
@@ -138,7 +138,7 @@ pub(crate) fn put_target(line: &mut Vec<u8>, target: &Target) -> io::Result<()> 
 }
 
 /// Adds bytes in hexadecimal digits.
-fn put_hex(line: &mut Vec<u8>, bytes: &[u8]) -> io::Result<()> {
+fn put_hex<W: Write>(line: &mut W, bytes: &[u8]) -> io::Result<()> {
     for byte in bytes {
         write!(line, "{byte:02x}")?;
     }
@@ -146,7 +146,7 @@ fn put_hex(line: &mut Vec<u8>, bytes: &[u8]) -> io::Result<()> {
 }
 
 /// Adds what a sent message is: its method or its code, its ETags and its Max-Age.
-pub(crate) fn put_sent(line: &mut Vec<u8>, sent: &[u8]) -> io::Result<()> {
+pub(crate) fn put_sent<W: Write>(line: &mut W, sent: &[u8]) -> io::Result<()> {
     let Ok(message) = MessageRef::read(sent) else {
         return Ok(());
     };

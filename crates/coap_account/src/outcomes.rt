@@ -1,15 +1,28 @@
 //! What a step did, in words.
 
-use crate::causes::{put_bad_gateway, put_overload, put_record_room, put_refusal, put_unprocessed};
+use crate::causes::{BadGateway, overload_of, put_lacks, put_refusal, put_unprocessed};
+use crate::due::{Came, Due};
+use crate::lacks::Usage;
 use crate::messages::{put_code, put_endpoint, put_sent};
-use coap_core::{Core, Event, LimitValues, Outcome, Report, Storing};
+use coap_core::{Core, Event, Outcome, Report, Storing};
 use coap_endpoint::Endpoint;
+use coap_forward::{SentRequest, answer_of};
 use coap_message::{Code, MessageRef};
 use coap_store::Store;
 use coap_watch::Seen;
 use std::alloc::Global;
 use std::io;
 use std::io::Write;
+
+/// What was noted of a turn before its step: what a tick is about, with the URI of its target, and
+/// what a response came for.
+#[derive(Clone, Copy)]
+pub(crate) struct Before<'a> {
+    pub(crate) due: Due,
+    /// The URI of the target of the exchange that is due.
+    pub(crate) target: &'a [u8],
+    pub(crate) came: Option<Came>,
+}
 
 /// What the cache did with an answer.
 fn storing_name(storing: Storing) -> &'static str {
@@ -21,22 +34,49 @@ fn storing_name(storing: Storing) -> &'static str {
     }
 }
 
+/// Why a response is passed on as 5.02, if it is.
+fn bad_gateway(
+    alloc: Global,
+    response: &MessageRef<'_>,
+    most: u64,
+    came: Option<Came>,
+) -> Option<BadGateway> {
+    let cause = match came {
+        Some(came) => came.cause,
+        None => BadGateway::of(response, None),
+    };
+    match cause {
+        BadGateway::Reset | BadGateway::Option(_) | BadGateway::Tag => Some(cause),
+        BadGateway::TooLong => {
+            let request = SentRequest {
+                is_get: false,
+                copy: None,
+            };
+            match answer_of(alloc, most as usize, request, 0, response) {
+                Ok(answer) if answer.own => Some(cause),
+                Ok(_) | Err(_) => None,
+            }
+        }
+    }
+}
+
 /// Adds what became of an answer: 5.02 with its cause, or its code and what the cache did with it.
 fn put_answered(
     line: &mut Vec<u8>,
     alloc: Global,
-    bytes: &[u8],
+    arrived: Arrived<'_>,
     most: u64,
     storing: Storing,
 ) -> io::Result<()> {
-    line.write_all(b" answered")?;
-    let Ok(message) = MessageRef::read(bytes) else {
+    line.write_all(b" answered ")?;
+    let Ok(message) = MessageRef::read(arrived.bytes) else {
         return Ok(());
     };
-    if put_bad_gateway(line, alloc, &message, most)? {
-        return Ok(());
+    if let Some(cause) = bad_gateway(alloc, &message, most, arrived.came) {
+        put_code(line, Code::BAD_GATEWAY)?;
+        line.write_all(b" ")?;
+        return cause.put(line);
     }
-    line.write_all(b" ")?;
     put_code(line, message.code())?;
     let name = storing_name(storing);
     write!(line, " {name}")
@@ -56,13 +96,27 @@ fn put_refused(line: &mut Vec<u8>, code: Code, bytes: &[u8]) -> io::Result<()> {
 fn put_dropped<S: Store + Drop>(
     line: &mut Vec<u8>,
     core: &Core<S>,
-    limits: &LimitValues,
-    from: Endpoint,
-    bytes: &[u8],
+    arrived: Arrived<'_>,
 ) -> io::Result<()> {
     line.write_all(b" no record room")?;
-    match MessageRef::read(bytes) {
-        Ok(message) => put_record_room(line, core, limits, from, message.kind()),
+    match MessageRef::read(arrived.bytes) {
+        Ok(message) => put_lacks(
+            line,
+            &Usage::of(core, arrived.from).to_remember(message.kind()),
+        ),
+        Err(_) => Ok(()),
+    }
+}
+
+/// Adds that a request was turned away, and what was lacking.
+fn put_overloaded<S: Store + Drop>(
+    line: &mut Vec<u8>,
+    core: &Core<S>,
+    arrived: Arrived<'_>,
+) -> io::Result<()> {
+    line.write_all(b" overloaded 5.03")?;
+    match MessageRef::read(arrived.bytes) {
+        Ok(message) => put_lacks(line, &overload_of(core, arrived.from, &message)),
         Err(_) => Ok(()),
     }
 }
@@ -92,6 +146,7 @@ struct Arrived<'a> {
     bytes: &'a [u8],
     outcome: Outcome,
     sent: &'a [u8],
+    came: Option<Came>,
 }
 
 /// Adds what the step of a datagram did.
@@ -99,38 +154,28 @@ fn put_arrived<S: Store + Drop>(
     line: &mut Vec<u8>,
     alloc: Global,
     core: &Core<S>,
-    limits: &LimitValues,
     arrived: Arrived<'_>,
 ) -> io::Result<()> {
-    let Arrived {
-        from,
-        bytes,
-        outcome,
-        sent,
-    } = arrived;
-    match outcome {
+    let (bytes, sent) = (arrived.bytes, arrived.sent);
+    let most = core.limits().values().datagram;
+    match arrived.outcome {
         Outcome::Ignored => {
             line.write_all(b" ignored")?;
-            put_unprocessed(line, bytes, limits.datagram)
+            put_unprocessed(line, bytes, most)
         }
         Outcome::Rejected => {
             line.write_all(b" rejected")?;
-            put_unprocessed(line, bytes, limits.datagram)
+            put_unprocessed(line, bytes, most)
         }
         Outcome::Again => put_with_sent(line, "again", sent),
-        Outcome::NoRecordRoom => put_dropped(line, core, limits, from, bytes),
+        Outcome::NoRecordRoom => put_dropped(line, core, arrived),
         Outcome::Refused(code) => put_refused(line, code, bytes),
         Outcome::Hit => put_with_sent(line, "hit", sent),
         Outcome::Joined => put_with_sent(line, "joined", sent),
         Outcome::Opened => put_with_sent(line, "opened", sent),
-        Outcome::Overloaded => {
-            line.write_all(b" overloaded 5.03")?;
-            put_overload(line, core, limits, from)
-        }
+        Outcome::Overloaded => put_overloaded(line, core, arrived),
         Outcome::NoId => line.write_all(b" no id"),
-        Outcome::Answered { storing } => {
-            put_answered(line, alloc, bytes, limits.datagram, storing)
-        }
+        Outcome::Answered { storing } => put_answered(line, alloc, arrived, most, storing),
         Outcome::Acked => line.write_all(b" acked"),
         // a tick's
         Outcome::SentRequest
@@ -141,13 +186,48 @@ fn put_arrived<S: Store + Drop>(
     }
 }
 
+/// Adds what was given up: a request to an origin, or the delivery of an answer to a client.
+fn put_given_up(line: &mut Vec<u8>, turn: Seen<'_>, before: Before<'_>) -> io::Result<()> {
+    line.write_all(b" gave up")?;
+    match before.due {
+        Due::Exchange(exchange) => {
+            line.write_all(b" ")?;
+            line.write_all(before.target)?;
+            exchange.put(line, turn.now)
+        }
+        Due::Client(client) => client.put(line, turn.now),
+        Due::Nothing => Ok(()),
+    }
+}
+
+/// Adds the answer that a client was sent, and the exchange that it is of.
+fn put_delivered(
+    line: &mut Vec<u8>,
+    report: Report,
+    turn: Seen<'_>,
+    before: Before<'_>,
+) -> io::Result<()> {
+    put_sent_to(line, "delivered", report, turn.sent)?;
+    let Due::Exchange(exchange) = before.due else {
+        return Ok(());
+    };
+    line.write_all(b" of ")?;
+    line.write_all(before.target)?;
+    exchange.put(line, turn.now)
+}
+
 /// Adds what the step of a tick did.
-fn put_due(line: &mut Vec<u8>, report: Report, sent: &[u8]) -> io::Result<()> {
+fn put_due(
+    line: &mut Vec<u8>,
+    report: Report,
+    turn: Seen<'_>,
+    before: Before<'_>,
+) -> io::Result<()> {
     match report.outcome {
-        Outcome::SentRequest => put_sent_to(line, "sent", report, sent),
-        Outcome::Resent => put_sent_to(line, "resent", report, sent),
-        Outcome::Delivered => put_sent_to(line, "delivered", report, sent),
-        Outcome::GaveUp => line.write_all(b" gave up"),
+        Outcome::SentRequest => put_sent_to(line, "sent", report, turn.sent),
+        Outcome::Resent => put_sent_to(line, "resent", report, turn.sent),
+        Outcome::Delivered => put_delivered(line, report, turn, before),
+        Outcome::GaveUp => put_given_up(line, turn, before),
         Outcome::Idle => line.write_all(b" idle"),
         // a datagram's
         Outcome::Ignored
@@ -170,8 +250,8 @@ pub(crate) fn put_outcome<S: Store + Drop>(
     line: &mut Vec<u8>,
     alloc: Global,
     core: &Core<S>,
-    limits: &LimitValues,
     turn: Seen<'_>,
+    before: Before<'_>,
 ) -> io::Result<()> {
     let Some(report) = turn.report else {
         return line.write_all(b" out of memory");
@@ -183,9 +263,10 @@ pub(crate) fn put_outcome<S: Store + Drop>(
                 bytes,
                 outcome: report.outcome,
                 sent: turn.sent,
+                came: before.came,
             };
-            put_arrived(line, alloc, core, limits, arrived)
+            put_arrived(line, alloc, core, arrived)
         }
-        Event::Tick => put_due(line, report, turn.sent),
+        Event::Tick => put_due(line, report, turn, before),
     }
 }

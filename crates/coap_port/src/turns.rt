@@ -97,8 +97,8 @@ impl Drive {
         })
     }
 
-    /// Does one turn: the core handles what the port gives, what it sends is handed over, and the
-    /// watcher is told.
+    /// Does one turn: the core handles what the port gives, and what it sends is handed over; the
+    /// watcher is told before and after.
     ///
     /// # Errors
     /// The port failed. The core, the watcher and the counts don't change then.
@@ -129,6 +129,7 @@ impl Drive {
         let wait = wait_for(self.came, port.last(), core.next_due());
         let turn = port.next(wait, &mut self.input)?;
         let seen = Seen::begun(turn.now, turn.draw, turn.from, self.input.bytes());
+        watcher.foresee(seen, core);
         match core.step(turn.now, turn.draw, seen.event, &mut self.output) {
             Ok(report) => {
                 let sent = self.output.bytes();

@@ -21,6 +21,8 @@ no_settings = record {
   explain = false;
   stats = None;
   stats_file = None;
+  log = false;
+  record_bytes = None;
 }
 
 -- a configuration with these own names, and nothing else

@@ -54,6 +54,14 @@ pub fn what_goes_together()
     ensures socket_explained { go_together (record no_settings { explain = true }) ≡ false }
     ensures replay_counted { go_together (record no_settings { replay = true; stats = Some 60 })
         ≡ false }
+    ensures logged { go_together (record no_settings { log = true }) ≡ true }
+    ensures replay_logged { go_together (record no_settings { replay = true; log = true })
+        ≡ false }
+    ensures sized { go_together (record no_settings { record_bytes = Some 1 }) ≡ false }
+    ensures replay_sized { go_together (record no_settings {
+      replay = true;
+      record_bytes = Some 1;
+    }) ≡ false }
     ensures refused { wanted_of (record no_settings { explain = true }) ≡ Err faults.Arguments }
 {}
 

@@ -31,7 +31,8 @@ pub struct Plan {
     pub salt: Option<u64>,
     /// The number of turns to do, if it is given.
     pub turns: Option<u64>,
-    /// The path of the file to which events are recorded, if one is given.
+    /// The path of the file to which events are recorded, or that of a folder, which ends with a
+    /// slash, if one is given.
     pub recording: Option<String>,
     /// Whether a replay says what each event did.
     pub explain: bool,
@@ -39,6 +40,14 @@ pub struct Plan {
     pub stats: Option<u64>,
     /// The path of the file that holds the counts, if one is given.
     pub stats_file: Option<String>,
+    /// Whether a line is written for each fault of the traffic.
+    pub log: bool,
+    /// How many bytes the file of events has at most, if that is said.
+    pub record_bytes: Option<u64>,
+    /// How many own names there are.
+    pub names: usize,
+    /// How many hosts are known.
+    pub hosts: usize,
 }
 
 /// What the program is to do, by what its words ask for and the bytes of the configuration, if
@@ -72,6 +81,10 @@ pub fn read_plan(alloc: Global, wanted: Wanted, file: Option<&[u8]>) -> Result<P
         explain: settings.explain,
         stats: settings.stats,
         stats_file: settings.stats_file.take(),
+        log: settings.log,
+        record_bytes: settings.record_bytes,
+        names: config.names.len(),
+        hosts: config.hosts.len(),
     })
 }
 
@@ -87,7 +100,7 @@ fn config_of(alloc: Global, file: Option<&[u8]>) -> Result<Config, Fault>
 }
 
 /// The configuration without a file: the default limits, and no routes.
-fn default_config(alloc: Global) -> Config
+pub(crate) fn default_config(alloc: Global) -> Config
     ensures { view.seen result ≡ spec.no_config }
 {
     Config {

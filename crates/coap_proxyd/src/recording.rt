@@ -53,31 +53,58 @@ fn whole_lines(bytes: &[u8]) -> usize
     }
 }
 
-/// The file of a recording. When it can't be written any more it is cut after its last whole line,
-/// and a line on standard error says so. What a file does is in no contract.
+/// How many of these bytes are written if there is room for so many: all of them if they fit, and
+/// otherwise the whole lines that do.
+fn fitting(bytes: &[u8], room: u64) -> usize
+    ensures within { result ≤ length bytes.now }
+    ensures fits { result ≤ room }
+    ensures all { length bytes.now ≤ room → result ≡ length bytes.now }
+{
+    let room = usize::try_from(room).unwrap_or(usize::MAX);
+    if bytes.len() <= room {
+        bytes.len()
+    } else {
+        whole_lines(&bytes[..room])
+    }
+}
+
+/// The file of a recording, of a limited size. When it can't be written any more, or is full, it is
+/// cut after its last whole line, and a line on standard error says so. What a file does is in no
+/// contract.
 #[derive(Drop)]
 pub struct RecordFile<'a> {
     rt: &'a HostRuntime,
     file: File,
+    /// How many bytes it may have.
+    most: u64,
     /// How many bytes were written.
     size: u64,
     /// How many of them are whole lines.
     whole: u64,
+    /// Whether a line of a log says that it has ended.
+    logged: bool,
 }
 
 impl<'a> RecordFile<'a> {
-    /// Creates a file.
+    /// Creates a file of at most so many bytes.
     ///
     /// # Errors
     /// There is a file of this name, which stays as it is, or the system makes none.
-    pub fn create(rt: &'a HostRuntime, path: &str) -> io::Result<RecordFile<'a>> {
+    pub fn create(rt: &'a HostRuntime, path: &str, most: u64) -> io::Result<RecordFile<'a>> {
         let file = File::create_new(rt, path)?;
         Ok(RecordFile {
             rt,
             file,
+            most,
             size: 0,
             whole: 0,
+            logged: false,
         })
+    }
+
+    /// The same file, whose end a line of a log says, or not.
+    pub fn logged(self, logged: bool) -> RecordFile<'a> {
+        RecordFile { logged, ..self }
     }
 
     /// Notes that these bytes were written.
@@ -94,13 +121,23 @@ impl<'a> RecordFile<'a> {
         if self.whole < self.size {
             let _ = self.file.set_len(self.whole);
         }
-        let _ = eprintln!(self.rt; "coap-proxyd: the recording has ended");
+        let size = self.whole;
+        let _ = if self.logged {
+            eprintln!(self.rt; "recording_ended bytes={size}")
+        } else {
+            eprintln!(self.rt; "coap-proxyd: the recording has ended")
+        };
     }
 }
 
 impl<'a> Write for RecordFile<'a> {
     fn write(&mut self, buf: &[u8]) -> io::Result<usize> {
-        match self.file.write(buf) {
+        let count = fitting(buf, self.most.saturating_sub(self.size));
+        if count == 0 && !buf.is_empty() {
+            self.end();
+            return Err(io::Error::from(ErrorKind::FileTooLarge));
+        }
+        match self.file.write(&buf[..count]) {
             Ok(count) => {
                 self.note(&buf[..count]);
                 Ok(count)

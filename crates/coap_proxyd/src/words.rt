@@ -54,14 +54,19 @@ fn read_settings(alloc: Global, settings: Settings) -> Result<Wanted, Fault>
     })
 }
 
-/// Whether the options that are for a socket alone, or for a replay alone, are given for that.
+/// Whether the options that are for a socket alone, or for a replay alone, are given for that, and a
+/// size only for a recording.
 fn go_together(settings: &Settings) -> bool
     ensures { result ≡ spec.go_together settings.now }
 {
     if settings.replay {
-        settings.recording.is_none() && settings.stats.is_none() && settings.stats_file.is_none()
+        settings.recording.is_none()
+            && settings.record_bytes.is_none()
+            && settings.stats.is_none()
+            && settings.stats_file.is_none()
+            && !settings.log
     } else {
-        !settings.explain
+        !settings.explain && (settings.recording.is_some() || settings.record_bytes.is_none())
     }
 }
 

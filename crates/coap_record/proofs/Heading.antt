@@ -1,18 +1,19 @@
 -- The header of a recording.
-use Rattle.std.proofs.Common.{◌≡◌, ◌+◌, ◌<◌, ◌^◌, ◌==◌, ◌||◌, cond, ℕ, Bool, true, false, List, [], ◌∷◌, ◌++◌, length, map, codes, Option, Some, None, Bor, Result, Err, refl, sym, ap, ◌∙◌, append_assoc, arith}
+use Rattle.std.proofs.Common.{◌≡◌, ◌+◌, ◌-◌, ◌<◌, ◌≤◌, ◌^◌, ◌==◌, ◌||◌, cond, ℕ, Bool, true, false, List, [], ◌∷◌, ◌++◌, length, map, codes, Option, Some, None, Bor, Result, Err, refl, sym, ap, ◌∙◌, append_assoc, arith}
 use Rattle.std.specs.Fmt.{decimal}
 use Rattle.std.specs.List.{AllByRecursion, flat_map, list_any, slice_split}
-use Rattle.std.proofs.lemmas.Bool.{eqb-true, false≢true, ne_eqb, or_parts}
+use Rattle.std.proofs.lemmas.Bool.{eqb-true, false≢true, le-ltb, ne_eqb, or_parts}
+use Rattle.std.proofs.lemmas.List.{append-nil, length-append}
 use Rattle.std.proofs.lemmas.List.Folds.{list_any-append}
 use Rattle.std.proofs.lemmas.List.Splits.{length-slice_split}
-use Rattle.coap_lines.specs.Lines.{is_skipped, is_too_long, lines_of, without_empty_end}
+use Rattle.coap_lines.specs.Lines.{ended, is_skipped, is_too_long, lines_of, without_empty_end}
 use Rattle.coap_lines.specs.Texts.{has}
 use Rattle.coap_lines.proofs.InputLines.{lines_of-lines}
 use Rattle.coap_lines.proofs.Numerals.{has-decimal}
 use Rattle.coap_uri.specs.Uri.{parts_left}
 use Rattle.coap_record.specs.Replayable.{AreSkipped}
 use Rattle.coap_record.specs.declared.header.Start.{Start}
-use Rattle.coap_record.specs.Header.{byte_shown, config_line, config_text, first_line, header_lines, header_text, is_one_long, is_plain, line_before, start_shown, word_shown, words_shown}
+use Rattle.coap_record.specs.Header.{byte_shown, config_line, config_text, feed_ended, first_line, header_lines, header_text, is_one_long, is_plain, line_before, since_line, start_shown, word_shown, words_shown}
 
 -- what is made of elements that are mapped before
 pub flat_map-map : {X Y : Type 0} (f : Y → List ℕ) (g : X → Y) (xs : List X) → flat_map f (map g xs) ≡ flat_map (λ x. f (g x)) xs
@@ -105,16 +106,24 @@ one-of f none (b ∷ bytes) = rw (list_any-append, none b, one-of f none bytes) 
 one-byte : (b : ℕ) → has 10 (byte_shown b) ≡ false
 one-byte b = go (is_plain b) refl (b == 10) refl
   where
-    go : (plain : Bool) → is_plain b ≡ plain → (feed : Bool) → (b == 10) ≡ feed → has 10 (cond plain (b ∷ []) (cond feed (codes "$'\\n'") (0x5C ∷ b ∷ []))) ≡ false
+    go : (plain : Bool) → is_plain b ≡ plain → (feed : Bool) → (b == 10) ≡ feed → has 10 (cond plain (b ∷ []) (cond feed (codes "\"$(printf '\\n%s' ") (0x5C ∷ b ∷ []))) ≡ false
     go true plain true feed = absurd (false≢true (rw (eqb-true b 10 feed) at plain))
     go true plain false feed = rw feed refl
     go false plain true feed = refl
     go false plain false feed = rw feed refl
 
+-- nor what ends a line feed
+one-end : (b : ℕ) → has 10 (feed_ended b) ≡ false
+one-end b = go (b == 10)
+  where
+    go : (feed : Bool) → has 10 (cond feed (codes ")\"") []) ≡ false
+    go true = refl
+    go false = refl
+
 -- nor a word
 one-word : (word : List ℕ) → has 10 (word_shown word) ≡ false
 one-word [] = refl
-one-word (b ∷ word) = one-of byte_shown one-byte (b ∷ word)
+one-word (b ∷ word) = rw (list_any-append, one-of byte_shown one-byte (b ∷ word), one-of feed_ended one-end (b ∷ word)) refl
 
 -- nor words
 one-words : (words : List (List ℕ)) → has 10 (words_shown words) ≡ false
@@ -190,3 +199,44 @@ long-rest version start words config long = go (is_too_long (first_line version 
 -- an error, whatever a success would give
 pub err-as : (A B E : Type 0) (e f : E) → ◌≡◌ {A = Result A E} (Err e) (Err f) → ◌≡◌ {A = Result B E} (Err e) (Err f)
 err-as A B E e f same = let inside : e ≡ f = cc in ap Err inside
+
+-- ---- one more comment
+
+-- the line that says since when is recorded has no line feed, and is a comment
+one-since : (moment : List ℕ) → has 10 (since_line moment) ≡ false
+one-since moment = let word = one-word moment in rw (list_any-append, word) refl
+
+-- what holds of each of some lines and of one more holds of them all
+all-more : (P : List ℕ → Type 0) (lines : List (List ℕ)) (line : List ℕ) → AllByRecursion P lines → P line → AllByRecursion P (lines ++ line ∷ [])
+all-more P [] line all one = (one, tt)
+all-more P (l ∷ lines) line all one = (all.0, all-more P lines line all.1 one)
+
+-- lines with one more behind them
+ended-more : (lines : List (List ℕ)) (line : List ℕ) → ended (lines ++ line ∷ []) ≡ ended lines ++ ended (line ∷ [])
+ended-more [] line = refl
+ended-more (l ∷ lines) line = rw (ended-more lines line) (sym (append_assoc (l ++ 10 ∷ []) _ _))
+
+-- that line, by its parts
+pub since-made : (out a b d moment : List ℕ) → a ≡ out ++ codes "# recorded since " → b ≡ a ++ word_shown moment → d ≡ b ++ 10 ∷ [] → d ≡ out ++ ended (since_line moment ∷ [])
+since-made out a b d moment one two three =
+    let head = codes "# recorded since " in
+    let word = word_shown moment in
+    three ∙ ap (λ (l : List ℕ). l ++ 10 ∷ []) (two ∙ ap (λ (l : List ℕ). l ++ word) one ∙ append_assoc out head word)
+    ∙ append_assoc out (head ++ word) (10 ∷ []) ∙ ap (λ (l : List ℕ). out ++ l) (sym (append-nil ((head ++ word) ++ 10 ∷ [])))
+
+-- that line isn't too long if no more was added
+pub since-short : (out a b moment : List ℕ) (most begin : ℕ) → a ≡ out ++ codes "# recorded since " → b ≡ a ++ word_shown moment → most ≡ length b → begin ≡ length out → most - begin ≤ 16384 → is_too_long (since_line moment) ≡ false
+since-short out a b moment most begin one two all before few =
+    let line = since_line moment in
+    let same : b ≡ out ++ line = two ∙ ap (λ (l : List ℕ). l ++ word_shown moment) one ∙ append_assoc out (codes "# recorded since ") (word_shown moment) in
+    let sum : length b ≡ length out + length line = ap length same ∙ length-append out line in
+    le-ltb 16384 (length line) (omega arith)
+
+-- lines that are skipped, and that one
+pub skips-since : (lines : List (List ℕ)) (old new moment : List ℕ) → AreSkipped lines old → new ≡ old ++ ended (since_line moment ∷ []) → is_too_long (since_line moment) ≡ false → AreSkipped (lines ++ since_line moment ∷ []) new
+skips-since lines old new moment are is short = record {
+  whole = is ∙ ap (λ (l : List ℕ). l ++ ended (since_line moment ∷ [])) are.whole ∙ sym (ended-more lines (since_line moment));
+  one = all-more (λ line. has 10 line ≡ false) lines (since_line moment) are.one (one-since moment);
+  short = all-more (λ line. is_too_long line ≡ false) lines (since_line moment) are.short short;
+  skipped = all-more (λ line. is_skipped line ≡ true) lines (since_line moment) are.skipped refl;
+}

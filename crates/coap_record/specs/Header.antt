@@ -16,17 +16,22 @@ is_plain b = is_between 0x2B 0x3A b
     || (is_between 0x40 0x5A b
     || (is_between 0x61 0x7A b || (nat_le 0x80 b || (b == 0x25 || (b == 0x3D || b == 0x5F)))))
 
--- a byte of a word as a shell reads it: a line feed as `$'\n'`, and others after a backslash
+-- A byte of a word as a shell reads it: after a backslash, but a line feed as `printf` writes it,
+-- with all that follows it in the word.
 abbrev pub byte_shown : ℕ → List ℕ
 byte_shown b =
     if is_plain b then b ∷ []
-    else if b == line_feed then codes "$'\\n'"
+    else if b == line_feed then codes "\"$(printf '\\n%s' "
     else 0x5C ∷ b ∷ []
 
--- a word as a shell reads it
+-- what ends that behind the word
+abbrev pub feed_ended : ℕ → List ℕ
+feed_ended b = if b == line_feed then codes ")\"" else []
+
+-- a word as a shell reads it; line feeds at its end are lost
 abbrev pub word_shown : List ℕ → List ℕ
 word_shown [] = codes "''"
-word_shown (b ∷ word) = flat_map byte_shown (b ∷ word)
+word_shown (b ∷ word) = flat_map byte_shown (b ∷ word) ++ flat_map feed_ended (b ∷ word)
 
 -- words, each after a space
 abbrev pub words_shown : List (List ℕ) → List ℕ
@@ -66,3 +71,7 @@ header_lines version start words config =
 
 abbrev pub header_text : List ℕ → Start → List (List ℕ) → List ℕ → List ℕ
 header_text version start words config = ended (header_lines version start words config)
+
+-- the comment that says since when is recorded
+abbrev pub since_line : List ℕ → List ℕ
+since_line moment = codes "# recorded since " ++ word_shown moment

@@ -1,8 +1,8 @@
 //! How a recording begins: comments that say how its run was started.
-ghost use Rattle.std.specs.Prelude.{◌≡◌, ◌<◌, ◌^◌, ◌++◌, ◌∷◌, [], map, string_bytes, true, false, IfOk, OnOk, Err};
+ghost use Rattle.std.specs.Prelude.{◌≡◌, ◌<◌, ◌^◌, ◌++◌, ◌∷◌, [], ℕ, List, map, string_bytes, true, false, IfOk, OnOk, Err};
 ghost use Rattle.std.specs.List.{flat_map, list_any};
 ghost use Rattle.std.specs.Option.{option_copied};
-ghost use Rattle.coap_lines.specs.Lines.{is_too_long, lines_of};
+ghost use Rattle.coap_lines.specs.Lines.{ended, is_too_long, lines_of};
 ghost use Rattle.coap_record.specs.Header as spec;
 ghost use Rattle.coap_record.specs.Replayable.{AreSkipped};
 ghost use Rattle.coap_record.specs.declared.error.HeaderError.TheVariants as errors;
@@ -63,6 +63,29 @@ pub fn header_of(
     Ok(out)
 }
 
+/// Adds the comment that says since when is recorded, with a line feed: `# recorded since MOMENT`.
+/// A replay skips it, too.
+///
+/// # Errors
+/// `TooLong` if it is longer than the 16,384 bytes that a replay reads; `OutOfMemory`. Part of it may
+/// have been added then.
+pub fn put_since(header: &mut Vec<u8>, moment: &str) -> Result<(), HeaderError>
+    ensures exact { OnOk result (header.new.items
+        ≡ header.old.items ++ ended (spec.since_line moment.now ∷ [])) }
+    ensures skipped { (lines : List (List ℕ)) → AreSkipped lines header.old.items
+        → OnOk result (AreSkipped (lines ++ spec.since_line moment.now ∷ []) header.new.items) }
+    ensures long { result ≡ Err errors.TooLong → is_too_long (spec.since_line moment.now) ≡ true }
+{
+    let begin = header.len();
+    header.extend_from_slice(b"# recorded since ")?;
+    put_word(header, moment.as_bytes())?;
+    if header.len() - begin > LONGEST {
+        return Err(HeaderError::TooLong);
+    }
+    header.extend_from_slice(b"\n")?;
+    Ok(())
+}
+
 /// Whether a byte stands for itself in a word of a shell.
 fn is_plain(byte: u8) -> bool
     ensures { result ≡ spec.is_plain byte }
@@ -77,7 +100,7 @@ fn put_byte(out: &mut Vec<u8>, byte: u8) -> Result<(), AllocError>
     if is_plain(byte) {
         out.extend_from_slice(&[byte])
     } else if byte == b'\n' {
-        out.extend_from_slice(b"$'\\n'")
+        out.extend_from_slice(b"\"$(printf '\\n%s' ")
     } else {
         out.extend_from_slice(&[b'\\', byte])
     }
@@ -93,6 +116,27 @@ fn put_bytes(out: &mut Vec<u8>, word: &[u8]) -> Result<(), AllocError>
     Ok(())
 }
 
+/// Ends what `put_byte` begins for a line feed.
+fn put_end(out: &mut Vec<u8>, byte: u8) -> Result<(), AllocError>
+    ensures { OnOk result (out.new.items ≡ out.old.items ++ spec.feed_ended byte) }
+{
+    if byte == b'\n' {
+        out.extend_from_slice(b")\"")
+    } else {
+        Ok(())
+    }
+}
+
+/// Ends what `put_bytes` begins for the line feeds of a word.
+fn put_ends(out: &mut Vec<u8>, word: &[u8]) -> Result<(), AllocError>
+    ensures { OnOk result (out.new.items ≡ out.old.items ++ flat_map spec.feed_ended word.now) }
+{
+    for byte in word {
+        put_end(out, *byte)?;
+    }
+    Ok(())
+}
+
 /// Adds a word as a shell reads it.
 fn put_word(out: &mut Vec<u8>, word: &[u8]) -> Result<(), AllocError>
     ensures { OnOk result (out.new.items ≡ out.old.items ++ spec.word_shown word.now) }
@@ -100,7 +144,8 @@ fn put_word(out: &mut Vec<u8>, word: &[u8]) -> Result<(), AllocError>
     if word.is_empty() {
         out.extend_from_slice(b"''")
     } else {
-        put_bytes(out, word)
+        put_bytes(out, word)?;
+        put_ends(out, word)
     }
 }
 

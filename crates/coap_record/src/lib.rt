@@ -18,5 +18,5 @@ mod recording;
 mod turns;
 
 pub use error::HeaderError;
-pub use header::{Start, header_of};
+pub use header::{Start, header_of, put_since};
 pub use recording::Recording;

@@ -1,5 +1,5 @@
 -- A watcher that is told turn by turn.
-use Rattle.std.proofs.Common.{◌≡◌, ◌≢◌, ◌++◌, ◌∙◌, ℕ, true, List, [], ◌∷◌, Option, Some, Result, Ok, Err, refl, sym, ap, subst}
+use Rattle.std.proofs.Common.{◌≡◌, ◌≢◌, ◌++◌, ◌∙◌, ℕ, true, List, [], ◌∷◌, Option, Some, None, false, Result, Ok, Err, inl, inr, refl, sym, ap, subst}
 use Rattle.std.specs.Io.KnownBytes.{Appends}
 use Rattle.std.specs.Result.{OnErr, is_err}
 use Rattle.coap_core.specs.Steps.{Does}
@@ -12,7 +12,7 @@ use Rattle.coap_model.specs.Runs.{Run, Taken, Turn, one_turn, step_taken}
 use Rattle.coap_model.specs.State.{Step, State}
 use Rattle.coap_watch.specs.Told as watch
 use Rattle.coap_replay.specs.Replays.{DoesTurn, line_for, run_at, taken, state_after}
-use Rattle.coap_replay.specs.Watched.{AreTold, DoesTold, IsTold, TellsTurn, told_in}
+use Rattle.coap_replay.specs.Watched.{AreTold, DoesTold, EndsTold, IsTold, TellsTurn, lost_in, told_in}
 use Rattle.coap_replay.specs.declared.error.ReplayError.{ReplayError}
 use Rattle.coap_replay.specs.declared.error.ReplayError.TheVariants.{BadEvent, OutOfMemory, Read, Write}
 use Rattle.coap_replay.proofs.Replaying.{run-apart, run-more}
@@ -55,6 +55,12 @@ module _ {V : Type 0} (sees : V → watch.Told → V → Type 0) where
       ∙ ap (told_of t.now t.draw t.event step.report step.bytes) done.2 in
       (grown_of report.outcome, done.2, subst (λ (u : watch.Told). sees a u b) is seen)
 
+  -- a turn that ran out of memory is told as that
+  pub lost-told : (w v : State) (t : Turn) (event : Event) (number : ℕ) (a b : V) → event ≡ t.event → v ≡ w
+      → sees a (record { turn = record { now = t.now; draw = t.draw; event = event }; report = None; bytes = []; went = false; state = v }) b → TellsTurn sees w a v b t (Err (OutOfMemory number))
+  lost-told w v t event number a b same still seen =
+      (still, subst (λ (u : watch.Told). sees a u b) (ap (λ (e : Event). record { turn = record { now = t.now; draw = t.draw; event = e }; report = None; bytes = []; went = false; state = v }) same ∙ ap (λ (x : State). lost_in x t) still) seen)
+
   -- one more turn is told
   more : (w : State) (a m b : V) (ts : List Taken) (t : Taken) → AreTold sees w a ts m → sees m (told_in (state_after w ts) t) b → AreTold sees w a (ts ++ t ∷ []) b
   more w a m b [] t told one = (b, subst (λ (x : V). sees x (told_in w t) b) told one, refl)
@@ -75,10 +81,22 @@ module _ {V : Type 0} (sees : V → watch.Told → V → Type 0) where
         told = more w a m b is.turns u is.told (subst (λ (x : State). sees m (told_in x u) b) is.state one.2);
       }
 
-  -- a turn is told, or nothing is done
-  pub told-more : (w : State) (a : V) (v : State) (m : V) (v' : State) (b : V) (t : Turn) (r : Result (Unit {0}) ReplayError) → IsTold sees w a v m → TellsTurn sees v m v' b t r → IsTold sees w a v' b
-  told-more w a v m v' b t (Ok u) is one = done-told w a v m v' b t is one
-  told-more w a v m v' b t (Err (BadEvent line)) is one = absurd one
-  told-more w a v m v' b t (Err (OutOfMemory line)) is one = rw (one.0, one.1) is
-  told-more w a v m v' b t (Err Read) is one = absurd one
-  told-more w a v m v' b t (Err Write) is one = done-told w a v m v' b t is one
+  -- after a turn that was done, more may be told
+  pub told-more : (w : State) (a : V) (v : State) (m : V) (v' : State) (b : V) (t : Turn) → IsTold sees w a v m → TellsTurn sees v m v' b t (Ok tt) → IsTold sees w a v' b
+  told-more w a v m v' b t is one = done-told w a v m v' b t is one
+
+  -- a replay ends with a turn that wasn't done, or whose line wasn't written
+  pub ends-with : (T : Type 0) (w : State) (a : V) (v : State) (m : V) (v' : State) (b : V) (t : Turn) (e : ReplayError) → IsTold sees w a v m → TellsTurn sees v m v' b t (Err e) → EndsTold sees {T = T} w a v' b (Err e)
+  ends-with T w a v m v' b t (BadEvent line) is one = absurd one
+  ends-with T w a v m v' b t (OutOfMemory line) is one =
+      inr (m, t, rw one.0 is, rw one.0 one.1)
+  ends-with T w a v m v' b t Read is one = absurd one
+  ends-with T w a v m v' b t Write is one = done-told w a v m v' b t is one
+
+  -- a replay ends without one more turn
+  pub ends-without : (T : Type 0) (w : State) (a : V) (v : State) (b : V) (r : Result T ReplayError) → IsTold sees w a v b → EndsTold sees w a v b r
+  ends-without T w a v b (Ok n) is = is
+  ends-without T w a v b (Err (BadEvent line)) is = is
+  ends-without T w a v b (Err (OutOfMemory line)) is = inl is
+  ends-without T w a v b (Err Read) is = is
+  ends-without T w a v b (Err Write) is = is

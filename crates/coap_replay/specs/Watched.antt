@@ -1,5 +1,5 @@
 -- What a watcher of a replay is told.
-use Rattle.std.specs.Prelude.{◌≡◌, Bool, true, List, [], ◌∷◌, Some, Result, Ok, Err}
+use Rattle.std.specs.Prelude.{◌≡◌, ◌⊎◌, Bool, true, false, List, [], ◌∷◌, Some, None, Result, Ok, Err}
 use Rattle.coap_model.specs.Runs.{Taken, Turn, step_taken}
 use Rattle.coap_model.specs.State.{State}
 use Rattle.coap_watch.specs.Told as watch
@@ -16,6 +16,10 @@ told_in w t = record {
   went = true;
   state = (step_taken w t).state;
 }
+
+-- what is told of a turn that ran out of memory: nothing was done
+abbrev pub lost_in : State → Turn → watch.Told
+lost_in w t = record { turn = t; report = None; bytes = []; went = false; state = w }
 
 module _ {V : Type 0} (sees : V → watch.Told → V → Type 0) where
   -- it was told of these turns of a proxy, the oldest first, and of nothing else
@@ -35,10 +39,20 @@ module _ {V : Type 0} (sees : V → watch.Told → V → Type 0) where
   DoesTold w a v b t = (grown : Bool) × (v ≡ (step_taken w (taken t grown)).state)
       × sees a (told_in w (taken t grown)) b
 
-  -- the same, or memory ran out, so that nothing was done or told
+  -- the same, or memory ran out, so that nothing was done, and it was told of that
   abbrev pub TellsTurn : State → V → State → V → Turn → Result (Unit {0}) ReplayError → Type 0
   TellsTurn w a v b t (Ok u) = DoesTold w a v b t
   TellsTurn w a v b t (Err (BadEvent line)) = ⊥
-  TellsTurn w a v b t (Err (OutOfMemory line)) = (v ≡ w) × (b ≡ a)
+  TellsTurn w a v b t (Err (OutOfMemory line)) = (v ≡ w) × sees a (lost_in w t) b
   TellsTurn w a v b t (Err Read) = ⊥
   TellsTurn w a v b t (Err Write) = DoesTold w a v b t
+
+  -- it was told of the turns that a replay did, which ended so; if memory ran out for one more, it
+  -- was told of that as well, which it wasn't if memory ran out before the first line
+  abbrev pub EndsTold : {T : Type 0} → State → V → State → V → Result T ReplayError → Type 0
+  EndsTold w a v b (Ok n) = IsTold w a v b
+  EndsTold w a v b (Err (BadEvent line)) = IsTold w a v b
+  EndsTold w a v b (Err (OutOfMemory line)) = IsTold w a v b
+      ⊎ ((m : V) × (t : Turn) × IsTold w a v m × sees m (lost_in v t) b)
+  EndsTold w a v b (Err Read) = IsTold w a v b
+  EndsTold w a v b (Err Write) = IsTold w a v b

@@ -2,14 +2,14 @@
 //! written.
 ghost use Rattle.std.specs.Prelude.{◌≡◌, ◌≤◌, ◌^◌, ℕ, true, false, Some, IfSome, length, vec_capacity};
 ghost use Rattle.coap_replay.specs.Buffers.{HaveRoom};
-ghost use Rattle.coap_replay.specs.Watched.{IsTold, TellsTurn};
+ghost use Rattle.coap_replay.specs.Watched.{EndsTold, TellsTurn};
 ghost use Rattle.coap_replay.specs.Replays.{AsksNext, DoesTurn, FailsBy, HasCause, IfDo, IfMore, IsReplayed, MayBeDone, is_read_fault, is_write_fault, line_for};
 ghost use Rattle.coap_lines.specs.Room.{longest_line};
 ghost use Rattle.coap_lines.specs.Turns.{turn_seen};
 
 use crate::buffers::Buffers;
 use crate::error::ReplayError;
-use coap_core::{Core, Report};
+use coap_core::{Core, MOST_EVENTS, Report};
 use coap_lines::{Input, Next, Output, Turn, is_skipped, put_line, read_turn};
 use coap_message::{Datagram, Moment};
 use coap_store::Store;
@@ -19,9 +19,6 @@ use std::io::{BufRead, Write};
 
 /// The greatest line number: 2^62.
 const LAST_LINE: u64 = 1 << 62;
-
-/// The most events that a core handles: 2^63.
-const MOST_EVENTS: u64 = 1 << 63;
 
 /// What a replay may use.
 #[derive(Clone, Copy)]
@@ -103,8 +100,8 @@ struct NumberedTurn {
     number: u64,
 }
 
-/// Does the turn of a line, tells the watcher, and writes the line of what it sends. If it runs out
-/// of memory, nothing was done, and the watcher isn't told.
+/// Does the turn of a line, tells the watcher before and after, and writes the line of what it
+/// sends. If it runs out of memory, nothing was done, and the watcher is told that.
 fn do_turn<W: Write, S: Store + Drop, V: Watch>(
     output: &mut Output<W>,
     core: &mut Core<S>,
@@ -125,7 +122,9 @@ fn do_turn<W: Write, S: Store + Drop, V: Watch>(
 {
     let NumberedTurn { turn, number } = line;
     let seen = Seen::begun(turn.now, turn.draw, turn.from, buffers.input.bytes());
+    watcher.foresee(seen, core);
     let Ok(report) = core.step(turn.now, turn.draw, seen.event, &mut buffers.output) else {
+        watcher.see(seen, core);
         return Err(ReplayError::OutOfMemory { line: number });
     };
     line_for(&mut buffers.text, turn.now, report, &buffers.output);
@@ -167,12 +166,12 @@ pub fn replay_turns<R: BufRead, W: Write, S: Store + Drop>(
     replay_watched(budget, input, output, core, &mut Unwatched)
 }
 
-/// Does the same as `replay_turns`, within this budget, and tells a watcher each turn that was
-/// done, before the line of what it sends is written.
+/// Does the same as `replay_turns`, within this budget, and tells a watcher each turn: before its
+/// step, and after it, before the line of what it sends is written.
 ///
 /// # Errors
 /// Those of `replay_turns`. The watcher was told the turns that were done, also the one whose line
-/// couldn't be written.
+/// couldn't be written, and the one that ran out of memory.
 pub fn replay_watched<R: BufRead, W: Write, S: Store + Drop, V: Watch>(
     budget: Budget,
     input: &mut Input<R>,
@@ -186,7 +185,7 @@ pub fn replay_watched<R: BufRead, W: Write, S: Store + Drop, V: Watch>(
     ensures cause { HasCause input.new.failed output.new.failed result }
     ensures reader { FailsBy (is_read_fault result) input.old.failed input.new.failed }
     ensures writer { FailsBy (is_write_fault result) output.old.failed output.new.failed }
-    ensures told { IsTold V.sees core.old watcher.old core.new watcher.new }
+    ensures told { EndsTold V.sees core.old watcher.old core.new watcher.new result }
 {
     let Budget { alloc, turns } = budget;
     if turns == 0 {

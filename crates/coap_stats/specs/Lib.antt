@@ -1,5 +1,7 @@
 pub mod Tally
 pub mod Numbers
+pub mod Turns
+pub mod Statistics
 pub mod Clock
 pub mod Examples
 pub mod Line

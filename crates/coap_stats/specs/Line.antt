@@ -5,8 +5,11 @@ use Rattle.std.specs.List.{flat_map}
 use Rattle.coap_limits.specs.Limits.{Limits}
 use Rattle.coap_model.specs.declared.report.Counts.{Counts}
 use Rattle.coap_stats.specs.declared.tally.AnswerCounts.{AnswerCounts}
-use Rattle.coap_stats.specs.declared.tally.RefusalCounts.{RefusalCounts}
-use Rattle.coap_stats.specs.declared.tally.RequestCounts.{RequestCounts}
+use Rattle.coap_store.specs.declared.evictions.Evictions.{Evictions}
+use Rattle.coap_counts.specs.declared.openings.OpeningCounts.{OpeningCounts}
+use Rattle.coap_counts.specs.declared.origins.AnswerClasses.{AnswerClasses}
+use Rattle.coap_counts.specs.declared.requests.RefusalCounts.{RefusalCounts}
+use Rattle.coap_counts.specs.declared.requests.RequestCounts.{RequestCounts}
 use Rattle.coap_stats.specs.declared.tally.Tally.{Tally}
 use Rattle.coap_stats.specs.declared.words.Share as program_share
 use Rattle.coap_stats.specs.declared.words.Word as program_word
@@ -54,6 +57,18 @@ answer_words n =
     (codes "kept", n.kept) ∷ (codes "too_large", n.too_large)
     ∷ (codes "no_memory", n.no_memory) ∷ (codes "not_stored", n.not_stored) ∷ []
 
+abbrev pub opening_words : OpeningCounts → List Word
+opening_words n =
+    (codes "absent", n.absent) ∷ (codes "stale", n.stale) ∷ (codes "marked", n.marked)
+    ∷ (codes "not_get", n.not_get) ∷ []
+
+abbrev pub class_words : AnswerClasses → List Word
+class_words n =
+    (codes "2", n.success) ∷ (codes "4", n.client_error) ∷ (codes "5", n.server_error) ∷ []
+
+abbrev pub eviction_words : Evictions → List Word
+eviction_words n = (codes "evicted", n.entries) ∷ (codes "evicted_fresh", n.fresh) ∷ []
+
 abbrev pub share : List ℕ → ℕ → ℕ → Share
 share key count limit = record { key = key; count = count; limit = limit }
 
@@ -68,11 +83,12 @@ shares c l =
 
 -- All words of the line, in order: full seconds since the start, what was counted, and what the
 -- proxy holds, with its limits.
-abbrev pub line_of : Tally → Counts → Limits → List ℕ
-line_of n c l =
+abbrev pub line_of : Tally → OpeningCounts → Evictions → Counts → Limits → List ℕ
+line_of n o e c l =
     codes "seconds=" ++ decimal (n.last / 1000) ++ words_text (traffic_words n)
     ++ words_text (request_words n.requests) ++ words_text (refusal_words n.requests.refused)
-    ++ words_text (answer_words n.answers) ++ flat_map share_text (shares c l) ++ codes "\n"
+    ++ words_text (answer_words n.answers) ++ words_text (opening_words o)
+    ++ words_text (eviction_words e) ++ flat_map share_text (shares c l) ++ codes "\n"
 
 -- ---- keys and numbers as the program has them
 

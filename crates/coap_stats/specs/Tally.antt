@@ -1,60 +1,17 @@
 -- Counts of what turns did.
-use Rattle.std.specs.Prelude.{ℕ, ◌+◌, ◌==◌, min, Bool, true, false, not, List, [], ◌∷◌, Option, Some, None, is_some, if◌then◌else◌}
-use Rattle.coap_message.specs.declared.code.Code.{Code}
+use Rattle.std.specs.Prelude.{Bool, true, false, not, List, [], ◌∷◌, Option, Some, None, is_some, if◌then◌else◌}
+pub use Rattle.coap_counts.specs.Requests.{capped, more, is_again, is_hit, is_joined, is_opened, is_overloaded, is_refused, lacks_id, lacks_record_room, no_refusals, no_requests, refusals_with, requests_with, with_refusal, with_request}
 use Rattle.coap_model.specs.declared.report.Outcome.{Outcome}
-use Rattle.coap_model.specs.declared.report.Outcome.TheVariants.{Again, NoRecordRoom, Refused, Hit, Joined, Opened, Overloaded, NoId, Answered, Resent, GaveUp}
+use Rattle.coap_model.specs.declared.report.Outcome.TheVariants.{Answered, Resent, GaveUp}
 use Rattle.coap_model.specs.declared.report.Report.{Report}
 use Rattle.coap_model.specs.declared.report.Storing.{Storing}
 use Rattle.coap_model.specs.declared.report.Storing.TheVariants.{Kept, TooLarge, NoMemory, NotStored}
 use Rattle.coap_model.specs.Events.{Event, arrival, tick}
 use Rattle.coap_watch.specs.Told.{Told}
 use Rattle.coap_stats.specs.declared.tally.AnswerCounts.{AnswerCounts}
-use Rattle.coap_stats.specs.declared.tally.RefusalCounts.{RefusalCounts}
-use Rattle.coap_stats.specs.declared.tally.RequestCounts.{RequestCounts}
 use Rattle.coap_stats.specs.declared.tally.Tally.{Tally}
 
--- a number, but at most 2^64 - 1
-abbrev pub capped : ℕ → ℕ
-capped n = min n 18446744073709551615
-
--- one more, if this is true, but at most 2^64 - 1
-abbrev pub more : Bool → ℕ → ℕ
-more true n = capped (n + 1)
-more false n = n
-
 -- ---- what an outcome is
-
-abbrev pub is_hit : Outcome → Bool
-is_hit Hit = true
-is_hit _ = false
-
-abbrev pub is_joined : Outcome → Bool
-is_joined Joined = true
-is_joined _ = false
-
-abbrev pub is_opened : Outcome → Bool
-is_opened Opened = true
-is_opened _ = false
-
-abbrev pub is_refused : ℕ → Outcome → Bool
-is_refused code (Refused c) = c.0 == code
-is_refused code _ = false
-
-abbrev pub is_overloaded : Outcome → Bool
-is_overloaded Overloaded = true
-is_overloaded _ = false
-
-abbrev pub lacks_record_room : Outcome → Bool
-lacks_record_room NoRecordRoom = true
-lacks_record_room _ = false
-
-abbrev pub lacks_id : Outcome → Bool
-lacks_id NoId = true
-lacks_id _ = false
-
-abbrev pub is_again : Outcome → Bool
-is_again Again = true
-is_again _ = false
 
 abbrev pub is_resent : Outcome → Bool
 is_resent Resent = true
@@ -119,28 +76,6 @@ was_lost t = not (is_some t.report)
 
 -- ---- counts
 
-abbrev pub no_refusals : RefusalCounts
-no_refusals = record {
-  bad_request = 0;
-  bad_option = 0;
-  not_found = 0;
-  method_not_allowed = 0;
-  entity_too_large = 0;
-  not_proxied = 0;
-}
-
-abbrev pub no_requests : RequestCounts
-no_requests = record {
-  hit = 0;
-  joined = 0;
-  opened = 0;
-  refused = no_refusals;
-  overloaded = 0;
-  no_record_room = 0;
-  no_id = 0;
-  again = 0;
-}
-
 abbrev pub no_answers : AnswerCounts
 no_answers = record { kept = 0; too_large = 0; no_memory = 0; not_stored = 0 }
 
@@ -159,28 +94,6 @@ no_tally = record {
 
 -- the counts with one more outcome, if there is one: each count is of outcomes that pass its test
 module _ (did : (Outcome → Bool) → Bool) where
-  abbrev pub refusals_with : RefusalCounts → RefusalCounts
-  refusals_with n = record {
-    bad_request = more (did (is_refused 0x80)) n.bad_request;
-    bad_option = more (did (is_refused 0x82)) n.bad_option;
-    not_found = more (did (is_refused 0x84)) n.not_found;
-    method_not_allowed = more (did (is_refused 0x85)) n.method_not_allowed;
-    entity_too_large = more (did (is_refused 0x8D)) n.entity_too_large;
-    not_proxied = more (did (is_refused 0xA5)) n.not_proxied;
-  }
-
-  abbrev pub requests_with : RequestCounts → RequestCounts
-  requests_with n = record {
-    hit = more (did is_hit) n.hit;
-    joined = more (did is_joined) n.joined;
-    opened = more (did is_opened) n.opened;
-    refused = refusals_with n.refused;
-    overloaded = more (did is_overloaded) n.overloaded;
-    no_record_room = more (did lacks_record_room) n.no_record_room;
-    no_id = more (did lacks_id) n.no_id;
-    again = more (did is_again) n.again;
-  }
-
   abbrev pub answers_with : AnswerCounts → AnswerCounts
   answers_with n = record {
     kept = more (did (is_answered is_kept)) n.kept;
@@ -189,14 +102,8 @@ module _ (did : (Outcome → Bool) → Bool) where
     not_stored = more (did (is_answered is_not_stored)) n.not_stored;
   }
 
-abbrev pub with_refusal : Code → RefusalCounts → RefusalCounts
-with_refusal code n = refusals_with (λ is. is (Refused code)) n
-
 abbrev pub with_answer : Storing → AnswerCounts → AnswerCounts
 with_answer storing n = answers_with (λ is. is (Answered storing)) n
-
-abbrev pub with_request : Outcome → RequestCounts → RequestCounts
-with_request outcome n = requests_with (λ is. is outcome) n
 
 abbrev pub with_outcome : Outcome → Tally → Tally
 with_outcome outcome n = record n {

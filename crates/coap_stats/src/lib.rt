@@ -3,23 +3,30 @@
 //! # First use
 //!
 //! ```rust
-//! let mut tally = Tally::new();
-//! drive_watched(alloc, &mut core, &mut port, &mut tally, 1)?;
+//! let mut statistics = Statistics::new(alloc, core.routes())?;
+//! drive_watched(alloc, &mut core, &mut port, &mut statistics, 1)?;
 //! let mut text = Vec::new(alloc);
-//! put_line(&mut text, &tally, &core.counts(), limits.values())?;
+//! put_line(&mut text, &statistics, &core.counts(), limits.values())?;
 //! assert!(rt; text.starts_with(b"seconds=2 received=0 sent=0 "));
 //! ```
 #![tactic(auto)]
 
 mod clock;
 pub mod examples;
+mod labels;
 pub mod laws;
 mod line;
 mod metrics;
+mod series;
+mod statistics;
 mod tally;
+mod turns;
 mod words;
 
 pub use clock::{StandingClock, period_end, period_of};
+pub use labels::socket_of;
 pub use line::put_line;
-pub use metrics::put_metrics;
-pub use tally::{AnswerCounts, RefusalCounts, RequestCounts, Tally};
+pub use metrics::{metrics_room, put_metrics};
+pub use statistics::Statistics;
+pub use tally::{AnswerCounts, Tally};
+pub use turns::Foreseen;

@@ -4,9 +4,10 @@ ghost use Rattle.std.specs.Fmt.{decimal};
 ghost use Rattle.std.specs.List.{flat_map};
 ghost use Rattle.coap_stats.specs.Line as spec;
 
-use crate::tally::Tally;
+use crate::statistics::Statistics;
 use crate::words::{
-    Share, Word, answer_words, refusal_words, request_words, shares, traffic_words,
+    Share, Word, answer_words, eviction_words, opening_words, refusal_words, request_words, shares,
+    traffic_words,
 };
 use coap_core::{Counts, LimitValues};
 use coap_message::OutOfMemory;
@@ -81,19 +82,24 @@ fn put_shares(out: &mut Vec<u8>, shares: &[Share]) -> Result<(), OutOfMemory>
 /// Out of memory. Part of the line was added then.
 pub fn put_line(
     out: &mut Vec<u8>,
-    tally: &Tally,
+    statistics: &Statistics,
     counts: &Counts,
     limits: &LimitValues,
 ) -> Result<(), OutOfMemory>
     ensures { OnOk result (out.new.items
-        ≡ out.old.items ++ spec.line_of tally.now counts.now limits.now) }
+        ≡ out.old.items
+        ++ spec.line_of statistics.now.tally statistics.now.openings statistics.now.evictions
+        counts.now limits.now) }
 {
+    let tally = &statistics.tally;
     put(out, b"seconds=")?;
     put_number(out, tally.last / 1000)?;
     put_words(out, &traffic_words(tally))?;
     put_words(out, &request_words(&tally.requests))?;
     put_words(out, &refusal_words(&tally.requests.refused))?;
     put_words(out, &answer_words(&tally.answers))?;
+    put_words(out, &opening_words(&statistics.openings))?;
+    put_words(out, &eviction_words(&statistics.evictions))?;
     put_shares(out, &shares(counts, limits))?;
     put(out, b"\n")
 }

@@ -1,18 +1,24 @@
 //! The counts as metrics, in the text format that Prometheus reads.
 
+use crate::labels::{Whose, put_whose};
 use crate::line::{put, put_number};
+use crate::series::{put_maps, put_origins};
+use crate::statistics::Statistics;
 use crate::tally::Tally;
-use crate::words::{Share, Word, answer_words, refusal_words, request_words, shares};
+use crate::words::{
+    Share, Word, answer_words, opening_words, refusal_words, request_words, shares,
+};
 use coap_core::{Counts, LimitValues};
+use coap_counts::RequestCounts;
 use coap_message::OutOfMemory;
 
 /// A metric.
 #[derive(Clone, Copy)]
-struct Metric {
-    name: &'static str,
+pub(crate) struct Metric {
+    pub(crate) name: &'static str,
     /// `counter` for what only grows, `gauge` for what goes up and down.
-    kind: &'static str,
-    help: &'static str,
+    pub(crate) kind: &'static str,
+    pub(crate) help: &'static str,
 }
 
 const UPTIME: Metric = Metric {
@@ -69,6 +75,24 @@ const ANSWERS: Metric = Metric {
     help: "Responses of origin servers by what the cache did with them.",
 };
 
+const OPENED: Metric = Metric {
+    name: "coap_proxyd_opened_total",
+    kind: "counter",
+    help: "Exchanges that were opened, by what the cache had for the request.",
+};
+
+const EVICTED: Metric = Metric {
+    name: "coap_proxyd_evicted_entries_total",
+    kind: "counter",
+    help: "Entries of the cache that made room for others.",
+};
+
+const EVICTED_FRESH: Metric = Metric {
+    name: "coap_proxyd_evicted_fresh_entries_total",
+    kind: "counter",
+    help: "Those of them that were still fresh.",
+};
+
 const HELD: Metric = Metric {
     name: "coap_proxyd_held",
     kind: "gauge",
@@ -82,7 +106,7 @@ const LIMIT: Metric = Metric {
 };
 
 /// Adds the lines that describe a metric.
-fn put_head(out: &mut Vec<u8>, metric: Metric) -> Result<(), OutOfMemory> {
+pub(crate) fn put_head(out: &mut Vec<u8>, metric: Metric) -> Result<(), OutOfMemory> {
     put(out, b"# HELP ")?;
     put(out, metric.name.as_bytes())?;
     put(out, b" ")?;
@@ -116,17 +140,54 @@ fn put_metric(
     put(out, b"\n")
 }
 
-/// A metric that has several numbers, told apart by a label.
+/// A metric that has several numbers, told apart by a label: of the whole proxy, or of a part of it.
 #[derive(Clone, Copy)]
-struct Family<'a> {
-    metric: Metric,
-    label: &'static str,
-    listen: &'a str,
+pub(crate) struct Family<'a> {
+    pub(crate) metric: Metric,
+    pub(crate) label: &'static str,
+    pub(crate) listen: &'a str,
+    pub(crate) whose: Whose<'a>,
 }
 
-/// Adds the line of one of a metric's numbers: `NAME{listen="LISTEN",LABEL="KEY"} NUMBER`.
-fn put_sample(out: &mut Vec<u8>, family: Family<'_>, word: Word) -> Result<(), OutOfMemory> {
+impl<'a> Family<'a> {
+    /// The same under another name.
+    pub(crate) fn named(self, name: &'static str) -> Family<'a> {
+        Family {
+            metric: Metric {
+                name,
+                ..self.metric
+            },
+            ..self
+        }
+    }
+}
+
+/// Adds the name of the only number of a part: `NAME{listen="LISTEN",PART} `.
+pub(crate) fn put_name(out: &mut Vec<u8>, family: Family<'_>) -> Result<(), OutOfMemory> {
     put_listen(out, family.metric.name, family.listen)?;
+    put_whose(out, family.whose)?;
+    put(out, b"} ")
+}
+
+/// Adds the line of the only number of a part: `NAME{listen="LISTEN",PART} NUMBER`.
+pub(crate) fn put_number_of(
+    out: &mut Vec<u8>,
+    family: Family<'_>,
+    number: u64,
+) -> Result<(), OutOfMemory> {
+    put_name(out, family)?;
+    put_number(out, number)?;
+    put(out, b"\n")
+}
+
+/// Adds the line of one of a metric's numbers: `NAME{listen="LISTEN",PART,LABEL="KEY"} NUMBER`.
+pub(crate) fn put_sample(
+    out: &mut Vec<u8>,
+    family: Family<'_>,
+    word: Word,
+) -> Result<(), OutOfMemory> {
+    put_listen(out, family.metric.name, family.listen)?;
+    put_whose(out, family.whose)?;
     put(out, b",")?;
     put(out, family.label.as_bytes())?;
     put(out, b"=\"")?;
@@ -137,7 +198,11 @@ fn put_sample(out: &mut Vec<u8>, family: Family<'_>, word: Word) -> Result<(), O
 }
 
 /// Adds the lines of several of a metric's numbers.
-fn put_samples(out: &mut Vec<u8>, family: Family<'_>, words: &[Word]) -> Result<(), OutOfMemory> {
+pub(crate) fn put_samples(
+    out: &mut Vec<u8>,
+    family: Family<'_>,
+    words: &[Word],
+) -> Result<(), OutOfMemory> {
     for word in words {
         put_sample(out, family, *word)?;
     }
@@ -155,21 +220,46 @@ fn put_traffic(out: &mut Vec<u8>, listen: &str, tally: &Tally) -> Result<(), Out
     put_metric(out, listen, GAVE_UP, tally.gave_up)
 }
 
+/// Adds the lines of requests by what became of them.
+pub(crate) fn put_requests(
+    out: &mut Vec<u8>,
+    family: Family<'_>,
+    requests: &RequestCounts,
+) -> Result<(), OutOfMemory> {
+    put_samples(out, family, &request_words(requests))?;
+    put_samples(out, family, &refusal_words(&requests.refused))
+}
+
+/// Adds what says whether the cache is too small: what it evicted, and why exchanges were opened.
+fn put_cache(out: &mut Vec<u8>, listen: &str, statistics: &Statistics) -> Result<(), OutOfMemory> {
+    let opened = Family {
+        metric: OPENED,
+        label: "stored",
+        listen,
+        whose: Whose::All,
+    };
+    put_metric(out, listen, EVICTED, statistics.evictions.entries)?;
+    put_metric(out, listen, EVICTED_FRESH, statistics.evictions.fresh)?;
+    put_head(out, OPENED)?;
+    put_samples(out, opened, &opening_words(&statistics.openings))
+}
+
 /// Adds the counts of requests and of answers.
 fn put_outcomes(out: &mut Vec<u8>, listen: &str, tally: &Tally) -> Result<(), OutOfMemory> {
     let requests = Family {
         metric: REQUESTS,
         label: "outcome",
         listen,
+        whose: Whose::All,
     };
     let answers = Family {
         metric: ANSWERS,
         label: "storing",
         listen,
+        whose: Whose::All,
     };
     put_head(out, REQUESTS)?;
-    put_samples(out, requests, &request_words(&tally.requests))?;
-    put_samples(out, requests, &refusal_words(&tally.requests.refused))?;
+    put_requests(out, requests, &tally.requests)?;
     put_head(out, ANSWERS)?;
     put_samples(out, answers, &answer_words(&tally.answers))
 }
@@ -185,6 +275,7 @@ fn put_share(
         metric,
         label: "what",
         listen,
+        whose: Whose::All,
     };
     let word = Word {
         key: share.key,
@@ -207,7 +298,8 @@ fn put_held(out: &mut Vec<u8>, listen: &str, shares: &[Share]) -> Result<(), Out
 }
 
 /// Adds the counts as metrics, each with its help and its type: what turns did, by its outcome where
-/// there are several; then what the proxy holds, and its limits. The numbers and their keys are
+/// there are several; what became of the requests that went through each map; what each origin was
+/// sent and answered; then what the proxy holds, and its limits. The numbers and their keys are
 /// those of `put_line`. Each has the label `listen`, where this proxy listens, such as
 /// `0.0.0.0:5683`: by that it is told from others on its host.
 ///
@@ -216,11 +308,29 @@ fn put_held(out: &mut Vec<u8>, listen: &str, shares: &[Share]) -> Result<(), Out
 pub fn put_metrics(
     out: &mut Vec<u8>,
     listen: &str,
-    tally: &Tally,
+    statistics: &Statistics,
     counts: &Counts,
     limits: &LimitValues,
 ) -> Result<(), OutOfMemory> {
-    put_traffic(out, listen, tally)?;
-    put_outcomes(out, listen, tally)?;
+    put_traffic(out, listen, &statistics.tally)?;
+    put_outcomes(out, listen, &statistics.tally)?;
+    put_cache(out, listen, statistics)?;
+    put_maps(out, listen, &statistics.maps)?;
+    put_origins(out, listen, &statistics.origins, statistics.tally.last)?;
     put_held(out, listen, &shares(counts, limits))
+}
+
+/// How many bytes a line takes at most, beside what a map's prefix takes in it.
+const LINE: usize = 256;
+
+/// How many bytes the text of `put_metrics` takes at most, whatever it counts later.
+pub fn metrics_room(statistics: &Statistics) -> usize {
+    let origins = statistics.origins.places().len().saturating_add(1);
+    let mut room = origins.saturating_mul(32 * LINE);
+    room = room.saturating_add(128 * LINE);
+    for map in statistics.maps.maps() {
+        let line = map.prefix.size().saturating_mul(3).saturating_add(LINE);
+        room = room.saturating_add(line.saturating_mul(16));
+    }
+    room
 }

@@ -1,51 +1,14 @@
 //! Counts of what turns did.
-ghost use Rattle.std.specs.Prelude.{◌≡◌, true};
+ghost use Rattle.std.specs.Prelude.{◌≡◌};
 ghost use Rattle.coap_model.specs.State.{State};
 ghost use Rattle.coap_stats.specs.Tally as spec;
 ghost use Rattle.coap_watch.specs.Told.{told};
 
 use coap_core::{Core, Event, Outcome, Storing};
-use coap_message::{Code, Moment};
+use coap_counts::{RequestCounts, one_more};
+use coap_message::Moment;
 use coap_store::Store;
 use coap_watch::{Seen, Watch};
-
-/// How many requests were refused with each code.
-#[derive(Clone, Copy, Debug, PartialEq, Eq)]
-pub struct RefusalCounts {
-    /// 4.00
-    pub bad_request: u64,
-    /// 4.02
-    pub bad_option: u64,
-    /// 4.04
-    pub not_found: u64,
-    /// 4.05
-    pub method_not_allowed: u64,
-    /// 4.13
-    pub entity_too_large: u64,
-    /// 5.05
-    pub not_proxied: u64,
-}
-
-/// How many requests ended in each way.
-#[derive(Clone, Copy, Debug, PartialEq, Eq)]
-pub struct RequestCounts {
-    /// Answered from the cache.
-    pub hit: u64,
-    /// Joined an exchange in progress.
-    pub joined: u64,
-    /// Opened an exchange.
-    pub opened: u64,
-    /// Refused, by code.
-    pub refused: RefusalCounts,
-    /// Turned away with 5.03.
-    pub overloaded: u64,
-    /// Dropped, as there was no room for a duplicate record. Confirmable responses count as well.
-    pub no_record_room: u64,
-    /// Dropped, as no Message ID was free for the reply.
-    pub no_id: u64,
-    /// Came before. Duplicates of Confirmable responses count as well.
-    pub again: u64,
-}
 
 /// How many answers came, by what the cache did with them.
 #[derive(Clone, Copy, Debug, PartialEq, Eq)]
@@ -81,30 +44,6 @@ pub struct Tally {
     pub gave_up: u64,
 }
 
-/// One more, up to 2^64 - 1.
-fn one_more(count: &mut u64)
-    ensures { count.new ≡ spec.more true count.old }
-{
-    *count = count.saturating_add(1);
-}
-
-impl RefusalCounts {
-    /// Counts a refusal. Other codes aren't counted.
-    fn count(&mut self, code: Code)
-        ensures { self.new ≡ spec.with_refusal code self.old }
-    {
-        match code.0 {
-            0x80 => one_more(&mut self.bad_request),
-            0x82 => one_more(&mut self.bad_option),
-            0x84 => one_more(&mut self.not_found),
-            0x85 => one_more(&mut self.method_not_allowed),
-            0x8D => one_more(&mut self.entity_too_large),
-            0xA5 => one_more(&mut self.not_proxied),
-            _ => {}
-        }
-    }
-}
-
 impl AnswerCounts {
     /// Counts an answer.
     fn count(&mut self, storing: Storing)
@@ -115,25 +54,6 @@ impl AnswerCounts {
             Storing::TooLarge => one_more(&mut self.too_large),
             Storing::NoMemory => one_more(&mut self.no_memory),
             Storing::NotStored => one_more(&mut self.not_stored),
-        }
-    }
-}
-
-impl RequestCounts {
-    /// Counts an outcome, if it is of a request.
-    fn count(&mut self, outcome: Outcome)
-        ensures { self.new ≡ spec.with_request outcome self.old }
-    {
-        match outcome {
-            Outcome::Hit => one_more(&mut self.hit),
-            Outcome::Joined => one_more(&mut self.joined),
-            Outcome::Opened => one_more(&mut self.opened),
-            Outcome::Refused(code) => self.refused.count(code),
-            Outcome::Overloaded => one_more(&mut self.overloaded),
-            Outcome::NoRecordRoom => one_more(&mut self.no_record_room),
-            Outcome::NoId => one_more(&mut self.no_id),
-            Outcome::Again => one_more(&mut self.again),
-            _ => {}
         }
     }
 }
@@ -149,23 +69,7 @@ impl Tally {
             sent: 0,
             send_faults: 0,
             lost: 0,
-            requests: RequestCounts {
-                hit: 0,
-                joined: 0,
-                opened: 0,
-                refused: RefusalCounts {
-                    bad_request: 0,
-                    bad_option: 0,
-                    not_found: 0,
-                    method_not_allowed: 0,
-                    entity_too_large: 0,
-                    not_proxied: 0,
-                },
-                overloaded: 0,
-                no_record_room: 0,
-                no_id: 0,
-                again: 0,
-            },
+            requests: RequestCounts::new(),
             answers: AnswerCounts {
                 kept: 0,
                 too_large: 0,
@@ -224,6 +128,8 @@ impl Watch for Tally {
     ghost use Rattle.coap_stats.specs.Tally.{with_told};
 
     ghost sees = { λ before told after. after ≡ with_told told before };
+
+    fn foresee<S: Store + Drop>(&mut self, _turn: Seen<'_>, _core: &Core<S>) {}
 
     fn see<S: Store + Drop>(&mut self, turn: Seen<'_>, _core: &Core<S>) {
         self.count(turn);

@@ -2,8 +2,10 @@
 ghost use Rattle.std.specs.Prelude.{◌≡◌, map};
 ghost use Rattle.coap_stats.specs.Line as spec;
 
-use crate::tally::{AnswerCounts, RefusalCounts, RequestCounts, Tally};
+use crate::tally::{AnswerCounts, Tally};
 use coap_core::{Counts, LimitValues};
+use coap_counts::{AnswerClasses, OpeningCounts, RefusalCounts, RequestCounts};
+use coap_store::Evictions;
 
 /// A key, and its number.
 #[derive(Clone, Copy)]
@@ -86,6 +88,39 @@ pub(crate) fn answer_words(n: &AnswerCounts) -> [Word; 4]
         word_of("too_large", n.too_large),
         word_of("no_memory", n.no_memory),
         word_of("not_stored", n.not_stored),
+    ]
+}
+
+/// Why exchanges were opened.
+pub(crate) fn opening_words(n: &OpeningCounts) -> [Word; 4]
+    ensures { map spec.word_seen result ≡ spec.opening_words n.now }
+{
+    [
+        word_of("absent", n.absent),
+        word_of("stale", n.stale),
+        word_of("marked", n.marked),
+        word_of("not_get", n.not_get),
+    ]
+}
+
+/// The answers of an origin, by the first digit of their code.
+pub(crate) fn class_words(n: &AnswerClasses) -> [Word; 3]
+    ensures { map spec.word_seen result ≡ spec.class_words n.now }
+{
+    [
+        word_of("2", n.success),
+        word_of("4", n.client_error),
+        word_of("5", n.server_error),
+    ]
+}
+
+/// What was evicted.
+pub(crate) fn eviction_words(n: &Evictions) -> [Word; 2]
+    ensures { map spec.word_seen result ≡ spec.eviction_words n.now }
+{
+    [
+        word_of("evicted", n.entries),
+        word_of("evicted_fresh", n.fresh),
     ]
 }
 

@@ -87,14 +87,22 @@ impl<'a> Seen<'a> {
     }
 }
 
-/// Is told each turn of a loop, after it was done.
+/// Is told each turn of a loop: before its step, and after it was done.
 ///
-/// An implementation states in `sees` what being told does to it.
+/// An implementation states in `sees` what being told of a turn that was done does to it.
 pub trait Watch {
     ghost use Rattle.coap_watch.specs.Told.{Told, told};
 
     // it was told of this turn, and was left in this state
     ghost sees: { Self → Told → Self → Type 0 };
+
+    /// Is told of a turn that begins, with the core as it is before its step. So what the turn is
+    /// about can be noted that the core doesn't hold any more after it. What can be seen of the turn
+    /// afterwards stays what it was.
+    fn foresee<S: Store + Drop>(&mut self, turn: Seen<'_>, core: &Core<S>)
+        ensures foreseen { (t : Told) (after : Self)
+            → sees self.new t after
+            → sees self.old t after };
 
     /// Is told of a turn, with the core as it is after it.
     fn see<S: Store + Drop>(&mut self, turn: Seen<'_>, core: &Core<S>)
@@ -109,6 +117,8 @@ impl Watch for Unwatched {
     ghost use Rattle.std.specs.Prelude.{◌≡◌};
 
     ghost sees = { λ before told after. after ≡ before };
+
+    fn foresee<S: Store + Drop>(&mut self, _turn: Seen<'_>, _core: &Core<S>) {}
 
     fn see<S: Store + Drop>(&mut self, _turn: Seen<'_>, _core: &Core<S>) {}
 }

@@ -81,4 +81,5 @@ settings-in-range rows s are = record {
   salt = not-above 0 greatest _ s.salt are.salt;
   turns = in-range 1 greatest _ s.turns are.turns;
   stats = in-range 1 longest_period _ s.stats are.stats;
+  record_bytes = in-range 1 greatest _ s.record_bytes are.record_bytes;
 }

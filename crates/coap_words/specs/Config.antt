@@ -242,5 +242,9 @@ routes_checked said = if_routes said (routes_of said.names said.hosts said.maps 
 abbrev pub document_of : Text → Result Members ConfigError
 document_of text = if is_utf8 text then ok_or (parse_document text) Syntax else Err Syntax
 
+-- before the routes are checked
+abbrev pub unchecked_of : Text → Result Said ConfigError
+unchecked_of text = after (document_of text) table_said
+
 abbrev pub config_of : Text → Result Said ConfigError
-config_of text = after (document_of text) (λ members. after (table_said members) routes_checked)
+config_of text = after (unchecked_of text) routes_checked

@@ -71,6 +71,13 @@ stats_rule = parsed_by (Unsigned 1 longest_period) (by_name (codes "stats"))
 abbrev pub stats_file_rule : Rule
 stats_file_rule = by_name (codes "stats-file")
 
+abbrev pub log_rule : Rule
+log_rule = flag (codes "log")
+
+-- a size in bytes is from 1 on
+abbrev pub record_bytes_rule : Rule
+record_bytes_rule = parsed_by (Unsigned 1 greatest) (by_name (codes "record-bytes"))
+
 -- the program without options, whose words don't begin with its name, and which has a version
 abbrev pub program : App
 program =
@@ -84,7 +91,9 @@ with_three app a b c = with_rule (with_rule (with_rule app a) b) c
 -- the options for what is seen of its work
 abbrev pub with_observing : App → App
 with_observing app =
-    with_rule (with_three app record_rule explain_rule stats_rule) stats_file_rule
+    with_three
+    (with_three app record_rule explain_rule stats_rule)
+    stats_file_rule log_rule record_bytes_rule
 
 abbrev pub option_table : App
 option_table =
@@ -118,4 +127,5 @@ options =
     address_rule ∷ port_rule ∷ names_rule
     ∷ config_rule ∷ map_rule ∷ replay_rule
     ∷ id_rule ∷ salt_rule ∷ turns_rule
-    ∷ record_rule ∷ explain_rule ∷ stats_rule ∷ stats_file_rule ∷ []
+    ∷ record_rule ∷ explain_rule ∷ stats_rule
+    ∷ stats_file_rule ∷ log_rule ∷ record_bytes_rule ∷ []

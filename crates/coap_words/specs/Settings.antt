@@ -48,6 +48,8 @@ pub record AreSettings (rows : List Row) (s : Settings) : Type 0 where
   pub explain : s.explain ≡ is_given (codes "explain") rows
   pub stats : IsNumberOf 1 longest_period (one_of (codes "stats") rows) s.stats
   pub stats_file : option_map string_bytes s.stats_file ≡ first_of (codes "stats-file") rows
+  pub log : s.log ≡ is_given (codes "log") rows
+  pub record_bytes : IsNumberOf 1 greatest (one_of (codes "record-bytes") rows) s.record_bytes
 
 -- each setting that isn't a text is what its option gives
 pub record AreNumbers (rows : List Row) (s : Settings) : Type 0 where
@@ -58,6 +60,8 @@ pub record AreNumbers (rows : List Row) (s : Settings) : Type 0 where
   pub turns : IsNumberOf 1 greatest (one_of (codes "turns") rows) s.turns
   pub explain : s.explain ≡ is_given (codes "explain") rows
   pub stats : IsNumberOf 1 longest_period (one_of (codes "stats") rows) s.stats
+  pub log : s.log ≡ is_given (codes "log") rows
+  pub record_bytes : IsNumberOf 1 greatest (one_of (codes "record-bytes") rows) s.record_bytes
 
 -- the numbers are in their ranges
 pub record AreInRange (s : Settings) : Type 0 where
@@ -65,6 +69,7 @@ pub record AreInRange (s : Settings) : Type 0 where
   pub salt : IfSome s.salt (λ n. n ≤ greatest)
   pub turns : IfSome s.turns (λ n. (1 ≤ n) × (n ≤ greatest))
   pub stats : IfSome s.stats (λ n. (1 ≤ n) × (n ≤ longest_period))
+  pub record_bytes : IfSome s.record_bytes (λ n. (1 ≤ n) × (n ≤ greatest))
 
 -- the help and the version end the program with 0, a refusal with 2
 abbrev pub status_of : ErrorKind → ℕ

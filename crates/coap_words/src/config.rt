@@ -46,10 +46,36 @@ pub struct Config {
 pub fn read_config(alloc: Global, text: &[u8]) -> Result<Config, ConfigError>
     ensures { Says seen errors.OutOfMemory result (spec.config_of text.now) }
 {
-    let table = read_document(alloc, text)?;
-    let config = read_table(alloc, &table)?;
+    let config = read_unchecked(alloc, text)?;
     check_routes(alloc, &config)?;
     Ok(config)
+}
+
+/// Reads a configuration whose texts may make up no routes: for what says which of them don't.
+///
+/// # Errors
+/// Those of `read_config`, but for the routes.
+pub fn read_unchecked(alloc: Global, text: &[u8]) -> Result<Config, ConfigError>
+    ensures { Says seen errors.OutOfMemory result (spec.unchecked_of text.now) }
+{
+    let table = read_document(alloc, text)?;
+    read_table(alloc, &table)
+}
+
+/// What is wrong with a text that isn't TOML: the line, from 1, and what its reader says. None if
+/// it is TOML, or if memory ran out.
+pub fn syntax_flaw(alloc: Global, text: &[u8]) -> Option<String> {
+    let Ok(text) = str::from_utf8(text) else {
+        return format!(in alloc; "not UTF-8").ok();
+    };
+    let Err(error) = toml::table_from_str(alloc, text) else {
+        return None;
+    };
+    let start = error.span()?.start;
+    let before = text.as_bytes().get(..start)?;
+    let line = before.iter().filter(|byte| **byte == b'\n').count() as u64 + 1;
+    let message = error.message();
+    format!(in alloc; "line {line}: {message}").ok()
 }
 
 /// Parses a TOML text.

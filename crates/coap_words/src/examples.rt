@@ -164,6 +164,14 @@ pub fn observing_words()
     ensures not_a_period { one_of (codes "stats")
         (matches_of option_table (codes "--stats-file" ∷ codes "60" ∷ []))
         ≡ None }
+    ensures log { is_given (codes "log") (matches_of option_table (codes "--log" ∷ [])) ≡ true }
+    ensures no_log { is_given (codes "log") (matches_of option_table (codes "--stats=1" ∷ []))
+        ≡ false }
+    ensures record_bytes { one_of (codes "record-bytes")
+        (matches_of option_table (codes "--record-bytes" ∷ codes "1" ∷ []))
+        ≡ Some (codes "1") }
+    ensures no_bytes { fault_of option_table (codes "--record-bytes" ∷ codes "0" ∷ [])
+        ≡ kind.ValueValidation ∷ [] }
 {}
 
 /// Words that are refused, or ask for the help or the version.

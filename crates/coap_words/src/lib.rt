@@ -28,7 +28,7 @@ mod texts;
 mod words;
 
 pub use address::read_local_address;
-pub use config::{Config, read_config};
+pub use config::{Config, read_config, read_unchecked, syntax_flaw};
 pub use config_error::{ConfigError, KeyName};
 pub use error::{MapOptionError, ProxyOptionError};
 pub use limit_keys::limit_key;

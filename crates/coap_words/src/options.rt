@@ -97,7 +97,8 @@ next proxy]",
         name: "record",
         letter: None,
         value: Value::Text("FILE"),
-        help: "Writes the events of the socket to a new file, for --replay [default: none]",
+        help: "Writes the events of the socket to a new file, for --replay; in FOLDER/ it is named \
+by the moment of the start [default: none]",
     },
     Row {
         name: "explain",
@@ -118,6 +119,20 @@ never]",
         value: Value::Text("FILE"),
         help: "Writes the counts to a file for Prometheus, as often as --stats says, or else every \
 60 seconds [default: none]",
+    },
+    Row {
+        name: "log",
+        letter: None,
+        value: Value::Nothing,
+        help: "Writes a line to standard error for each fault of the traffic: origins that don't \
+answer, clients that are refused [default: no lines]",
+    },
+    Row {
+        name: "record-bytes",
+        letter: None,
+        value: Value::Number("BYTES", ValueParser::Unsigned(1, i64::MAX as u64)),
+        help: "Ends the recording before its file has more bytes, 1 to 9223372036854775807 \
+[default: 9223372036854775807]",
     },
 ];
 

@@ -25,7 +25,8 @@ pub struct Settings {
     pub salt: Option<u64>,
     /// `--turns`: the number of turns to do, at least 1 and below 2^63.
     pub turns: Option<u64>,
-    /// `--record`: the path of the file to which events are recorded.
+    /// `--record`: the path of the file to which events are recorded, or that of a folder, which
+    /// ends with a slash.
     pub recording: Option<String>,
     /// `--explain`: whether a replay says what each event did.
     pub explain: bool,
@@ -33,6 +34,10 @@ pub struct Settings {
     pub stats: Option<u64>,
     /// `--stats-file`: the path of the file that holds the counts for Prometheus.
     pub stats_file: Option<String>,
+    /// `--log`: whether a line is written for each fault of the traffic.
+    pub log: bool,
+    /// `--record-bytes`: how many bytes the file of events has at most, at least 1.
+    pub record_bytes: Option<u64>,
 }
 
 impl Drop for Settings {
@@ -51,6 +56,8 @@ impl Drop for Settings {
             explain: _,
             stats: _,
             stats_file: _,
+            log: _,
+            record_bytes: _,
         } = self;
     }
 }

@@ -53,6 +53,8 @@ fn without_texts(matches: &ArgMatches<'_>) -> Settings
         explain: is_given(matches, "explain"),
         stats: number(matches, "stats", 1, 86_400),
         stats_file: None,
+        log: is_given(matches, "log"),
+        record_bytes: number(matches, "record-bytes", 1, i64::MAX as u64),
     }
 }
 

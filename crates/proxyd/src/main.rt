@@ -3,64 +3,54 @@
 
 ghost use Rattle.std.specs.Prelude.{◌<◌, ◌^◌};
 
+mod logging;
+mod recorded;
 mod reporter;
+mod stop;
 
-use crate::reporter::Reporter;
+use crate::logging::{logger_of, tell_listening};
+use crate::recorded::{file_of, since_of};
+use crate::reporter::{Reporter, listen_text};
+use crate::stop::{Stop, ended, fault_of, words};
 use coap_account::Explainer;
 use coap_cache::LruStore;
 use coap_proxyd::{
-    Fault, HeaderError, Output, Plan, Port, RecordFile, Recording, Server, Start, VERSION,
-    header_of, read_plan, read_wanted, words_again,
+    Both, Fault, Output, Plan, Port, Recording, Server, Start, read_plan, read_wanted,
 };
 use coap_udp::UdpPort;
 use std::hash::RandomState;
-use std::io::{ErrorKind, Write};
+use std::io::{BufRead, BufReader};
 use std::process::ExitCode;
 use std::random::RandomSource;
-use std::{env, fs, io};
-
-/// The words after the program's name.
-fn words(rt: &HostRuntime) -> Result<Vec<String>, Fault> {
-    let all = match env::args(rt) {
-        Ok(all) => all,
-        Err(error) => return Err(fault_of(&error, Fault::Arguments)),
-    };
-    all.skip(1)
-        .collect(rt.alloc())
-        .map_err(|_| Fault::OutOfMemory)
-}
-
-/// The fault for a system error: `OutOfMemory` if memory ran out, otherwise `other`.
-fn fault_of(error: &io::Error, other: Fault) -> Fault {
-    if error.kind() == ErrorKind::OutOfMemory {
-        Fault::OutOfMemory
-    } else {
-        other
-    }
-}
+use std::{fs, io};
 
 /// The bytes of a file, if one is named.
-fn file(rt: &HostRuntime, path: &Option<String>) -> Result<Option<Vec<u8>>, Fault> {
+fn file(rt: &HostRuntime, path: &Option<String>) -> Result<Option<Vec<u8>>, Stop> {
     let Some(path) = path else {
         return Ok(None);
     };
     match fs::read(rt, path.as_str()) {
         Ok(bytes) => Ok(Some(bytes)),
-        Err(error) => Err(fault_of(&error, Fault::File)),
+        Err(error) => Err(Stop::by_system(rt, path.as_str(), &error, Fault::File)),
     }
 }
 
 /// The bytes of the configuration, if the words name one. It is read once: it may be a pipe, and it
 /// may be replaced while the program starts.
-fn config(rt: &HostRuntime) -> Result<Option<Vec<u8>>, Fault> {
-    let wanted = read_wanted(rt.alloc(), &words(rt)?)?;
-    file(rt, &wanted.settings.config)
+fn config(rt: &HostRuntime) -> Result<Option<Vec<u8>>, Stop> {
+    match read_wanted(rt.alloc(), &words(rt)?) {
+        Ok(wanted) => file(rt, &wanted.settings.config),
+        Err(fault) => Err(Stop::by_words(rt, fault, None)),
+    }
 }
 
 /// What the program is to do by its words and this configuration.
-fn plan(rt: &HostRuntime, config: Option<&[u8]>) -> Result<Plan, Fault> {
-    let wanted = read_wanted(rt.alloc(), &words(rt)?)?;
-    read_plan(rt.alloc(), wanted, config)
+fn plan(rt: &HostRuntime, config: Option<&[u8]>) -> Result<Plan, Stop> {
+    let planned = match read_wanted(rt.alloc(), &words(rt)?) {
+        Ok(wanted) => read_plan(rt.alloc(), wanted, config),
+        Err(fault) => Err(fault),
+    };
+    planned.map_err(|fault| Stop::by_words(rt, fault, config))
 }
 
 /// A random first Message ID and a random salt.
@@ -87,42 +77,21 @@ fn seed(rt: &HostRuntime) -> Result<RandomState, Fault> {
 }
 
 /// Serves a socket.
-fn serve_socket(rt: &HostRuntime, plan: Plan, config: Option<&[u8]>) -> Result<(), Fault> {
+fn serve_socket(rt: &HostRuntime, plan: Plan, config: Option<&[u8]>) -> Result<(), Stop> {
     let drawn = draw(rt)?;
-    match UdpPort::bind(rt, rt.alloc(), plan.local) {
-        Ok(mut port) if plan.recording.is_none() => serve(rt, plan, drawn, &mut port),
-        Ok(port) => record(rt, plan, config, drawn, port),
-        Err(error) => Err(fault_of(&error, Fault::Socket)),
-    }
-}
-
-/// How a recording begins: with the words and the configuration of this run.
-fn header(rt: &HostRuntime, config: Option<&[u8]>, start: Start) -> Result<Vec<u8>, Fault> {
-    let wanted = read_wanted(rt.alloc(), &words(rt)?)?;
-    let Ok(words) = words_again(rt.alloc(), &wanted.settings) else {
-        return Err(Fault::OutOfMemory);
+    let Ok(listen) = listen_text(rt, plan.local) else {
+        return Err(Stop::from(Fault::OutOfMemory));
     };
-    let config = config.unwrap_or(&[]);
-    match header_of(rt.alloc(), VERSION, start, &words, config) {
-        Ok(header) => Ok(header),
-        Err(HeaderError::TooLong) => Err(Fault::File),
-        Err(HeaderError::OutOfMemory) => Err(Fault::OutOfMemory),
+    let mut port = match UdpPort::bind(rt, rt.alloc(), plan.local) {
+        Ok(port) => port,
+        Err(error) => return Err(Stop::by_system(rt, listen.as_str(), &error, Fault::Socket)),
+    };
+    tell_listening(rt, &plan, listen.as_str())?;
+    if plan.recording.is_none() {
+        serve(rt, plan, drawn, &mut port)
+    } else {
+        record(rt, plan, config, drawn, port)
     }
-}
-
-/// Creates the file of a recording, with its header.
-fn recording<'a>(
-    rt: &'a HostRuntime,
-    path: &str,
-    config: Option<&[u8]>,
-    start: Start,
-) -> Result<RecordFile<'a>, Fault> {
-    let header = header(rt, config, start)?;
-    let written = RecordFile::create(rt, path).and_then(|mut file| {
-        file.write_all(&header)?;
-        Ok(file)
-    });
-    written.map_err(|error| fault_of(&error, Fault::File))
 }
 
 /// Serves a port, and records its turns.
@@ -132,67 +101,80 @@ fn record<P: Port + Drop>(
     config: Option<&[u8]>,
     drawn: Start,
     port: P,
-) -> Result<(), Fault>
+) -> Result<(), Stop>
     requires failures { P.failures port < 2 ^ 63 }
 {
     let start = Start {
         first_id: plan.first_id.unwrap_or(drawn.first_id),
         salt: plan.salt.unwrap_or(drawn.salt),
     };
-    let path = plan.recording.as_deref().unwrap_or("");
-    let file = recording(rt, path, config, start)?;
+    let file = file_of(rt, &plan, config, start)?;
     let Ok(mut recording) = Recording::new(rt.alloc(), port, file) else {
-        return Err(Fault::OutOfMemory);
+        return Err(Stop::from(Fault::OutOfMemory));
     };
     let served = serve(rt, plan, start, &mut recording);
     recording.finish();
     served
 }
 
-/// Serves a port. If counts are asked for, writes them meanwhile and at the end.
-fn serve<P: Port>(rt: &HostRuntime, plan: Plan, start: Start, port: &mut P) -> Result<(), Fault>
+/// Serves a port. If counts or a log are asked for, writes them meanwhile, and counts at the end.
+fn serve<P: Port>(rt: &HostRuntime, plan: Plan, start: Start, port: &mut P) -> Result<(), Stop>
     requires failures { P.failures port.old < 2 ^ 63 }
 {
     let seed = seed(rt)?;
     let reporter = Reporter::of(rt, &plan)?;
+    let logger = logger_of(rt, &plan)?;
     let server = Server::<Cache>::new(rt.alloc(), seed, plan);
-    let Some(mut reporter) = reporter else {
-        return server.serve_port(start, port);
+    if reporter.is_none() && logger.is_none() {
+        return Ok(server.serve_port(start, port)?);
+    }
+    let mut watchers = Both {
+        first: reporter,
+        second: logger,
     };
-    let counts = server.serve_watched(start, port, &mut reporter)?;
-    reporter.report(&counts);
+    let counts = server.serve_watched(start, port, &mut watchers)?;
+    if let Some(reporter) = &mut watchers.first {
+        reporter.report(&counts);
+    }
     Ok(())
 }
 
 /// Replays standard input.
-fn replay(rt: &HostRuntime, plan: Plan) -> Result<(), Fault> {
+fn replay(rt: &HostRuntime, plan: Plan) -> Result<(), Stop> {
     let server = Server::<Cache>::new(rt.alloc(), seed(rt)?, plan);
     let mut output = Output::new(io::writer(rt));
-    server.serve_events(rt.reader(), &mut output)
+    Ok(server.serve_events(rt.reader(), &mut output)?)
 }
 
-/// Replays standard input, and says after each event what it did. The routes are made once more for
-/// that, since those of the plan become the core's.
-fn explain(rt: &HostRuntime, plan: Plan, config: Option<&[u8]>) -> Result<(), Fault> {
+/// Replays standard input, and says after each event what it did, with the time of day if a recording
+/// says that.
+fn explain(rt: &HostRuntime, plan: Plan) -> Result<(), Stop> {
     let (alloc, seed) = (rt.alloc(), seed(rt)?);
-    let Plan { limits, routes, .. } = self::plan(rt, config)?;
-    let mut explainer = Explainer::new(alloc, limits, routes, io::writer(rt));
-    let (input, mut output) = (rt.reader(), Output::new(io::writer(rt)));
+    let Ok(mut explainer) = Explainer::new(alloc, io::writer(rt)) else {
+        return Err(Stop::from(Fault::OutOfMemory));
+    };
+    let Ok(mut input) = BufReader::new(alloc, rt.reader()) else {
+        return Err(Stop::from(Fault::OutOfMemory));
+    };
+    if let Ok(head) = input.fill_buf() {
+        explainer.set_since(since_of(head));
+    }
+    let mut output = Output::new(io::writer(rt));
     let server = Server::<Cache>::new(alloc, seed, plan);
     server.serve_events_watched(input, &mut output, &mut explainer)?;
     if explainer.failed() {
-        return Err(Fault::File);
+        return Err(Stop::from(Fault::File));
     }
     Ok(())
 }
 
 /// Does what the words and the configuration ask for.
-fn run(rt: &HostRuntime) -> Result<(), Fault> {
+fn run(rt: &HostRuntime) -> Result<(), Stop> {
     let config = config(rt)?;
     let config = config.as_deref();
     let plan = plan(rt, config)?;
     if plan.explain {
-        explain(rt, plan, config)
+        explain(rt, plan)
     } else if plan.replay {
         replay(rt, plan)
     } else {
@@ -200,29 +182,9 @@ fn run(rt: &HostRuntime) -> Result<(), Fault> {
     }
 }
 
-/// Prints a fault on standard error, and the help and the version on standard output.
-fn tell(rt: &HostRuntime, fault: &Fault) -> io::Result<()> {
-    match fault {
-        Fault::Usage { status: 0, text } => print!(rt; "{text}"),
-        Fault::Usage { text, .. } => eprint!(rt; "{text}"),
-        fault => eprintln!(rt; "{fault}"),
-    }
-}
-
-/// Prints a fault, and returns the exit status. Help or a version that can't be written is a fault
-/// too.
-fn ended(rt: &HostRuntime, fault: &Fault) -> u8 {
-    let told = tell(rt, fault);
-    if told.is_err() && fault.status() == 0 {
-        let _ = tell(rt, &Fault::File);
-        return Fault::File.status();
-    }
-    fault.status()
-}
-
 fn main(rt: HostRuntime) -> ExitCode {
     match run(&rt) {
         Ok(()) => ExitCode::SUCCESS,
-        Err(fault) => ExitCode::from(ended(&rt, &fault)),
+        Err(stop) => ExitCode::from(ended(&rt, &stop)),
     }
 }

@@ -2,13 +2,15 @@
 ghost use Rattle.std.specs.Prelude.{◌≡◌, ◌<◌, ◌≤◌, IfOk, IfSome};
 ghost use Rattle.coap_stats.specs.Clock.{period_of};
 
-use coap_core::{Core, Counts, Endpoint, Ip, LimitValues};
+use coap_core::{Core, Counts, Endpoint, LimitValues};
 use coap_message::{LAST_MOMENT, Moment, OutOfMemory};
 use coap_proxyd::{Fault, Plan, Seen, Watch};
-use coap_stats::{StandingClock, Tally, period_end, period_of, put_line, put_metrics};
+use coap_stats::{
+    StandingClock, Statistics, metrics_room, period_end, period_of, put_line, put_metrics,
+    socket_of,
+};
 use coap_store::Store;
 use std::io::Write;
-use std::net::{IpAddr, Ipv4Addr, Ipv6Addr, SocketAddr};
 use std::{fs, io};
 
 /// A file that is written beside its name, and then takes it, so that it is never read in part.
@@ -26,7 +28,7 @@ struct StatsFile {
 pub(crate) struct Reporter<'a> {
     rt: &'a HostRuntime,
     limits: LimitValues,
-    tally: Tally,
+    statistics: Statistics,
     clock: StandingClock,
     /// The length of a period, in milliseconds.
     period: u64,
@@ -55,13 +57,16 @@ fn stats_file(rt: &HostRuntime, plan: &Plan) -> Result<Option<StatsFile>, OutOfM
 }
 
 /// An endpoint as a text, with an IPv6 address in brackets.
-fn listen_text(rt: &HostRuntime, local: Endpoint) -> Result<String, OutOfMemory> {
-    let address = match local.ip {
-        Ip::V4(octets) => IpAddr::V4(Ipv4Addr::from_octets(octets)),
-        Ip::V6(octets) => IpAddr::V6(Ipv6Addr::from_octets(octets)),
-    };
-    let socket = SocketAddr::new(address, local.port);
+pub(crate) fn listen_text(rt: &HostRuntime, local: Endpoint) -> Result<String, OutOfMemory> {
+    let socket = socket_of(local);
     Ok(format!(in rt.alloc(); "{socket}")?)
+}
+
+/// Counts that are all zero, and room for their text.
+fn counters(rt: &HostRuntime, plan: &Plan) -> Result<(Statistics, Vec<u8>), OutOfMemory> {
+    let statistics = Statistics::new(rt.alloc(), &plan.routes)?;
+    let text = Vec::with_capacity(rt.alloc(), metrics_room(&statistics))?;
+    Ok((statistics, text))
 }
 
 impl<'a> Reporter<'a> {
@@ -78,27 +83,30 @@ impl<'a> Reporter<'a> {
         let Ok(file) = stats_file(rt, plan) else {
             return Err(Fault::OutOfMemory);
         };
+        let Ok((statistics, text)) = counters(rt, plan) else {
+            return Err(Fault::OutOfMemory);
+        };
         let period = period_of(plan.stats);
         Ok(Some(Reporter {
             rt,
             limits: *plan.limits.values(),
-            tally: Tally::new(),
+            statistics,
             clock: StandingClock::new(),
             period,
             due: period,
             lines: plan.stats.is_some(),
             file,
             said: false,
-            text: Vec::new(rt.alloc()),
+            text,
         }))
     }
 
     /// Writes the line of counts.
     fn write_line(&mut self, counts: &Counts) -> io::Result<()>
-        ensures { self.new.tally ≡ self.old.tally }
+        ensures { self.new.statistics ≡ self.old.statistics }
     {
         self.text.clear();
-        if put_line(&mut self.text, &self.tally, counts, &self.limits).is_err() {
+        if put_line(&mut self.text, &self.statistics, counts, &self.limits).is_err() {
             return Err(io::Error::from(io::ErrorKind::OutOfMemory));
         }
         self.rt.stderr().write_all(&self.text)
@@ -106,14 +114,22 @@ impl<'a> Reporter<'a> {
 
     /// Writes the file of counts, if there is one.
     fn write_file(&mut self, counts: &Counts) -> io::Result<()>
-        ensures { self.new.tally ≡ self.old.tally }
+        ensures { self.new.statistics ≡ self.old.statistics }
     {
         let Some(file) = &self.file else {
             return Ok(());
         };
         self.text.clear();
         let listen = file.listen.as_str();
-        if put_metrics(&mut self.text, listen, &self.tally, counts, &self.limits).is_err() {
+        if put_metrics(
+            &mut self.text,
+            listen,
+            &self.statistics,
+            counts,
+            &self.limits,
+        )
+        .is_err()
+        {
             return Err(io::Error::from(io::ErrorKind::OutOfMemory));
         }
         fs::write(self.rt, file.beside.as_str(), self.text.as_slice())?;
@@ -122,7 +138,7 @@ impl<'a> Reporter<'a> {
 
     /// Writes the counts, with how much the proxy holds.
     pub(crate) fn report(&mut self, counts: &Counts)
-        ensures { self.new.tally ≡ self.old.tally }
+        ensures { self.new.statistics ≡ self.old.statistics }
     {
         if self.lines {
             // Where standard error can't be written, nothing can be said either.
@@ -136,7 +152,7 @@ impl<'a> Reporter<'a> {
 
     /// Says once that the clock stands still.
     fn note_clock(&mut self, now: Moment)
-        ensures { self.new.tally ≡ self.old.tally }
+        ensures { self.new.statistics ≡ self.old.statistics }
     {
         if self.clock.stops(now) {
             let _ = eprintln!(self.rt; "coap-proxyd: the clock stands still");
@@ -145,13 +161,16 @@ impl<'a> Reporter<'a> {
 }
 
 impl Watch for Reporter<'_> {
-    ghost use Rattle.std.specs.Prelude.{◌≡◌};
-    ghost use Rattle.coap_stats.specs.Tally.{with_told};
+    ghost use Rattle.coap_stats.specs.Statistics.{Sees};
 
-    ghost sees = { λ before told after. after.tally ≡ with_told told before.tally };
+    ghost sees = { λ before told after. Sees before.statistics told after.statistics };
+
+    fn foresee<S: Store + Drop>(&mut self, turn: Seen<'_>, core: &Core<S>) {
+        self.statistics.foresee(turn, core);
+    }
 
     fn see<S: Store + Drop>(&mut self, turn: Seen<'_>, core: &Core<S>) {
-        self.tally.count(turn);
+        self.statistics.see(turn, core);
         self.note_clock(turn.now);
         if turn.now >= self.due {
             self.due = period_end(turn.now.min(LAST_MOMENT), self.period);

@@ -5,6 +5,8 @@
 #[cfg(test)]
 mod fixtures;
 #[cfg(test)]
+mod logs;
+#[cfg(test)]
 mod messages;
 #[cfg(test)]
 mod stores;

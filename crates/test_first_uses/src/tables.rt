@@ -1,4 +1,4 @@
-//! `ordered_index`, `coap_dedup`, `coap_exchange`, `coap_forward`.
+//! `ordered_index`, `coap_dedup`, `coap_pending`, `endpoint_counts`, `coap_exchange`, `coap_forward`.
 use crate::fixtures;
 use crate::fixtures::{CLIENT, ORIGIN};
 use coap_dedup::{EXCHANGE_LIFETIME, Records, Seen};
@@ -6,6 +6,9 @@ use coap_exchange::{Exchanges, HashedKey, Opening, Sending, Timer};
 use coap_forward::{Form, SentRequest, answer_of, put_forwarded, token_of};
 use coap_message::{Code, Datagram, MessageRef, Seq};
 use coap_option::screen_request_ref;
+use coap_pending::Ids;
+use endpoint_counts::by_client::{count_of, enter};
+use endpoint_counts::{EndpointMap, Peer};
 use ordered_index::OrderedIndex;
 use std::test::*;
 
@@ -31,6 +34,25 @@ fn coap_dedup(rt: HostRuntime) -> Result<(), Fail> {
     // the same message again, and a message with that id after the lifetime of the first
     assert!(rt; matches!(records.seen(client, 0x1234, 246_999), Seen::Again(Some(_))));
     assert!(rt; matches!(records.seen(client, 0x1234, 247_000), Seen::New));
+    Ok(())
+}
+
+#[test]
+fn coap_pending(rt: HostRuntime) -> Result<(), Fail> {
+    let mut ids = Ids::new(7);
+    assert!(rt; ids.next(0) == Some(7) && ids.left(0) == 32_767);
+    let timer = Timer::start(0, 250);
+    assert!(rt; timer.due == 2_250); // when the message is sent again
+    Ok(())
+}
+
+#[test]
+fn endpoint_counts(rt: HostRuntime) -> Result<(), Fail> {
+    let alloc = rt.alloc();
+    let client = CLIENT;
+    let mut clients = EndpointMap::new(alloc, 256, 0)?;
+    enter(&mut clients, Peer::new(client)); // a request of this client waits
+    assert!(rt; count_of(&clients, Peer::new(client)) == 1);
     Ok(())
 }
 

@@ -4,7 +4,7 @@ use coap_core::{LimitValues, Limits};
 use coap_port::{MemoryPort, Port, Scripted, drive, drive_watched};
 use coap_proxyd::{ListStore, Server, Start, read_plan, read_wanted};
 use coap_record::Recording;
-use coap_stats::{Tally, put_line};
+use coap_stats::{Statistics, put_line};
 use std::test::*;
 
 #[test]
@@ -13,10 +13,10 @@ fn coap_stats(rt: HostRuntime) -> Result<(), Fail> {
     let limits = Limits::new(LimitValues::default())?;
     let mut core = fixtures::core(alloc)?;
     let mut port = fixtures::ticking_at(alloc, 2_000)?;
-    let mut tally = Tally::new();
-    drive_watched(alloc, &mut core, &mut port, &mut tally, 1)?;
+    let mut statistics = Statistics::new(alloc, core.routes())?;
+    drive_watched(alloc, &mut core, &mut port, &mut statistics, 1)?;
     let mut text = Vec::new(alloc);
-    put_line(&mut text, &tally, &core.counts(), limits.values())?;
+    put_line(&mut text, &statistics, &core.counts(), limits.values())?;
     assert!(rt; text.starts_with(b"seconds=2 received=0 sent=0 "));
     Ok(())
 }

@@ -36,6 +36,8 @@ struct LastLost(u64);
 impl Watch for LastLost {
     ghost sees = { λ before told after. Unit {0} }; // nothing is said of what it does
 
+    fn foresee<S: Store + Drop>(&mut self, _turn: Seen<'_>, _core: &Core<S>) {}
+
     fn see<S: Store + Drop>(&mut self, turn: Seen<'_>, _core: &Core<S>) {
         if turn.report.is_none() {
             self.0 = turn.now;

@@ -2,7 +2,7 @@
 use crate::fixtures;
 use crate::fixtures::CLIENT;
 use coap_account::Explainer;
-use coap_core::{Datagram, LimitValues, Limits, Routes};
+use coap_core::{Datagram, Routes};
 use coap_lines::{LONGEST, line_buffer, put_line, read_turn};
 use coap_replay::{Budget, Input, Output, replay, replay_watched};
 use coap_words::{read_config, read_words};
@@ -52,12 +52,10 @@ fn coap_replay(rt: HostRuntime) -> Result<(), Fail> {
 #[test]
 fn coap_account(rt: HostRuntime) -> Result<(), Fail> {
     let alloc = rt.alloc();
-    let limits = Limits::new(LimitValues::default())?;
-    let routes = fixtures::routes(alloc)?;
     let mut core = fixtures::core(alloc)?;
     let mut input = Input::new(b"0 0 192.0.2.7:40001 50010007B174\n".as_slice());
     let (mut lines, mut output) = (Output::new(Vec::new(alloc)), Vec::new(alloc));
-    let mut explainer = Explainer::new(alloc, limits, routes, &mut output);
+    let mut explainer = Explainer::new(alloc, &mut output)?;
     let budget = Budget { alloc, turns: 1 };
     replay_watched(budget, &mut input, &mut lines, &mut core, &mut explainer)?;
     drop(explainer);

@@ -1,4 +1,4 @@
-use Rattle.std.proofs.Common.{◌≡◌, ℕ, List, [], Option, Some, None, Result, inr, refl, subst}
+use Rattle.std.proofs.Common.{◌≡◌, ℕ, List, [], Option, Some, None, Result, Ok, inr, refl, subst}
 use Rattle.std.specs.Io.KnownBytes.{prepend_known}
 use Rattle.coap_replay.proofs.Telling.{told-none}
 use Rattle.coap_replay.specs.Replays.{IsReplayed}
@@ -23,8 +23,8 @@ returns g c =
     let reader = c.in-Ok.ensures in
     record {
       served = rw c.ended.ensures (served _ c.args.core.now _ (g.R.Read.remaining c.args.input) _ _ _ c.replay_watched.result (rw (c.new-input.ensures.reader, reader.capacity, reader.empty, reader.inner) at c.replay_watched.ensures.replayed));
-      told = (c.replay_watched.new.core, c.replay_watched.ensures.told);
+      told = (c.replay_watched.new.core, c.replay_watched.result, c.replay_watched.ensures.told);
     }
 
 pub returns-in_default-clause-told : goal.returns-in_default-clause-told
-returns-in_default-clause-told g c = (c.args.core.now, told-none g.V.Watch.sees c.args.core.now c.args.watcher.now)
+returns-in_default-clause-told g c = (c.args.core.now, Ok 0, told-none g.V.Watch.sees c.args.core.now c.args.watcher.now)

@@ -18,5 +18,7 @@ returns c =
       explain = numbers.explain;
       stats = numbers.stats;
       stats_file = last;
+      log = numbers.log;
+      record_bytes = numbers.record_bytes;
     })
     c.read_text-6.ensures

@@ -31,12 +31,12 @@ returns-clause-done g c =
           (rw w.bytes-sent.ensures.bytes at w.hand_over-went.ensures.takes)
           w.hand_over-went.ensures.clock (w.hand_over-went.ensures.failures ∙ c.in_ok-turn.ensures.works)
           (rw w.is_some.ensures at w.count.ensures.exact)
-          (rw (w.bytes-sent.ensures.bytes, begun.now, begun.draw) at (subst (λ (u : Told). g.W.Watch.sees c.args.watcher.now u w.see.new.self) (w.done.ensures c.step.new.self) w.see.ensures)))
+          (rw (w.bytes-sent.ensures.bytes, begun.now, begun.draw) at (subst (λ (u : Told). g.W.Watch.sees c.args.watcher.now u w.see.new.self) (w.done.ensures c.step.new.self) (c.foresee.ensures.foreseen _ _ w.see.ensures))))
       | in-Err w ↦
           rw (w.port-is, w.self-is, w.watcher-is)
           (did-nothing (g.P.Port.gives c.args.self.now.input.room) g.P.Port.takes g.W.Watch.sees g.P.Port.clock g.P.Port.failures c.args.self.now.came c.args.core.now c.args.port.now c.args.watcher.now w.see-in-Err.new.self c.args.self.now.stats
           c.wait_for-wait.result (given_by turn bytes) c.next.new.self c.is_some-self.result asked c.in_ok-turn.ensures.gives arrives onward.held
           c.step.new.self w.count-in-Err.new.stats (seen c.begun-seen.result.event) same w.in-Err.ensures.err w.in-Err.ensures.memory
           (omega (arith, c.requires.onward, onward.onward)) c.in_ok-turn.ensures.works w.count-in-Err.ensures.exact
-          (rw (← begun.event) at (subst (λ (u : Told). g.W.Watch.sees c.args.watcher.now u w.see-in-Err.new.self) (begun.lost c.step.new.self) w.see-in-Err.ensures)))
+          (rw (← begun.event) at (subst (λ (u : Told). g.W.Watch.sees c.args.watcher.now u w.see-in-Err.new.self) (begun.lost c.step.new.self) (c.foresee.ensures.foreseen _ _ w.see-in-Err.ensures))))
     ]

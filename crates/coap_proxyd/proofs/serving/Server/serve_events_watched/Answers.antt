@@ -1,4 +1,4 @@
-use Rattle.std.proofs.Common.{ℕ, subst}
+use Rattle.std.proofs.Common.{ℕ, Ok, subst}
 use Rattle.coap_model.specs.State.{State, new_state}
 use Rattle.coap_proxyd.specs.Planning.{setting_of}
 use Rattle.coap_proxyd.specs.Serving as spec
@@ -6,7 +6,7 @@ use Rattle.coap_replay.proofs.Telling.{told-none}
 use Rattle.coap_proxyd.proofs.serving.Server.serve_events_watched.Goals as goal
 
 pub returns-in_default-clause-told : goal.returns-in_default-clause-told
-returns-in_default-clause-told g c = (new_state (setting_of c.args.self.plan 1 0), told-none g.V.Watch.sees (new_state (setting_of c.args.self.plan 1 0)) c.args.watcher.now)
+returns-in_default-clause-told g c = (new_state (setting_of c.args.self.plan 1 0), Ok 0, told-none g.V.Watch.sees (new_state (setting_of c.args.self.plan 1 0)) c.args.watcher.now)
 
 pub returns-clause-served : goal.returns-clause-served
 returns-clause-served g c =

@@ -1,0 +1,178 @@
+//! What a tick is about, noted before it: an exchange, or a client that is being sent its answer.
+
+use crate::causes::{BadGateway, Silence};
+use crate::messages::put_endpoint;
+use coap_core::{Core, Event, Exchange, Waiter};
+use coap_endpoint::Endpoint;
+use coap_message::{Code, Kind, MessageRef, Moment};
+use coap_pending::{ExchangeState, WaiterState};
+use coap_store::Store;
+use std::io;
+use std::io::Write;
+
+/// An answer that a client is due to be sent.
+#[derive(Clone, Copy, Debug, PartialEq, Eq)]
+pub(crate) struct DueAnswer {
+    pub(crate) code: Code,
+    /// Whether it is the proxy's own, and not its origin's.
+    pub(crate) own: bool,
+    /// When it came, in milliseconds.
+    pub(crate) got: Moment,
+}
+
+/// An exchange that a tick is about, as it is before that.
+#[derive(Clone, Copy, Debug, PartialEq, Eq)]
+pub(crate) struct DueExchange {
+    pub(crate) origin: Endpoint,
+    /// The Message ID of its request, if that was sent.
+    pub(crate) id: Option<u16>,
+    /// How often its request was sent.
+    pub(crate) sends: u8,
+    /// When it was opened, in milliseconds.
+    pub(crate) admitted: Moment,
+    /// How many clients wait for it.
+    pub(crate) waiting: u64,
+    /// Why there is no answer, if none comes any more.
+    pub(crate) silence: Silence,
+    pub(crate) answer: Option<DueAnswer>,
+}
+
+/// A client that was sent its answer and hasn't acknowledged it, as it is before a tick.
+#[derive(Clone, Copy, Debug, PartialEq, Eq)]
+pub(crate) struct DueClient {
+    pub(crate) client: Endpoint,
+    pub(crate) sends: u8,
+    /// When the answer was first sent, in milliseconds.
+    pub(crate) started: Moment,
+}
+
+/// What a tick is about, as it is before that.
+#[derive(Clone, Copy, Debug, PartialEq, Eq)]
+pub(crate) enum Due {
+    Nothing,
+    Exchange(DueExchange),
+    Client(DueClient),
+}
+
+/// How far an exchange is.
+fn silence_of(state: &ExchangeState) -> Silence {
+    match state {
+        ExchangeState::Queued => Silence::NotSent,
+        ExchangeState::Sent => Silence::NotAcknowledged,
+        ExchangeState::Acked | ExchangeState::Done(_) => Silence::NotAnswered,
+    }
+}
+
+/// The answer of an exchange, if it has one.
+fn answer_of(state: &ExchangeState) -> Option<DueAnswer> {
+    match state {
+        ExchangeState::Done(answer) => Some(DueAnswer {
+            code: answer.message.code,
+            own: answer.own,
+            got: answer.got,
+        }),
+        ExchangeState::Queued | ExchangeState::Sent | ExchangeState::Acked => None,
+    }
+}
+
+impl DueExchange {
+    /// An exchange that this many clients wait for.
+    fn of(exchange: &Exchange, waiting: usize) -> DueExchange {
+        DueExchange {
+            origin: exchange.key.target.at,
+            id: exchange.sending.map(|sending| sending.id),
+            sends: exchange.sending.map_or(0, |sending| sending.timer.sends),
+            admitted: exchange.admitted,
+            waiting: waiting as u64,
+            silence: silence_of(&exchange.state),
+            answer: answer_of(&exchange.state),
+        }
+    }
+
+    /// How long it takes or took, in milliseconds: to its answer, or to this moment.
+    pub(crate) fn took(&self, now: Moment) -> u64 {
+        let until = match self.answer {
+            Some(answer) => answer.got,
+            None => now,
+        };
+        until.saturating_sub(self.admitted)
+    }
+
+    /// Adds its origin, how often its request was sent, and how long it took.
+    pub(crate) fn put<W: Write>(&self, line: &mut W, now: Moment) -> io::Result<()> {
+        line.write_all(b" at ")?;
+        put_endpoint(line, self.origin)?;
+        let (sends, took) = (self.sends, self.took(now));
+        write!(line, " sent {sends} in {took} ms")
+    }
+}
+
+impl DueClient {
+    /// A client, if it was sent its answer.
+    fn of(waiter: &Waiter) -> Option<DueClient> {
+        match &waiter.state {
+            WaiterState::Waiting(_) => None,
+            WaiterState::Delivering { timer, .. } => Some(DueClient {
+                client: waiter.client,
+                sends: timer.sends,
+                started: timer.started,
+            }),
+        }
+    }
+
+    /// Adds the client, how often it was sent its answer, and since when.
+    pub(crate) fn put<W: Write>(&self, line: &mut W, now: Moment) -> io::Result<()> {
+        line.write_all(b" on ")?;
+        put_endpoint(line, self.client)?;
+        let (sends, took) = (self.sends, now.saturating_sub(self.started));
+        write!(line, " sent {sends} in {took} ms")
+    }
+}
+
+impl Due {
+    /// What the next tick of a core is about.
+    pub(crate) fn of<S: Store + Drop>(core: &Core<S>) -> Due {
+        if let Some(exchange) = core.due_exchange() {
+            return Due::Exchange(DueExchange::of(exchange, core.due_waiting()));
+        }
+        match core.due_waiter().and_then(DueClient::of) {
+            Some(client) => Due::Client(client),
+            None => Due::Nothing,
+        }
+    }
+}
+
+/// A response that came for an exchange, and why a client gets 5.02, if it does.
+#[derive(Clone, Copy, Debug, PartialEq, Eq)]
+pub(crate) struct Came {
+    pub(crate) origin: Endpoint,
+    /// The Message ID of the exchange's request.
+    pub(crate) id: u16,
+    pub(crate) cause: BadGateway,
+}
+
+impl Came {
+    /// What an event brings to an exchange of a core, if it does.
+    pub(crate) fn of<S: Store + Drop>(event: Event<'_>, core: &Core<S>) -> Option<Came> {
+        let Event::Datagram { from, bytes } = event else {
+            return None;
+        };
+        let message = MessageRef::read(bytes).ok()?;
+        if message.kind() == Kind::Rst {
+            return Some(Came {
+                origin: from,
+                id: message.id(),
+                cause: BadGateway::Reset,
+            });
+        }
+        if !message.code().is_response() {
+            return None;
+        }
+        let exchange = core.awaited(from, &message)?;
+        Some(Came {
+            origin: from,
+            id: exchange.sending?.id,
+            cause: BadGateway::of(&message, Some(exchange)),
+        })
+    }
+}

@@ -1,0 +1,508 @@
+//! A watcher that logs what goes wrong.
+
+use crate::causes::{BadGateway, Silence, overload_of};
+use crate::due::{Came, Due, DueAnswer, DueExchange};
+use crate::lacks::{Lacks, Usage};
+use crate::messages::{put_code, put_endpoint, put_target};
+use crate::ring::Ring;
+use crate::silent::SilentOrigins;
+use coap_core::{Core, Event, Outcome, Report};
+use coap_endpoint::{Endpoint, Target};
+use coap_log::{Limiter, Line};
+use coap_message::{Code, LAST_MOMENT, MessageRef, Moment, OutOfMemory};
+use coap_store::Store;
+use coap_watch::{Seen, Watch};
+use std::alloc::Global;
+use std::io;
+use std::io::Write;
+
+/// The room for a line, in bytes, and that for the URI of a target in it. A longer URI is cut.
+const LINE_ROOM: usize = 2_048;
+
+const TARGET_ROOM: usize = 640;
+
+/// How many causes of answers are known that clients are still to be sent.
+const CAUSES: usize = 4_096;
+
+/// Why an exchange has an answer of the proxy's own.
+#[derive(Clone, Copy, Debug, PartialEq, Eq)]
+enum Cause {
+    BadGateway(BadGateway),
+    Silence(Silence),
+}
+
+/// Why an exchange has an answer of the proxy's own: the exchange is known by its origin, by the
+/// Message ID of its request, and by the moment of its answer.
+#[derive(Clone, Copy, Debug, PartialEq, Eq)]
+struct NotedCause {
+    origin: Endpoint,
+    id: u16,
+    got: Moment,
+    cause: Cause,
+}
+
+/// Logs what goes wrong, in lines `WORD KEY=VALUE ..`: an exchange that is given up, a client that is
+/// sent 5.02, 5.03 or 5.04, a message that is dropped, and an origin that was silent and answers
+/// again. At most 20 lines are written at once, and 5 more a second; how many were left out is said
+/// before the next one. A line that the output doesn't take is left out, too.
+///
+/// All its memory is allocated when it is made.
+pub struct Logger<W: Write> {
+    output: W,
+    line: Line,
+    target: TargetText,
+    limiter: Limiter,
+    left_out: u64,
+    /// Whether the output took only a part of the last line.
+    torn: bool,
+    due: Due,
+    came: Option<Came>,
+    causes: Ring<NotedCause>,
+    silent: SilentOrigins,
+}
+
+impl<W: Write + Drop> Drop for Logger<W> {
+    fn drop(self) {
+        let Logger {
+            output: _,
+            line: _,
+            target: _,
+            limiter: _,
+            left_out: _,
+            torn: _,
+            due: _,
+            came: _,
+            causes: _,
+            silent: _,
+        } = self;
+    }
+}
+
+/// Whether the code of an answer is one that is logged.
+fn is_logged(code: Code) -> bool {
+    code == Code::BAD_GATEWAY || code == Code::SERVICE_UNAVAILABLE || code == Code::GATEWAY_TIMEOUT
+}
+
+/// The URI of a target, of which the end is left out if it is long.
+#[derive(Drop)]
+struct TargetText {
+    text: Line,
+    is_cut: bool,
+}
+
+impl TargetText {
+    /// None yet. No other call allocates.
+    ///
+    /// # Errors
+    /// Out of memory.
+    fn new(alloc: Global) -> Result<TargetText, OutOfMemory> {
+        Ok(TargetText {
+            text: Line::new(alloc, TARGET_ROOM)?,
+            is_cut: false,
+        })
+    }
+
+    /// Takes the URI of a target in place of what there was.
+    fn take(&mut self, target: &Target) {
+        self.text.begin("");
+        self.is_cut = put_target(&mut self.text, target).is_err();
+    }
+
+    /// Adds it to a line, with three dots for an end that was left out.
+    fn put(&self, line: &mut Line) -> io::Result<()> {
+        line.key("target");
+        line.write_all(self.text.bytes())?;
+        if self.is_cut {
+            line.write_all(b"...")?;
+        }
+        Ok(())
+    }
+}
+
+/// Adds a key, and an endpoint.
+fn put_peer(line: &mut Line, key: &str, endpoint: Endpoint) -> io::Result<()> {
+    line.key(key);
+    put_endpoint(line, endpoint)
+}
+
+/// Adds a key, and a number.
+fn put_number(line: &mut Line, key: &str, number: u64) -> io::Result<()> {
+    line.key(key);
+    write!(line, "{number}")
+}
+
+/// Adds what is lacking: for each share its count and its limit.
+fn put_lacks(line: &mut Line, lacks: &Lacks) -> io::Result<()> {
+    for lack in lacks.iter().flatten() {
+        let (count, limit) = (lack.count, lack.limit);
+        line.key(lack.share.key());
+        write!(line, "{count}/{limit}")?;
+    }
+    Ok(())
+}
+
+/// Adds why a client is sent an answer of the proxy's own.
+fn put_cause(line: &mut Line, cause: Cause) -> io::Result<()> {
+    line.key("cause");
+    match cause {
+        Cause::Silence(silence) => line.write_all(silence.word().as_bytes()),
+        Cause::BadGateway(bad) => {
+            line.write_all(bad.word().as_bytes())?;
+            match bad {
+                BadGateway::Option(number) => put_number(line, "option", u64::from(number)),
+                BadGateway::Reset | BadGateway::Tag | BadGateway::TooLong => Ok(()),
+            }
+        }
+    }
+}
+
+/// Adds what an exchange was: its origin, how often its request was sent, and how long it took.
+fn put_exchange(line: &mut Line, exchange: &DueExchange, now: Moment) -> io::Result<()> {
+    put_peer(line, "origin", exchange.origin)?;
+    put_number(line, "sent", u64::from(exchange.sends))?;
+    put_number(line, "ms", exchange.took(now))
+}
+
+impl<W: Write + Drop> Logger<W> {
+    /// One that writes to this output.
+    ///
+    /// # Errors
+    /// Out of memory.
+    pub fn new(alloc: Global, output: W) -> Result<Logger<W>, OutOfMemory> {
+        Ok(Logger {
+            output,
+            line: Line::new(alloc, LINE_ROOM)?,
+            target: TargetText::new(alloc)?,
+            limiter: Limiter::new(),
+            left_out: 0,
+            torn: false,
+            due: Due::Nothing,
+            came: None,
+            causes: Ring::new(alloc, CAUSES)?,
+            silent: SilentOrigins::new(alloc)?,
+        })
+    }
+}
+
+impl<W: Write> Logger<W> {
+    /// Ends the line and writes it. Returns whether the output took all of it.
+    fn write_line(&mut self) -> bool {
+        self.line.end();
+        if self.torn && !matches!(self.output.write(b"\n"), Ok(1)) {
+            return false;
+        }
+        self.torn = false;
+        match self.output.write(self.line.bytes()) {
+            Ok(count) => {
+                self.torn = count < self.line.bytes().len();
+                !self.torn
+            }
+            Err(_) => false,
+        }
+    }
+
+    /// Says how many lines were left out, if any were. Returns whether the output took that.
+    fn tell_left_out(&mut self) -> bool {
+        if self.left_out == 0 {
+            return true;
+        }
+        self.line.begin("left_out");
+        let put = put_number(&mut self.line, "lines", self.left_out);
+        if put.is_err() || !self.write_line() {
+            return false;
+        }
+        self.left_out = 0;
+        true
+    }
+
+    /// Begins a line, if one may be written now and the output takes what is to be said before it.
+    /// Otherwise one more line is left out.
+    fn begin(&mut self, now: Moment, word: &str) -> bool {
+        if self.limiter.allows(now.min(LAST_MOMENT)) && self.tell_left_out() {
+            self.line.begin(word);
+            return true;
+        }
+        self.left_out = self.left_out.saturating_add(1);
+        false
+    }
+
+    /// Writes the line that was begun, if all of it was put there.
+    fn finish(&mut self, put: io::Result<()>) {
+        if put.is_err() || !self.write_line() {
+            self.left_out = self.left_out.saturating_add(1);
+        }
+    }
+
+    /// Logs that an exchange was given up.
+    fn tell_given_up(&mut self, exchange: &DueExchange, now: Moment) {
+        if self.begin(now, "gave_up") {
+            let put = self.put_given_up(exchange, now);
+            self.finish(put);
+        }
+    }
+
+    /// Adds what was given up.
+    fn put_given_up(&mut self, exchange: &DueExchange, now: Moment) -> io::Result<()> {
+        self.target.put(&mut self.line)?;
+        put_cause(&mut self.line, Cause::Silence(exchange.silence))?;
+        put_exchange(&mut self.line, exchange, now)?;
+        put_number(&mut self.line, "clients", exchange.waiting)
+    }
+
+    /// Notes that an exchange was given up, and logs it.
+    fn on_given_up(&mut self, now: Moment) {
+        let Due::Exchange(exchange) = self.due else {
+            return;
+        };
+        self.silent.note(exchange.origin, exchange.admitted);
+        if let Some(id) = exchange.id {
+            self.causes.note(NotedCause {
+                origin: exchange.origin,
+                id,
+                got: now,
+                cause: Cause::Silence(exchange.silence),
+            });
+        }
+        self.tell_given_up(&exchange, now);
+    }
+
+    /// Notes why an exchange got an answer of the proxy's own, if it is for what came.
+    fn note_answer(&mut self, now: Moment) {
+        let Some(came) = self.came else {
+            return;
+        };
+        match came.cause {
+            // That is what is left if no other cause is known, and here it may be no cause at all.
+            BadGateway::TooLong => {}
+            BadGateway::Reset | BadGateway::Option(_) | BadGateway::Tag => {
+                self.causes.note(NotedCause {
+                    origin: came.origin,
+                    id: came.id,
+                    got: now,
+                    cause: Cause::BadGateway(came.cause),
+                });
+            }
+        }
+    }
+
+    /// The cause that was noted of an exchange.
+    fn noted_cause(&mut self, exchange: &DueExchange, id: u16, got: Moment) -> Option<Cause> {
+        for place in self.causes.places() {
+            match place {
+                Some(it) if it.id == id && it.got == got && it.origin == exchange.origin => {
+                    return Some(it.cause);
+                }
+                Some(_) | None => {}
+            }
+        }
+        None
+    }
+
+    /// Why a client is sent an answer of the proxy's own.
+    fn cause_of(&mut self, exchange: &DueExchange, answer: DueAnswer) -> Cause {
+        let Some(id) = exchange.id else {
+            return Cause::Silence(Silence::NotSent);
+        };
+        self.noted_cause(exchange, id, answer.got)
+            .unwrap_or(Cause::BadGateway(BadGateway::TooLong))
+    }
+
+    /// Logs that a client was sent an answer that is logged.
+    fn on_delivered(&mut self, client: Option<Endpoint>, now: Moment) {
+        let Due::Exchange(exchange) = self.due else {
+            return;
+        };
+        let (Some(client), Some(answer)) = (client, exchange.answer) else {
+            return;
+        };
+        if is_logged(answer.code) && self.begin(now, "failed") {
+            let put = self.put_delivered(client, &exchange, answer, now);
+            self.finish(put);
+        }
+    }
+
+    /// Adds what a client was sent, and why.
+    fn put_delivered(
+        &mut self,
+        client: Endpoint,
+        exchange: &DueExchange,
+        answer: DueAnswer,
+        now: Moment,
+    ) -> io::Result<()> {
+        put_peer(&mut self.line, "client", client)?;
+        self.line.key("code");
+        put_code(&mut self.line, answer.code)?;
+        self.target.put(&mut self.line)?;
+        if answer.own {
+            let cause = self.cause_of(exchange, answer);
+            put_cause(&mut self.line, cause)?;
+        } else {
+            self.line.key("cause");
+            self.line.write_all(b"origin")?;
+        }
+        put_exchange(&mut self.line, exchange, now)
+    }
+
+    /// Logs that a request was turned away with 5.03.
+    fn on_overloaded<S: Store + Drop>(
+        &mut self,
+        from: Endpoint,
+        bytes: &[u8],
+        core: &Core<S>,
+        now: Moment,
+    ) {
+        let Ok(message) = MessageRef::read(bytes) else {
+            return;
+        };
+        if self.begin(now, "failed") {
+            self.target.take(&core.last_key().target);
+            let put = self.put_overloaded(from, &overload_of(core, from, &message));
+            self.finish(put);
+        }
+    }
+
+    /// Adds that a client was sent 5.03, and what was lacking.
+    fn put_overloaded(&mut self, client: Endpoint, lacks: &Lacks) -> io::Result<()> {
+        put_peer(&mut self.line, "client", client)?;
+        self.line.key("code");
+        put_code(&mut self.line, Code::SERVICE_UNAVAILABLE)?;
+        self.target.put(&mut self.line)?;
+        self.line.key("cause");
+        self.line.write_all(b"room")?;
+        put_lacks(&mut self.line, lacks)
+    }
+
+    /// Logs that a message was dropped for want of this.
+    fn on_dropped(&mut self, from: Endpoint, lacks: &Lacks, now: Moment) {
+        if self.begin(now, "dropped") {
+            let put = put_peer(&mut self.line, "client", from).and_then(|()| put_lacks(
+                &mut self.line,
+                lacks,
+            ));
+            self.finish(put);
+        }
+    }
+
+    /// Logs that an origin answers again, if it was silent.
+    fn on_heard(&mut self, from: Endpoint, now: Moment) {
+        let Some(since) = self.silent.hear(from) else {
+            return;
+        };
+        if self.begin(now, "answers_again") {
+            let put = put_peer(&mut self.line, "origin", from).and_then(|()| {
+                put_number(&mut self.line, "silent_ms", now.saturating_sub(since))
+            });
+            self.finish(put);
+        }
+    }
+
+    /// Logs what the step of a datagram did.
+    fn on_arrived<S: Store + Drop>(
+        &mut self,
+        from: Endpoint,
+        bytes: &[u8],
+        report: Report,
+        core: &Core<S>,
+        now: Moment,
+    ) {
+        match report.outcome {
+            Outcome::Overloaded => self.on_overloaded(from, bytes, core, now),
+            Outcome::NoRecordRoom => {
+                if let Ok(message) = MessageRef::read(bytes) {
+                    let lacks = Usage::of(core, from).to_remember(message.kind());
+                    self.on_dropped(from, &lacks, now);
+                }
+            }
+            Outcome::NoId => self.on_dropped(from, &Usage::of(core, from).to_reply(), now),
+            Outcome::Answered { .. } => {
+                self.note_answer(now);
+                self.on_heard(from, now);
+            }
+            Outcome::Acked => self.on_heard(from, now),
+            Outcome::Ignored
+            | Outcome::Rejected
+            | Outcome::Again
+            | Outcome::Refused(_)
+            | Outcome::Hit
+            | Outcome::Joined
+            | Outcome::Opened
+            | Outcome::SentRequest
+            | Outcome::Resent
+            | Outcome::Delivered
+            | Outcome::GaveUp
+            | Outcome::Idle => {}
+        }
+    }
+
+    /// Logs what the step of a tick did.
+    fn on_tick(&mut self, report: Report, now: Moment) {
+        match report.outcome {
+            Outcome::GaveUp => self.on_given_up(now),
+            Outcome::Delivered => self.on_delivered(report.send, now),
+            Outcome::Idle => self.on_idle(now),
+            Outcome::Ignored
+            | Outcome::Rejected
+            | Outcome::Again
+            | Outcome::NoRecordRoom
+            | Outcome::Refused(_)
+            | Outcome::Hit
+            | Outcome::Joined
+            | Outcome::Opened
+            | Outcome::Overloaded
+            | Outcome::NoId
+            | Outcome::Answered { .. }
+            | Outcome::Acked
+            | Outcome::SentRequest
+            | Outcome::Resent => {}
+        }
+    }
+
+    /// Says how many lines were left out, if any were and a line may be written now.
+    fn on_idle(&mut self, now: Moment) {
+        if self.left_out > 0 && self.limiter.allows(now.min(LAST_MOMENT)) {
+            let _ = self.tell_left_out();
+        }
+    }
+
+    /// Notes what the next tick is about; its target only if that may be logged.
+    fn note_due<S: Store + Drop>(&mut self, core: &Core<S>, now: Moment) {
+        self.due = Due::of(core);
+        let Some(exchange) = core.due_exchange() else {
+            return;
+        };
+        let may_be_told = match self.due {
+            Due::Exchange(due) => match due.answer {
+                Some(answer) => is_logged(answer.code),
+                None => now > due.admitted,
+            },
+            Due::Client(_) | Due::Nothing => false,
+        };
+        if may_be_told {
+            self.target.take(&exchange.key.target);
+        }
+    }
+}
+
+impl<W: Write> Watch for Logger<W> {
+    // Nothing is claimed of what it writes.
+    ghost sees = { λ before told after. Unit {0} };
+
+    fn foresee<S: Store + Drop>(&mut self, turn: Seen<'_>, core: &Core<S>) {
+        match turn.event {
+            Event::Tick => self.note_due(core, turn.now),
+            Event::Datagram { .. } => self.came = Came::of(turn.event, core),
+        }
+    }
+
+    fn see<S: Store + Drop>(&mut self, turn: Seen<'_>, core: &Core<S>) {
+        let Some(report) = turn.report else {
+            return;
+        };
+        match turn.event {
+            Event::Tick => self.on_tick(report, turn.now),
+            Event::Datagram { from, bytes } => {
+                self.on_arrived(from, bytes, report, core, turn.now);
+            }
+        }
+    }
+}

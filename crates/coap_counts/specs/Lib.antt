@@ -1,0 +1,5 @@
+pub mod Requests
+pub mod Times
+pub mod Origins
+pub mod Maps
+pub mod Openings

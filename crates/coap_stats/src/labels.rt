@@ -1,0 +1,88 @@
+//! Labels of metrics: the part of a proxy that a number is about.
+use crate::line::put;
+use coap_endpoint::{Endpoint, Ip};
+use coap_message::{OutOfMemory, Pieces};
+use percent_encoding::percent_encode_byte;
+use std::io::Write;
+use std::net::{IpAddr, Ipv4Addr, Ipv6Addr, SocketAddr};
+
+/// The part that a number is about.
+#[derive(Clone, Copy)]
+pub(crate) enum Whose<'a> {
+    /// The whole proxy.
+    All,
+    /// The maps with a prefix.
+    Map(&'a Pieces),
+    /// The requests that go another way.
+    Way(&'static str),
+    /// An origin.
+    Origin(Endpoint),
+    /// The origins that aren't counted one by one.
+    Others,
+}
+
+/// What stands for itself in a segment of a path, beside letters and digits (RFC 3986, 2.3).
+const PLAIN: &[u8] = b"-._~";
+
+/// An endpoint as the system's socket address, whose text has an IPv6 address in brackets.
+pub fn socket_of(at: Endpoint) -> SocketAddr {
+    let address = match at.ip {
+        Ip::V4(octets) => IpAddr::V4(Ipv4Addr::from_octets(octets)),
+        Ip::V6(octets) => IpAddr::V6(Ipv6Addr::from_octets(octets)),
+    };
+    SocketAddr::new(address, at.port)
+}
+
+/// Adds a prefix as a path, with `%XX` for what can't stand for itself.
+fn put_path(out: &mut Vec<u8>, prefix: &Pieces) -> Result<(), OutOfMemory> {
+    if prefix.is_empty() {
+        put(out, b"/")?;
+    }
+    for segment in prefix.iter() {
+        put(out, b"/")?;
+        put_segment(out, segment)?;
+    }
+    Ok(())
+}
+
+/// Adds a segment, with `%XX` for what can't stand for itself.
+fn put_segment(out: &mut Vec<u8>, segment: &[u8]) -> Result<(), OutOfMemory> {
+    for byte in segment {
+        if byte.is_ascii_alphanumeric() || PLAIN.contains(byte) {
+            put(out, &[*byte])?;
+        } else {
+            put(out, percent_encode_byte(*byte).as_bytes())?;
+        }
+    }
+    Ok(())
+}
+
+/// Adds an endpoint.
+fn put_endpoint(out: &mut Vec<u8>, at: Endpoint) -> Result<(), OutOfMemory> {
+    let socket = socket_of(at);
+    if write!(out, "{socket}").is_err() {
+        return Err(OutOfMemory);
+    }
+    Ok(())
+}
+
+/// Adds the label of a part behind others: `,map="/PREFIX"`, or `,origin="ADDRESS:PORT"`.
+pub(crate) fn put_whose(out: &mut Vec<u8>, whose: Whose<'_>) -> Result<(), OutOfMemory> {
+    match whose {
+        Whose::All => return Ok(()),
+        Whose::Map(prefix) => {
+            put(out, b",map=\"")?;
+            put_path(out, prefix)?;
+        }
+        Whose::Way(word) => {
+            put(out, b",map=\"")?;
+            put(out, word.as_bytes())?;
+        }
+        Whose::Origin(at) => {
+            put(out, b",origin=\"")?;
+            put_endpoint(out, at)?;
+        }
+        Whose::Others => put(out, b",origin=\"other")?,
+    }
+    put(out, b"\"")
+}
