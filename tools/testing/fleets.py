@@ -24,7 +24,7 @@ class Sensors:
             self.selector.register(socket, selectors.EVENT_READ, f"s{number}")
             self.uris[f"s{number}"] = f"coap://{host}:{socket.getsockname()[1]}/"
         self.ending = threading.Event()
-        self.thread = threading.Thread(target=self.serve)
+        self.thread = threading.Thread(target=self.serve, daemon=True)
 
     def __enter__(self):
         self.thread.start()

@@ -491,7 +491,7 @@ def play_by_bytes(program, run):
     pipe = subprocess.PIPE
     with far:
         process = subprocess.Popen([*program, *run.words], stdin=far, stdout=pipe, stderr=pipe)
-    feeder = threading.Thread(target=feed, args=(near, run.events))
+    feeder = threading.Thread(target=feed, args=(near, run.events), daemon=True)
     feeder.start()
     output, errors = process.communicate(timeout=50)
     feeder.join()
