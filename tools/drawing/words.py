@@ -104,7 +104,7 @@ def note_text(row):
     if outcome == "hit":
         left = LEFT.search(cause)
         return f"hit, {left[1]} s left" if left else "hit"
-    if outcome in ("joined", "opened", "again", "resent"):
+    if outcome in ("joined", "opened", "again", "resent", "gave up"):
         return outcome
     if outcome == "sent" and row.exchange and row.exchange.validates:
         return f"sent, ETag {' '.join(re.findall('ETag ([0-9a-f]+)', cause))}"

@@ -7,7 +7,7 @@ from reading import messages
 from reading.captures import Bad
 from reading.replays import replayed
 
-# A capture that was replayed: the proxy's endpoint, its datagrams, the moment of the first, the lines of the replay,
+# A capture that was replayed: the proxy's endpoints, its datagrams, the moment of the first, the lines of the replay,
 # its first Message ID and salt, and what the program said.
 Captured = namedtuple("Captured", "proxy found start lines first salt said")
 
@@ -17,14 +17,9 @@ DRAW = 1000
 TICKS = 3
 
 
-def proxy_of(found):
-    """The endpoint that most datagrams come from or go to."""
-    counts = Counter()
-    for it in found:
-        counts.update({it.source, it.to})
-    if not counts:
-        raise Bad("no datagrams")
-    return counts.most_common(1)[0][0]
+def port_of(endpoint):
+    """The port of an endpoint."""
+    return endpoint.rpartition(":")[2]
 
 
 def is_own(data):
@@ -35,6 +30,35 @@ def is_own(data):
 def is_asked(data):
     """Whether it is a request with a token of eight bytes, as the proxy sends."""
     return is_own(data) and messages.is_request(data[1]) and data[0] & 15 == 8 and len(data) >= 12
+
+
+def proxies_with(first, found):
+    """An endpoint of the proxy with those that may be its others: they have its port, and exchange nothing with it or
+    with one another. A proxy at several addresses has one port, and sends nothing to itself. Those that ask origins
+    come first."""
+    counts, asks, peers = Counter(), Counter(), defaultdict(set)
+    for it in found:
+        counts.update({it.source, it.to})
+        asks[it.source] += is_asked(it.data)
+        peers[it.source].add(it.to)
+        peers[it.to].add(it.source)
+    proxy = {first}
+    for it in sorted(counts, key=lambda it: (asks[it] > 0, counts[it], it), reverse=True):
+        if port_of(it) == port_of(first) and not peers[it] & proxy:
+            proxy.add(it)
+    return proxy
+
+
+def proxies_of(found):
+    """Which endpoints may be the proxy's, as sets to be tried: each of the three that most datagrams come from or go
+    to, with its others, and alone."""
+    counts = Counter()
+    for it in found:
+        counts.update({it.source, it.to})
+    tried = []
+    for first, _ in counts.most_common(3):
+        tried += [proxies_with(first, found), {first}]
+    return [it for place, it in enumerate(tried) if it not in tried[:place]]
 
 
 def guesses(sent):
@@ -67,14 +91,14 @@ def draws(sent):
 
 
 def event_lines(found, proxy, start, shown):
-    """The lines of a replay: what came, and ticks where something was sent. `shown` has the draws by the place among
-    what is sent."""
+    """The lines of a replay: what came to the proxy's endpoints, and ticks where something was sent. `shown` has the
+    draws by the place among what is sent."""
     place, moment = 0, 0
     for it in found:
         moment = max(moment, it.at - start)
-        if it.to == proxy:
+        if it.to in proxy:
             yield f"{moment} {DRAW} {it.source} {it.data.hex().upper() or '-'}\n"
-        if it.source == proxy:
+        if it.source in proxy:
             for _ in range(TICKS):
                 yield f"{moment} {shown.get(place, DRAW)} tick\n"
             place += 1
@@ -120,20 +144,34 @@ def missing_of(said, sent):
     return len(agreement.missing())
 
 
-def captured(found, at, program, words):
-    """A capture's datagrams with the replay that agrees best, by the first Message ID and the salt."""
-    proxy = at or proxy_of(found)
-    found = [it for it in found if proxy in (it.source, it.to)]
-    if not found:
-        raise Bad(f"no datagrams of {proxy}")
-    sent, start = [it for it in found if it.source == proxy], found[0].at
+def agreeing(found, proxy, program, words):
+    """The replay that agrees best with a capture of these endpoints, by the first Message ID and the salt, behind the
+    share that it doesn't send of what they sent; nothing if they sent nothing."""
+    found = [it for it in found if it.source in proxy or it.to in proxy]
+    sent = [it for it in found if it.source in proxy]
+    if not sent:
+        return None
+    start, best = found[0].at, None
     lines = list(event_lines(found, proxy, start, draws(sent)))
-    best = None
     for guess in guesses(sent):
         said = replayed(program, [*words, *guess_words(*guess)], lines)
-        missing = missing_of(said, sent)
+        missing = missing_of(said, sent) / len(sent)
         if best is None or missing < best[0]:
             best = missing, Captured(proxy, found, start, lines, *guess, said)
         if not missing:
             break
+    return best
+
+
+def captured(found, at, program, words):
+    """A capture's datagrams with the replay that agrees best. `at` has the proxy's endpoints, if they are known."""
+    best = None
+    for proxy in [set(at)] if at else proxies_of(found):
+        tried = agreeing(found, proxy, program, words)
+        if tried and (best is None or tried[0] < best[0]):
+            best = tried
+        if best and not best[0]:
+            break
+    if not best:
+        raise Bad(f"no datagrams of {' '.join(at) or 'a proxy'}")
     return best[1]

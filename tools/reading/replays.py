@@ -189,7 +189,8 @@ def comment_of(line):
     if not line.startswith("# "):
         return None
     _, number, moment, words = line.rstrip("\n").split(" ", 3)
-    return Said(int(number), int(moment), words, [])
+    time, _, rest = words.partition(" ")
+    return Said(int(number), int(moment), rest if time.endswith("Z") else words, [])
 
 
 def sent_of(line):

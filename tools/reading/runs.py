@@ -105,14 +105,14 @@ class CaptureRun:
 
     def count(self):
         """How many datagrams came."""
-        return sum(1 for it in self.run.found if it.to == self.proxy)
+        return sum(1 for it in self.run.found if it.to in self.proxy)
 
     def seen(self):
         """What was seen, in order: the datagrams of the capture, with what the replay says of them."""
         self.sent, said, rows, late = defaultdict(deque), iter(self.run.said), [], 0
         for it in self.run.found:
             moment = max(it.at - self.since, rows[-1].moment if rows else 0)
-            if it.to == self.proxy:
+            if it.to in self.proxy:
                 one = next(said)
                 self.note(one, "")
                 rows.append(Seen(moment, it.source, True, it.data, one.words.partition(it.source + " ")[2]))

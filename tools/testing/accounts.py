@@ -26,6 +26,11 @@ def token(number):
     return number.to_bytes(8, "big")
 
 
+def served(number, took=0, sends=1, target=HERE):
+    """To whom an answer was delivered, and what its exchange was."""
+    return f"to {client(number)} of {target} at {THERE} sent {sends} in {took} ms"
+
+
 def explained(program, events, config, words):
     """The comments that a program writes for events: moments, and datagrams with their sources or None for ticks."""
     lines = []
@@ -60,8 +65,8 @@ def an_exchange_and_hits(program):
         (0, (client(2), message(CON, GET, 1, b"b", [T])), f"CON GET {HERE} joined 0.00"),
         (0, None, f"sent GET to {THERE}"),
         (5, (THERE, answer), "ACK 2.05 answered 2.05 kept"),
-        (5, None, f"delivered 2.05 ETag ab Max-Age 60 to {client(1)}"),
-        (5, None, f"delivered 2.05 ETag ab Max-Age 60 to {client(2)}"),
+        (5, None, f"delivered 2.05 ETag ab Max-Age 60 {served(1, 5)}"),
+        (5, None, f"delivered 2.05 ETag ab Max-Age 60 {served(2, 5)}"),
         (9, (client(2), message(ACK, EMPTY, 3)), "ACK 0.00 acked"),
         (9, (client(1), get), f"NON GET {HERE} again"),
         (9, None, "idle"),
@@ -179,16 +184,16 @@ def answers_that_are_validated(program):
         (0, (client(1), message(NON, GET, 1, b"a", [T])), f"NON GET {HERE} opened"),
         (0, None, f"sent GET to {THERE}"),
         (0, (THERE, message(ACK, CONTENT, 1, token(1), [tag, AGE], b"21")), "ACK 2.05 answered 2.05 kept"),
-        (0, None, f"delivered 2.05 ETag 0a01 Max-Age 60 to {client(1)}"),
+        (0, None, f"delivered 2.05 ETag 0a01 Max-Age 60 {served(1)}"),
         (60_001, (client(1), message(NON, GET, 2, b"b", [T])), f"NON GET {HERE} opened"),
         (60_001, None, f"sent GET ETag 0a01 to {THERE}"),
         (60_001, (THERE, message(ACK, VALID, 3, token(2), [tag, again])), "ACK 2.03 answered 2.03 kept"),
-        (60_001, None, f"delivered 2.05 ETag 0a01 Max-Age 20 to {client(1)}"),
+        (60_001, None, f"delivered 2.05 ETag 0a01 Max-Age 20 {served(1)}"),
         # what is valid without a tag of the proxy's is no answer
         (60_001, (client(1), message(NON, GET, 3, b"c", [T, (URI_PATH, b"x")])), f"NON GET {HERE}/x opened"),
         (60_001, None, f"sent GET to {THERE}"),
-        (60_001, (THERE, message(ACK, VALID, 5, token(3), [tag])), "ACK 2.03 answered 2.03 not stored"),
-        (60_001, None, f"delivered 5.02 to {client(1)}"),
+        (60_001, (THERE, message(ACK, VALID, 5, token(3), [tag])), "ACK 2.03 answered 5.02 tag"),
+        (60_001, None, f"delivered 5.02 {served(1, target=HERE + '/x')}"),
     ])
 
 
@@ -198,7 +203,7 @@ def a_confirmable_client(program):
         (0, (client(1), message(CON, POST, 1, b"a", [T, *tags])), f"CON POST {HERE} opened 0.00"),
         (0, None, f"sent POST ETag 00 ETag ff10 to {THERE}"),
         (5, (THERE, message(CON, CONTENT, 1, token(1), [TAG], b"21")), "CON 2.05 answered 2.05 not stored"),
-        (5, None, f"delivered 2.05 ETag ab to {client(1)}"),
+        (5, None, f"delivered 2.05 ETag ab {served(1, 5)}"),
         (2005, None, f"resent 2.05 ETag ab to {client(1)}"),
         (2006, (THERE, message(CON, CONTENT, 1, token(1), [TAG], b"21")), "CON 2.05 again 0.00"),
         (2007, (client(1), message(RST, EMPTY, 2)), "RST 0.00 acked"),
@@ -221,7 +226,7 @@ def answers_that_are_not_kept(program):
         ]
         code = "4.04" if number == 1 else "5.02"
         age = " Max-Age 0" if number == 1 else ""
-        script.append((at, None, f"delivered {code}{age} to {client(number)}"))
+        script.append((at, None, f"delivered {code}{age} {served(number)}"))
     check(program, script)
 
 
@@ -231,8 +236,19 @@ def a_silent_origin(program):
         (0, (client(1), put), f"NON POST {HERE}?a=%2F%26 opened"),
         (0, None, f"sent POST to {THERE}"),
         (2000, None, f"resent POST to {THERE}"),
-        (93000, None, "gave up"),
-        (93000, None, f"delivered 5.04 to {client(1)}"),
+        (93000, None, f"gave up {HERE}?a=%2F%26 at {THERE} sent 2 in 93000 ms"),
+        (93000, None, f"delivered 5.04 {served(1, 93_000, 2, HERE + '?a=%2F%26')}"),
+    ])
+
+
+def a_client_that_acknowledges_nothing(program):
+    check(program, [
+        (0, (client(1), message(CON, POST, 1, b"a", [T])), f"CON POST {HERE} opened 0.00"),
+        (0, None, f"sent POST to {THERE}"),
+        (5, (THERE, message(ACK, CONTENT, 1, token(1), [], b"21")), "ACK 2.05 answered 2.05 not stored"),
+        (5, None, f"delivered 2.05 {served(1, 5)}"),
+        *((at, None, f"resent 2.05 to {client(1)}") for at in (2005, 6005, 14_005, 30_005)),
+        (62_005, None, f"gave up on {client(1)} sent 5 in 62000 ms"),
     ])
 
 
@@ -267,12 +283,22 @@ def full_tables_of_waiters_and_records(program):
     ], f"version = 2\n[limits]\n{limits}con_records = 2\nclient_con_records = 1\n")
 
 
+def a_join_that_has_no_room(program):
+    """Needs no exchange, so that this isn't what is full; what can't join does."""
+    limits = "exchanges = 1\nwaiters = 1\nclient_exchanges = 1\nclient_waiters = 1\n"
+    check(program, [
+        (0, (client(1), message(NON, GET, 1, b"", [T])), f"NON GET {HERE} opened"),
+        (0, (client(2), message(NON, GET, 1, b"", [T])), f"NON GET {HERE} overloaded 5.03 waiters 1/1"),
+        (0, (client(2), message(NON, POST, 2, b"", [T])), f"NON POST {HERE} overloaded 5.03 exchanges 1/1 waiters 1/1"),
+    ], f"version = 2\n[limits]\n{limits}")
+
+
 def an_answer_that_is_too_large(program):
     check(program, [
         (0, (client(1), message(NON, GET, 1, b"a", [T])), f"NON GET {HERE} opened"),
         (0, None, f"sent GET to {THERE}"),
         (0, (THERE, message(ACK, CONTENT, 1, token(1), [AGE], bytes(64))), "ACK 2.05 answered 2.05 too large"),
-        (0, None, f"delivered 2.05 Max-Age 60 to {client(1)}"),
+        (0, None, f"delivered 2.05 Max-Age 60 {served(1)}"),
     ], "version = 1\nlimits = { cache_bytes = 64 }\n")
 
 
@@ -281,7 +307,7 @@ def ids_that_run_out(program):
         (0, (client(1), message(NON, GET, 1, b"a", [T])), f"NON GET {HERE} opened"),
         (0, None, f"sent GET to {THERE}"),
         (0, (THERE, message(ACK, CONTENT, 1, token(1), [AGE], b"21")), "ACK 2.05 answered 2.05 kept"),
-        (0, None, f"delivered 2.05 Max-Age 60 to {client(1)}"),
+        (0, None, f"delivered 2.05 Max-Age 60 {served(1)}"),
     ]
     # Half of all Message IDs are of one window. Two are used, and one is to be left.
     for number in range(32_765):
@@ -289,16 +315,17 @@ def ids_that_run_out(program):
         script.append((0, (client(2), hit), f"NON GET {HERE} hit 2.05 Max-Age 60"))
     other, text = [T, (URI_PATH, b"x")], f"{HERE}/x"
     script += [
-        (0, (client(3), message(NON, GET, 1, b"", other)), f"NON GET {text} overloaded 5.03 ids"),
+        (0, (client(3), message(NON, GET, 1, b"", other)), f"NON GET {text} overloaded 5.03 ids 32767/32768"),
         (0, (client(3), message(NON, GET, 2, b"", [T])), f"NON GET {HERE} no id"),
-        (0, (client(3), message(CON, GET, 3, b"", other)), f"CON GET {text} overloaded 5.03 ids"),
+        (0, (client(3), message(CON, GET, 3, b"", other)), f"CON GET {text} overloaded 5.03 ids 32768/32768"),
         (0, (client(3), message(CON, GET, 4, b"", [T])), f"CON GET {HERE} hit 2.05 Max-Age 60"),
     ]
     check(program, script, "version = 1\n[limits]\nnon_records = 65536\n")
 
 
 CASES = (
-    an_exchange_and_hits, the_first_answer, a_configuration_that_is_read_once, refusals, other_refusals, targets, targets_behind_a_next_proxy, answers_that_are_validated,
-    a_confirmable_client, answers_that_are_not_kept, a_silent_origin, full_tables, full_tables_of_waiters_and_records,
-    an_answer_that_is_too_large, ids_that_run_out,
+    an_exchange_and_hits, the_first_answer, a_configuration_that_is_read_once, refusals, other_refusals, targets,
+    targets_behind_a_next_proxy, answers_that_are_validated, a_confirmable_client, answers_that_are_not_kept,
+    a_silent_origin, a_client_that_acknowledges_nothing, full_tables, full_tables_of_waiters_and_records,
+    a_join_that_has_no_room, an_answer_that_is_too_large, ids_that_run_out,
 )

@@ -15,6 +15,9 @@ RULES = os.path.join(TOP, "examples", "coap-proxyd.rules.yml")
 DASHBOARD = os.path.join(TOP, "examples", "coap-proxyd.dashboard.json")
 ALERTS = os.path.join(TOP, "tools", "testing", "alerts.yml")
 METRIC = re.compile(r"\bcoap_proxyd_[a-z_]+")
+# The line of a metric's type, and what ends the names of a histogram's numbers.
+TYPE = re.compile(r"^# TYPE (\w+) (\w+)$", re.MULTILINE)
+ENDINGS = {"histogram": ("_bucket", "_sum", "_count")}
 # What a query wants of a label whose values the program chooses.
 WANTED = re.compile(r'\b(outcome|storing|what)=(~?)"([^"]*)"')
 # What Grafana puts in the place of variables.
@@ -31,13 +34,14 @@ def dashboard_queries():
 
 
 def written_metrics(program):
-    """The names of the metrics that a program writes, and the values of their labels."""
+    """The names of the metrics that a program writes, also of those that have no number yet, and the values of their
+    labels."""
     with tempfile.TemporaryDirectory(prefix="coap-proxyd-test-") as folder:
         path = os.path.join(folder, "counts.prom")
         run_a_turn(program, "--stats-file", path)
-        series = list(metrics(path))
+        series, types = list(metrics(path)), TYPE.findall(read(path))
     labels = {label for it in series for label in re.findall(r'(\w+)="([^"]*)"', it)}
-    return {it.split("{")[0] for it in series}, labels
+    return {name + end for name, kind in types for end in ENDINGS.get(kind, ("",))}, labels
 
 
 def promtool(folder, *words):

@@ -1,6 +1,7 @@
 """Recordings of the program while it serves a socket: a replay of one sends the same, byte for byte."""
 
 import os
+import re
 import resource
 import shlex
 import subprocess
@@ -16,6 +17,7 @@ CASES, case = case_list()
 
 
 # What stands after a backslash in a word of a shell, and what stands for itself.
+SINCE = re.compile(r"# recorded since (2[0-9]{3}-[01][0-9]-[0-3][0-9]T[0-2][0-9]:[0-5][0-9]:[0-5][0-9]\.[0-9]{3}Z)")
 ODD, PLAIN = " !\"#$&'()*;<>?[\\]^`{|}~\x7f", "%+,-./:=@_059AMZamz\u00e9"
 
 
@@ -66,7 +68,7 @@ def a_recording_says_how_its_run_was_started(stage):
         f"[[map]]\nprefix = '/t'\norigin = 'coap://{origin.authority}/temp'"
     )
     name = (ODD + "\n" + PLAIN).replace("/", "") + ".toml"
-    shown = ("".join(f"\\{byte}" for byte in ODD) + "$'\\n'" + PLAIN).replace("/", "") + ".toml"
+    shown = ("".join(f"\\{byte}" for byte in ODD) + "\"$(printf '\\n%s' " + PLAIN).replace("/", "") + ".toml"
     started = ["--id", "257", "--salt", "258"]
     others = ["--map=/u=coap://192.0.2.7/x", "-P,proxy.test"]
     words = ("--config", stage.file(name, text), *started, *others, "--record", path)
@@ -86,13 +88,14 @@ def a_recording_says_how_its_run_was_started(stage):
     expect("what the replay sends", seen, replayed(stage.program, path, again))
     with open(path, encoding="utf-8") as file:
         first, *lines = file.read().split("\n")
-    at = f" --config={stage.folder}/{shown}{'.inner' if config.endswith('.inner') else ''}"
+    at = f" --config={stage.folder}/{shown}{'.inner' if config.endswith('.inner') else ''})\""
     expect("how often the configuration is named", 1, first.count(at))
     expect("the other words", ["--replay", *started, *others], words_of(first.replace(at, "")))
     with open(config, encoding="utf-8") as file:
         wanted = [f"# config: {line}" for line in file.read().split("\n")]
     expect("the configuration", wanted, lines[: len(wanted)])
-    expect("whether events follow", True, lines[len(wanted)][:1].isdigit())
+    expect("whether the time of day follows", True, bool(SINCE.fullmatch(lines[len(wanted)])))
+    expect("whether events follow", True, lines[len(wanted) + 1][:1].isdigit())
     await_metric(counts, 'coap_proxyd_requests_total{outcome="refused_5.05"}', 1)
 
 
@@ -127,8 +130,8 @@ def a_line_that_is_too_long_for_a_recording_is_a_fault(program):
 
 
 def limited():
-    """Has files be as full at 100 bytes as they are on a disk without room."""
-    resource.setrlimit(resource.RLIMIT_FSIZE, (100, 100))
+    """Has files be as full at 160 bytes as they are on a disk without room."""
+    resource.setrlimit(resource.RLIMIT_FSIZE, (160, 160))
 
 
 def a_full_disk_ends_the_recording_alone(program):
@@ -144,7 +147,52 @@ def a_full_disk_ends_the_recording_alone(program):
         expect("whether it ends with a whole line", (b"", True), (lines[-1], len(lines) > 2))
 
 
+def a_recording_ends_before_it_is_too_long(program):
+    with tempfile.TemporaryDirectory(prefix="coap-proxyd-test-") as folder:
+        for most, end in ((160, b"coap-proxyd: the recording has ended\n"), (10_000, b"")):
+            path = os.path.join(folder, f"{most}.events")
+            words = [*program, "-A", "127.0.0.1", "-p", str(free_port()), "--turns", "7", "--record", path]
+            words += ["--record-bytes", str(most)]
+            done = subprocess.run(words, stdout=subprocess.PIPE, stderr=subprocess.PIPE, timeout=20)
+            expect("the run", (0, end), (done.returncode, done.stderr))
+            with open(path, "rb") as file:
+                text = file.read()
+            expect("whether it is short enough", True, len(text) <= most and text.endswith(b"\n"))
+            events = [line for line in text.splitlines() if not line.startswith(b"#")]
+            expect("whether all turns are there", not end, len(events) == 7)
+        short = run_a_turn(program, os.path.join(folder, "short.events"), "--record-bytes", "10")
+        expect("a run whose head is too long", 1, short[0])
+
+
+def a_size_is_that_of_a_recording(program):
+    for words in (["--record-bytes", "1000"], ["--replay", "--record-bytes", "1000"]):
+        done = subprocess.run([*program, *words], stdin=subprocess.DEVNULL, stderr=subprocess.PIPE, timeout=20)
+        expect("the run", (2, b"coap-proxyd: arguments\n"), (done.returncode, done.stderr))
+
+
+def a_recording_in_a_folder_is_named_by_its_moment(program):
+    with tempfile.TemporaryDirectory(prefix="coap-proxyd-test-") as folder:
+        expect("two runs", [(0, b"")] * 2, [run_a_turn(program, folder + "/") for _ in range(2)])
+        for name in os.listdir(folder):
+            with open(os.path.join(folder, name), encoding="utf-8") as file:
+                since = SINCE.fullmatch(file.read().splitlines()[1]).group(1)
+            expect("the name", since.replace(":", ".") + ".events", name)
+        expect("how many files there are", 2, len(os.listdir(folder)))
+        missing = os.path.join(folder, "missing", "")
+        expect("a run without the folder", (1, b"coap-proxyd: file\n"), run_a_turn(program, missing))
+
+
+def an_account_has_the_time_of_day(program):
+    head, run = "# recorded since 2026-11-27T23:59:59.900Z\n", [*program, "--replay", "--explain"]
+    for first, shown in (("", ""), (head, "2026-11-28T00:00:00.001Z ")):
+        done = subprocess.run(run, input=first + "101 0 tick\n", stdout=subprocess.PIPE, text=True, timeout=20)
+        expect("what is said", (0, f"# 1 101 {shown}tick idle\n"), (done.returncode, done.stdout))
+    done = subprocess.run(run, input=head + "night\n", stdout=subprocess.PIPE, text=True, timeout=20)
+    expect("the status after a bad event", 2, done.returncode)
+
+
 ENDS = (
     a_file_that_is_there_stays_as_it_is, a_line_that_is_too_long_for_a_recording_is_a_fault,
-    a_full_disk_ends_the_recording_alone,
+    a_full_disk_ends_the_recording_alone, a_recording_ends_before_it_is_too_long, a_size_is_that_of_a_recording,
+    a_recording_in_a_folder_is_named_by_its_moment, an_account_has_the_time_of_day,
 )

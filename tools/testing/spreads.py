@@ -6,7 +6,7 @@ import subprocess
 import sys
 import time
 
-from testing import links
+from testing import links, namespaces
 from testing.coap import ACK, CON, CONTENT, EMPTY, GET, MAX_AGE, message, read
 from testing.network import Broken, Skipped, Stage, end, expect
 from testing.steps import T
@@ -23,12 +23,12 @@ class Spread:
     def __init__(self, stage, near, far):
         self.stage, self.near, self.instances = stage, near, {}
         self.settings = {**os.environ, "DESTDIR": stage.folder}
-        if not links.run("ip", "-n", far, "route", "add", "local", f"{NETWORK}0/24", "dev", "lo"):
+        if not namespaces.run("ip", "-n", far, "route", "add", "local", f"{NETWORK}0/24", "dev", "lo"):
             raise Skipped("this system has no routes for so many clients")
-        links.run("ip", "-n", near, "route", "add", f"{NETWORK}0/24", "via", links.THERE)
-        self.origin = links.socket_in(near, links.HERE)
+        namespaces.run("ip", "-n", near, "route", "add", f"{NETWORK}0/24", "via", links.THERE)
+        self.origin = namespaces.socket_in(near, links.HERE)
         # Each client has two ports, since it is its address that counts.
-        self.clients = [links.socket_in(far, f"{NETWORK}{number % CLIENTS + 1}") for number in range(2 * CLIENTS)]
+        self.clients = [namespaces.socket_in(far, f"{NETWORK}{number % CLIENTS + 1}") for number in range(2 * CLIENTS)]
         for client in self.clients:
             client.connect((links.HERE, links.PORT))
 
@@ -42,7 +42,7 @@ class Spread:
         config = self.stage.file("p.toml", f'version = 1\n[[map]]\nprefix = "/t"\norigin = "coap://{links.HERE}:{origin}/t"\n')
         words = [sys.executable, SCRIPT, str(INSTANCES), "--address", links.HERE, "--config", config]
         subprocess.run(words, env=self.settings, stdout=subprocess.DEVNULL, check=True, timeout=20)
-        if not links.run(*self.inside("nft", "-f", os.path.join(self.stage.folder, "etc/coap-proxyd/spread.nft"))):
+        if not namespaces.run(*self.inside("nft", "-f", os.path.join(self.stage.folder, "etc/coap-proxyd/spread.nft"))):
             raise Skipped("this system doesn't load the table of tools/spread")
 
     def start(self, number):

@@ -11,35 +11,38 @@ from testing.network import PATIENCE, Failed, case_list, expect, expect_between,
 from testing.steps import T, expect_hit, fetch
 
 CASES, case = case_list()
+# The metric that is a histogram.
+TIMES = "coap_proxyd_origin_answer_seconds"
 # An address and a port.
 LISTEN = re.compile(r"(127(\.[0-9]{1,3}){3}|\[::1\]):[1-9][0-9]*")
 
 KEYS = (
     "seconds received sent send_faults lost resent gave_up hit joined opened overloaded no_record_room no_id again "
     "refused_4.00 refused_4.02 refused_4.04 refused_4.05 refused_4.13 refused_5.05 kept too_large no_memory not_stored "
-    "cached_bytes entries con_records non_records exchanges waiters"
+    "absent stale marked not_get evicted evicted_fresh cached_bytes entries con_records non_records exchanges waiters"
 ).split()
-LINE = re.compile(" ".join(re.escape(key) + "=[0-9]+" + ("/[0-9]+" if key in KEYS[24:] else "") for key in KEYS))
+LINE = re.compile(" ".join(re.escape(key) + "=[0-9]+" + ("/[0-9]+" if key in KEYS[30:] else "") for key in KEYS))
 
 
 def metrics(path):
     """The numbers of a file of counts, by the names of their metrics and their labels but the first, which must say of
     all where the proxy listens. Each metric must have a help and a type above it: that of a counter if its name is
-    one's."""
+    one's, and a histogram has three metrics under its name."""
     numbers, said, listens = {}, set(), set()
     with open(path, encoding="ascii") as file:
         for line in file:
             words = line.split()
             if line.startswith("# "):
                 said.add((words[1], words[2]))
-                kind = "counter" if words[2].endswith("_total") else "gauge"
+                kind = "counter" if words[2].endswith("_total") else "histogram" if words[2] == TIMES else "gauge"
                 expect("the type of a metric", True, words[1] != "TYPE" or words[3:] == [kind])
                 continue
-            name = words[0].split("{")[0]
+            name = re.sub(f"^{TIMES}_(bucket|sum|count)$", TIMES, words[0].split("{")[0])
             expect("the help and the type of a metric", True, {("HELP", name), ("TYPE", name)} <= said)
             listen, labels = re.fullmatch(r'[a-z_]+\{listen="([^"]*)"(?:,(.*))?\}', words[0]).groups()
             listens.add(listen)
-            numbers[f"{name}{{{labels}}}" if labels else name] = int(words[1])
+            name = words[0].split("{")[0]
+            numbers[f"{name}{{{labels}}}" if labels else name] = float(words[1]) if "." in words[1] else int(words[1])
     expect("where it listens", True, len(listens) == 1 and LISTEN.fullmatch(listens.pop()) is not None)
     return numbers
 
@@ -71,6 +74,16 @@ def the_file_has_what_was_sent(stage):
     for outcome, count in wanted.items():
         expect(outcome, count, numbers[f'coap_proxyd_requests_total{{outcome="{outcome}"}}'])
     expect("stored answers", 1, numbers['coap_proxyd_answers_total{storing="kept"}'])
+    expect("hits of the map", 2, numbers['coap_proxyd_map_requests_total{map="/t",outcome="hit"}'])
+    expect("refused of no map", 0, numbers['coap_proxyd_map_requests_total{map="none",outcome="refused_4.02"}'])
+    # A stand-in has origins at other ports.
+    origins = set(re.findall(r'origin="([^"]+:[0-9]+)"', " ".join(numbers)))
+    expect("how many origins", 1, len(origins))
+    at = f'origin="{origins.pop()}"'
+    expect("requests to the origin", 1, numbers[f"coap_proxyd_origin_requests_total{{{at}}}"])
+    expect("its answers", 1, numbers[f'coap_proxyd_origin_answers_total{{{at},class="2"}}'])
+    expect("within a minute", 1, numbers[f'coap_proxyd_origin_answer_seconds_bucket{{{at},le="60"}}'])
+    expect("opened as nothing was stored", 1, numbers['coap_proxyd_opened_total{stored="absent"}'])
     expect("entries", 1, numbers['coap_proxyd_held{what="entries"}'])
     expect("the limit of entries", 1024, numbers['coap_proxyd_limit{what="entries"}'])
     expect("faults", 0, numbers["coap_proxyd_send_faults_total"])

@@ -110,6 +110,9 @@ def the_counts_of_a_running_proxy_are_watched(stage):
     expect("the hit rate", True, any(re.match(r"hit rate +75% +#+-+$", line) for line in lines))
     expect("the tables", True, any(re.match(r"exchanges +-+ +0 of +256 +0%", line) for line in lines))
     expect("how wide it is", True, max(map(len, lines)) <= 80)
+    expect("the map", True, any(re.match(r"/t +75% ", line) for line in lines))
+    # A stand-in has origins at other ports.
+    expect("the origin", True, any(re.match(r"[0-9.:\[\]]+:[0-9]+ ", line) for line in lines))
 
 
 ENDS = (labels_are_read_and_summed_over, the_worst_comes_first, q_ends_the_watch)

@@ -2,6 +2,7 @@
 
 import itertools
 import os
+import re
 import subprocess
 import tempfile
 from collections import namedtuple
@@ -116,6 +117,9 @@ def check(run, came):
     if run.output is None:
         raise Failed("no line says what must be written")
     wanted = expected(run.output)
+    if "--log" in run.words:
+        # A log has one line more, which says what a fault comes from.
+        came = (*came[:2], re.sub(rb"^cause: .*\n", b"", came[2], flags=re.MULTILINE))
     if wanted[0] != came[0]:
         raise Failed(f"status: expected {wanted[0]}, got {came[0]} ({came[2][:200]!r})")
     for stream, one, other in zip(("standard output", "standard error"), wanted[1:], came[1:]):

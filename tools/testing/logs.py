@@ -1,0 +1,354 @@
+"""What the program logs with --log while it serves a socket, and what it says of a fault beside its text."""
+
+import fcntl
+import os
+import pty
+import re
+import subprocess
+import tempfile
+import time
+from urllib.parse import unquote_to_bytes
+
+from testing.coap import ACK, BLOCK2, CON, CONTENT, EMPTY, GATEWAY_TIMEOUT, GET, NON, RST, URI_PATH, message
+from testing.network import PATIENCE, Failed, Stage, expect, expect_between, free_port
+from testing.recordings import limited
+from testing.steps import T, TEMP, max_age
+
+CASES = []
+# Some codes of responses that a client is sent in place of an answer.
+BAD_GATEWAY, UNAVAILABLE = 0xA2, 0xA3
+# A line: a word, and keys with values. No value has a blank, a quotation mark or an equals sign.
+LINE = re.compile(r'[a-z_]+( [a-z_]+=[!#-<>-~]+)+')
+F_SETPIPE_SZ = 1031
+
+
+def case(function):
+    """Notes a function that tries a program."""
+    CASES.append(function)
+    return function
+
+
+def expect_form(what, form, text):
+    """Fails where a text isn't of a form."""
+    if re.fullmatch(form, text) is None:
+        raise Failed(f"{what}: expected {form!r}, got {text!r}")
+
+
+class Log:
+    """A proxy that logs to a file: its address, a client of it, and an origin that it maps /t to."""
+
+    def __init__(self, stage, limits=""):
+        self.path = os.path.join(stage.folder, "log")
+        self.origin = stage.peer()
+        self.target = f"coap://{self.origin.authority}/temp"
+        config = f"[limits]\n{limits}\n"
+        with open(self.path, "wb") as output:
+            words = ("--map", f"/t={self.target}", "--log")
+            self.address = stage.proxy(*words, config=config, version=2, output=output)
+        self.stage, self.client = stage, stage.peer(to=self.address)
+
+    def lines(self):
+        """The whole lines that were written, each as its word and its values by their keys."""
+        with open(self.path, encoding="ascii") as file:
+            text = file.read()
+        lines = text.split("\n")[:-1]
+        for line in lines:
+            expect(f"whether {line!r} is a line of a log", True, LINE.fullmatch(line) is not None)
+        return [(line.split(" ")[0], dict(it.split("=") for it in line.split(" ")[1:])) for line in lines]
+
+    def await_lines(self, word, count=1):
+        """The values of the lines with this word, once there are so many."""
+        until, found = time.monotonic() + PATIENCE, []
+        while time.monotonic() < until:
+            found = [values for first, values in self.lines() if first == word]
+            if len(found) >= count:
+                expect(f"how many lines {word}", count, len(found))
+                return found
+            time.sleep(0.05)
+        raise Failed(f"expected {count} lines {word}, got {self.lines()}")
+
+    def expect_line(self, word, number, **wanted):
+        """Has the line of this word and number, from 1, have these values. Those of `ms` are left out."""
+        values = self.await_lines(word, number)[-1]
+        values.pop("ms", None)
+        expect(f"the line {word}", {key: str(value) for key, value in wanted.items()}, values)
+
+
+def authority(peer):
+    """The address of a peer, as a line has it."""
+    return f"{peer.host}:{peer.port}"
+
+
+@case
+def it_says_that_it_listens(program):
+    with Stage(program) as stage:
+        log = Log(stage)
+        done = subprocess.run([*program, "--version"], stdout=subprocess.PIPE, text=True, timeout=20)
+        version, listen = done.stdout.split()[1], "%s:%d" % log.address
+        log.expect_line("listening", 1, version=version, listen=listen, maps=1, names=0, hosts=0, limits=2)
+
+
+@case
+def an_origin_that_is_silent_and_answers_again(program):
+    with Stage(program) as stage:
+        log = Log(stage, "exchange_ms = 1000")
+        client, origin = log.client, log.origin
+        request = client.request(GET, [T], kind=NON)
+        origin.expect_request(GET, [TEMP])
+        client.expect_response(request, GATEWAY_TIMEOUT)
+        about = {"target": log.target, "cause": "unacknowledged", "origin": authority(origin), "sent": 1}
+        log.expect_line("gave_up", 1, clients=1, **about)
+        log.expect_line("failed", 1, client=authority(client), code="5.04", **about)
+        took = int(log.await_lines("gave_up")[0]["ms"])
+        expect_between("how long it took, in milliseconds", 1000, 1900, took)
+        # acknowledged, and not answered
+        request = client.request(GET, [T], kind=NON)
+        origin.acknowledge(origin.expect_request(GET, [TEMP]))
+        [again] = log.await_lines("answers_again")
+        expect("the origin", authority(origin), again["origin"])
+        client.expect_response(request, GATEWAY_TIMEOUT)
+        about["cause"] = "unanswered"
+        log.expect_line("gave_up", 2, clients=1, **about)
+        log.expect_line("failed", 2, client=authority(client), code="5.04", **about)
+
+
+@case
+def answers_that_a_client_does_not_get(program):
+    with Stage(program) as stage:
+        log = Log(stage)
+        client, origin = log.client, log.origin
+        about = {"client": authority(client), "target": log.target, "origin": authority(origin), "sent": 1}
+        request = client.request(GET, [T], kind=NON)
+        asked = origin.expect_request(GET, [TEMP])
+        origin.send(message(RST, EMPTY, asked.message.message_id), asked.source)
+        client.expect_response(request, BAD_GATEWAY)
+        log.expect_line("failed", 1, code="5.02", cause="reset", **about)
+        request = client.request(GET, [T], kind=NON)
+        origin.answer(origin.expect_request(GET, [TEMP]), CONTENT, [(BLOCK2, b"\x06")])
+        client.expect_response(request, BAD_GATEWAY)
+        log.expect_line("failed", 2, code="5.02", cause="option", option=23, **about)
+        request = client.request(GET, [T], kind=NON)
+        origin.answer(origin.expect_request(GET, [TEMP]), CONTENT, [], bytes(1484))
+        client.expect_response(request, BAD_GATEWAY)
+        log.expect_line("failed", 3, code="5.02", cause="length", **about)
+        request = client.request(GET, [T], kind=NON)
+        origin.answer(origin.expect_request(GET, [TEMP]), UNAVAILABLE, [max_age(7)])
+        client.receive("5.03")
+        log.expect_line("failed", 4, code="5.03", cause="origin", **about)
+
+
+@case
+def a_client_that_is_turned_away(program):
+    with Stage(program) as stage:
+        log = Log(stage, "exchanges = 1\nwaiters = 1\nclient_exchanges = 1\nclient_waiters = 1")
+        client, other = log.client, log.stage.peer(to=log.address)
+        client.request(GET, [T])
+        log.origin.expect_request(GET, [TEMP])
+        # This one would have shared the answer, so that it needs no exchange.
+        other.request(GET, [T], kind=NON)
+        about = {"client": authority(other), "code": "5.03", "cause": "room"}
+        log.expect_line("failed", 1, target=log.target, waiters="1/1", **about)
+        other.request(GET, [T, (URI_PATH, b"x")], kind=NON)
+        log.expect_line("failed", 2, target=log.target + "/x", exchanges="1/1", waiters="1/1", **about)
+        client.request(GET, [T, (URI_PATH, b"x")], kind=NON)
+        about["client"] = authority(client)
+        own = {"client_exchanges": "1/1", "client_waiters": "1/1"}
+        log.expect_line("failed", 3, target=log.target + "/x", exchanges="1/1", waiters="1/1", **own, **about)
+
+
+@case
+def messages_that_are_dropped(program):
+    with Stage(program) as stage:
+        log = Log(stage, "non_records = 2\nclient_non_records = 1\ncon_records = 1\nclient_con_records = 1")
+        client, other = log.client, log.stage.peer(to=log.address)
+        client.request(GET, [], kind=NON)
+        client.request(GET, [], kind=NON)
+        log.expect_line("dropped", 1, client=authority(client), client_non="1/1")
+        other.request(GET, [], kind=CON)
+        other.request(GET, [], kind=CON)
+        log.expect_line("dropped", 2, client=authority(other), con="1/1", client_con="1/1")
+
+
+@case
+def no_byte_of_a_peer_forges_anything(program):
+    with Stage(program) as stage:
+        log = Log(stage, "exchanges = 1\nclient_exchanges = 1")
+        log.client.request(GET, [T])
+        log.origin.expect_request(GET, [TEMP])
+        for at in range(8):
+            segment = bytes(range(32 * at, 32 * at + 32))
+            log.client.request(GET, [T, (URI_PATH, segment)], kind=NON)
+            values = log.await_lines("failed", at + 1)[-1]
+            expect("the keys", ["client", "code", "target", "cause", "exchanges", "client_exchanges"], list(values))
+            expect("the target", log.target.encode() + b"/" + segment, unquote_to_bytes(values["target"]))
+        # A path that is too long for a line is cut.
+        log.client.request(GET, [T, (URI_PATH, b"\n" * 255)], kind=NON)
+        target = log.await_lines("failed", 9)[-1]["target"]
+        expect_form("a long target", re.escape(log.target) + "/(%0A)+(%0?)?[.]{3}", target)
+
+
+@case
+def more_lines_than_are_written(program):
+    with Stage(program) as stage:
+        log = Log(stage, "non_records = 1\nclient_non_records = 1")
+        begun = time.monotonic()
+        for _ in range(200):
+            log.client.request(GET, [], kind=NON)
+        [told] = log.await_lines("left_out")
+        most = 20 + 5 * (time.monotonic() - begun)
+        dropped = [values for word, values in log.lines() if word == "dropped"]
+        expect_between("how many lines were written", 20, most, len(dropped))
+        expect("how many were written and left out", 199, len(dropped) + int(told["lines"]))
+
+
+@case
+def a_log_that_nobody_reads_keeps_nobody_waiting(program):
+    with Stage(program) as stage:
+        reading, writing = os.pipe()
+        try:
+            fcntl.fcntl(writing, F_SETPIPE_SZ, 8192)
+            config = "[limits]\nnon_records = 1\nclient_non_records = 1\n"
+            address = stage.proxy("--log", config=config, version=2, output=writing)
+            client, until = stage.peer(to=address), time.monotonic() + 16
+            client.request(GET, [], kind=NON)
+            # The pipe is full before all of these are written.
+            while time.monotonic() < until:
+                client.request(GET, [], kind=NON)
+                client.send(message(CON, EMPTY, client.new_id()))
+                while client.receive("a Reset").message.kind != RST:
+                    pass
+                time.sleep(0.05)
+            os.set_blocking(reading, False)
+            expect_between("what was written, in bytes", 4000, 8192, len(os.read(reading, 8192)))
+            time.sleep(1.5)
+            said = os.read(reading, 8192).decode()
+            expect_form("the first line after that", r"left_out lines=[1-9][0-9]*", said.lstrip("\n").split("\n")[0])
+        finally:
+            os.close(reading)
+            os.close(writing)
+
+
+@case
+def a_recording_that_ends(program):
+    with tempfile.TemporaryDirectory(prefix="coap-proxyd-test-") as folder:
+        words = ["-A", "127.0.0.1", "-p", str(free_port()), "--turns", "7", "--log", "--record", f"{folder}/run.events"]
+        more = {"preexec_fn": limited, "restore_signals": False}
+        done = subprocess.run([*program, *words], stderr=subprocess.PIPE, timeout=20, **more)
+        lines = [line for line in done.stderr.decode().splitlines() if not line.startswith("listening ")]
+        expect_form("what is said of its end", "recording_ended bytes=[0-9]+", "\n".join(lines))
+
+
+# ---- faults
+
+
+def fault(program, words):
+    """What a program writes to a pipe as it ends with a fault."""
+    done = subprocess.run([*program, *words], stdin=subprocess.DEVNULL, stderr=subprocess.PIPE, timeout=20)
+    return done.stderr.decode()
+
+
+def at_terminal(program, words):
+    """What a program writes to a terminal."""
+    ours, theirs = pty.openpty()
+    try:
+        silent = subprocess.DEVNULL
+        process = subprocess.Popen([*program, *words], stdin=silent, stdout=silent, stderr=theirs)
+        process.wait(20)
+        os.set_blocking(ours, False)
+        return os.read(ours, 8192).decode().replace("\r\n", "\n")
+    finally:
+        os.close(ours)
+        os.close(theirs)
+
+
+def expect_fault(program, words, first, *causes):
+    """Has a fault be its text alone in a pipe, and be followed by what it comes from in a log and at a terminal: by one
+    of these, where C libraries have other words for it."""
+    expect("what is written to a pipe", first, fault(program, words))
+    logged = fault(program, [*words, "--log"])
+    cause = next((it for it in causes if logged == first + it), causes[0])
+    expect("what is written to a log", first + cause, logged)
+    expect("what is written to a terminal", first + cause, at_terminal(program, words))
+
+
+@case
+def what_the_system_said_of_a_fault(program):
+    port = str(free_port())
+    expect_fault(
+        program, ["-A", "192.0.2.1", "-p", port, "--turns", "1"], "coap-proxyd: socket\n",
+        f"cause: 192.0.2.1:{port}: Cannot assign requested address (os error 99)\n",
+        f"cause: 192.0.2.1:{port}: Address not available (os error 99)\n",
+    )
+    with Stage(program) as stage:
+        host, port = stage.proxy()
+        expect_fault(
+            program, ["-A", host, "-p", str(port), "--turns", "1"], "coap-proxyd: socket\n",
+            f"cause: {host}:{port}: Address already in use (os error 98)\n",
+            f"cause: {host}:{port}: Address in use (os error 98)\n",
+        )
+    expect_fault(
+        program, ["--config", "/nowhere/proxy.toml"], "coap-proxyd: file\n",
+        "cause: /nowhere/proxy.toml: No such file or directory (os error 2)\n",
+    )
+    with tempfile.NamedTemporaryFile(prefix="coap-proxyd-test-") as there:
+        words = ["-A", "127.0.0.1", "-p", str(free_port()), "--turns", "1", "--record", there.name]
+        expect("the recording", f"coap-proxyd: file\n", fault(program, words))
+        said = at_terminal(program, words).split("\n")[1:]
+        expect("at a terminal", ["coap-proxyd: file", f"cause: {there.name}: File exists (os error 17)", ""], said)
+
+
+WORDS = (
+    (["-A", "10.0.0"], "address", '-A "10.0.0": no address'),
+    (["-P", "proxy.test"], "proxy option", '-P "proxy.test": no comma'),
+    (["-P", "coap://a,b"], "proxy option", '-P "coap://a,b": no next proxy'),
+    (["--map", "/t"], "map option", '--map "/t": no equals sign'),
+    (["--map", "t=coap://127.0.0.1"], "map option",
+     'map 1, "t" to "coap://127.0.0.1": the prefix doesn\'t begin with a slash, or has a ? or a #'),
+    (["--map", "/t=coap://nowhere/"], "map option",
+     'map 1, "/t" to "coap://nowhere/": the origin\'s host is no address, and isn\'t among the hosts'),
+    (["--explain"], "arguments", "--explain is for a replay, and --replay isn't given"),
+)
+CONFIGURATIONS = (
+    ("version = 1\nnames = [\n", "config: syntax", "line 3: "),
+    ("version = 1\nnames = ['a', 'b,c']\n", "config: routes", 'name 2, "b,c": no name'),
+    ("version = 1\n[hosts]\n'h' = '10.0.0'\n", "config: routes", 'host "h" at "10.0.0": no address'),
+    ("version = 1\n[hosts]\n'10.0.0.1' = '10.0.0.2'\n", "config: routes",
+     'host "10.0.0.1" at "10.0.0.2": no name of a host'),
+    ("version = 1\n[hosts]\n'a' = '10.0.0.1'\n'A' = '10.0.0.2'\n", "config: routes", ": the name stands twice"),
+    ("version = 1\n" + "".join(f"[[map]]\nprefix = '/{it}'\norigin = '{it}://10.0.0.1'\n" for it in ("coap", "coaps")),
+     "config: routes", 'map 2, "/coaps" to "coaps://10.0.0.1": the origin has a scheme other than coap'),
+    ("version = 1\n[[map]]\nprefix = '/a'\norigin = 'coap://10.0.0.1?q'\n", "config: routes",
+     'map 1, "/a" to "coap://10.0.0.1?q": the origin has a query'),
+    ("version = 1\n" + "[[map]]\nprefix = '/a'\norigin = 'coap://10.0.0.1'\n" * 65, "config: routes", "65 maps of 64"),
+)
+
+
+@case
+def what_is_wrong_with_the_words(program):
+    for words, text, cause in WORDS:
+        expect_fault(program, words, f"coap-proxyd: {text}\n", f"cause: {cause}\n")
+
+
+@case
+def what_is_wrong_with_a_configuration(program):
+    for config, text, cause in CONFIGURATIONS:
+        with tempfile.NamedTemporaryFile("w", prefix="coap-proxyd-test-", suffix=".toml") as file:
+            file.write(config)
+            file.flush()
+            words, first = ["--config", file.name], f"coap-proxyd: {text}\n"
+            expect("what is written to a pipe", first, fault(program, words))
+            said = fault(program, [*words, "--log"])
+            expect("the first line", first, said[: len(first)])
+            expect(f"whether {cause!r} is in {said!r}", True, cause in said[len(first) :] and said.count("\n") == 2)
+
+
+@case
+def somebody_at_a_terminal_is_told_that_it_listens(program):
+    port = free_port()
+    said = at_terminal(program, ["-A", "127.0.0.1", "-p", str(port), "--turns", "1"])
+    form = rf"listening version=[^ ]+ listen=127\.0\.0\.1:{port} maps=0 names=0 hosts=0 limits=1\n"
+    expect_form("what is said", form, said)
+    done = subprocess.run(
+        [*program, "-A", "127.0.0.1", "-p", str(free_port()), "--turns", "1"], stderr=subprocess.PIPE, timeout=20
+    )
+    expect("what is written to a pipe", b"", done.stderr)
