@@ -67,6 +67,16 @@ class Log:
             time.sleep(0.05)
         raise Failed(f"expected {count} lines {word}, got {self.lines()}")
 
+    def await_dropped(self, count):
+        """How many lines of dropped messages were written, and how many were left out, once these are so many."""
+        until, dropped, left_out = time.monotonic() + PATIENCE, 0, 0
+        while dropped + left_out < count and time.monotonic() < until:
+            time.sleep(0.05)
+            lines = self.lines()
+            dropped = sum(word == "dropped" for word, _ in lines)
+            left_out = sum(int(values["lines"]) for word, values in lines if word == "left_out")
+        return dropped, left_out
+
     def expect_line(self, word, number, **wanted):
         """Has the line of this word and number, from 1, have these values. Those of `ms` are left out."""
         values = self.await_lines(word, number)[-1]
@@ -194,11 +204,11 @@ def more_lines_than_are_written(program):
         begun = time.monotonic()
         for _ in range(200):
             log.client.request(GET, [], kind=NON)
-        [told] = log.await_lines("left_out")
+        # While they come slowly, a line may be written now and then, with one before it that counts those left out.
+        dropped, left_out = log.await_dropped(199)
         most = 20 + 5 * (time.monotonic() - begun)
-        dropped = [values for word, values in log.lines() if word == "dropped"]
-        expect_between("how many lines were written", 20, most, len(dropped))
-        expect("how many were written and left out", 199, len(dropped) + int(told["lines"]))
+        expect_between("how many lines were written", 20, most, dropped)
+        expect("how many were written and left out", 199, dropped + left_out)
 
 
 @case
