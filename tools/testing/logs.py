@@ -10,22 +10,17 @@ import time
 from urllib.parse import unquote_to_bytes
 
 from testing.coap import ACK, BLOCK2, CON, CONTENT, EMPTY, GATEWAY_TIMEOUT, GET, NON, RST, URI_PATH, message
-from testing.network import PATIENCE, Failed, Stage, expect, expect_between, free_port
+from testing.network import PATIENCE, Failed, Stage, case_list, expect, expect_between, free_port
 from testing.recordings import limited
 from testing.steps import T, TEMP, max_age
 
-CASES = []
+# Functions that try a program, and the stand-ins that they must find wrong.
+CASES, case = case_list()
 # Some codes of responses that a client is sent in place of an answer.
 BAD_GATEWAY, UNAVAILABLE = 0xA2, 0xA3
 # A line: a word, and keys with values. No value has a blank, a quotation mark or an equals sign.
 LINE = re.compile(r'[a-z_]+( [a-z_]+=[!#-<>-~]+)+')
 F_SETPIPE_SZ = 1031
-
-
-def case(function):
-    """Notes a function that tries a program."""
-    CASES.append(function)
-    return function
 
 
 def expect_form(what, form, text):
@@ -89,7 +84,7 @@ def authority(peer):
     return f"{peer.host}:{peer.port}"
 
 
-@case
+@case("ListeningUnsaid", "LogChanged")
 def it_says_that_it_listens(program):
     with Stage(program) as stage:
         log = Log(stage)
@@ -98,7 +93,7 @@ def it_says_that_it_listens(program):
         log.expect_line("listening", 1, version=version, listen=listen, maps=1, names=0, hosts=0, limits=2)
 
 
-@case
+@case("CauseIsReset", "ClientIsTheFirst")
 def an_origin_that_is_silent_and_answers_again(program):
     with Stage(program) as stage:
         log = Log(stage, "exchange_ms = 1000")
@@ -122,7 +117,7 @@ def an_origin_that_is_silent_and_answers_again(program):
         log.expect_line("failed", 2, client=authority(client), code="5.04", **about)
 
 
-@case
+@case("CauseIsReset")
 def answers_that_a_client_does_not_get(program):
     with Stage(program) as stage:
         log = Log(stage)
@@ -147,7 +142,7 @@ def answers_that_a_client_does_not_get(program):
         log.expect_line("failed", 4, code="5.03", cause="origin", **about)
 
 
-@case
+@case("LimitIsExchanges", "ClientIsTheFirst")
 def a_client_that_is_turned_away(program):
     with Stage(program) as stage:
         log = Log(stage, "exchanges = 1\nwaiters = 1\nclient_exchanges = 1\nclient_waiters = 1")
@@ -166,7 +161,7 @@ def a_client_that_is_turned_away(program):
         log.expect_line("failed", 3, target=log.target + "/x", exchanges="1/1", waiters="1/1", **own, **about)
 
 
-@case
+@case("ClientIsTheFirst")
 def messages_that_are_dropped(program):
     with Stage(program) as stage:
         log = Log(stage, "non_records = 2\nclient_non_records = 1\ncon_records = 1\nclient_con_records = 1")
@@ -179,7 +174,7 @@ def messages_that_are_dropped(program):
         log.expect_line("dropped", 2, client=authority(other), con="1/1", client_con="1/1")
 
 
-@case
+@case("LineFeedForges", "BlankForges")
 def no_byte_of_a_peer_forges_anything(program):
     with Stage(program) as stage:
         log = Log(stage, "exchanges = 1\nclient_exchanges = 1")
@@ -197,7 +192,7 @@ def no_byte_of_a_peer_forges_anything(program):
         expect_form("a long target", re.escape(log.target) + "/(%0A)+(%0?)?[.]{3}", target)
 
 
-@case
+@case("LeftOutUncounted", "LinesTwice")
 def more_lines_than_are_written(program):
     with Stage(program) as stage:
         log = Log(stage, "non_records = 1\nclient_non_records = 1")
@@ -211,7 +206,7 @@ def more_lines_than_are_written(program):
         expect("how many were written and left out", 199, dropped + left_out)
 
 
-@case
+@case("WaitsForReaders")
 def a_log_that_nobody_reads_keeps_nobody_waiting(program):
     with Stage(program) as stage:
         reading, writing = os.pipe()
@@ -238,7 +233,7 @@ def a_log_that_nobody_reads_keeps_nobody_waiting(program):
             os.close(writing)
 
 
-@case
+@case("EndUnsaid")
 def a_recording_that_ends(program):
     with tempfile.TemporaryDirectory(prefix="coap-proxyd-test-") as folder:
         words = ["-A", "127.0.0.1", "-p", str(free_port()), "--turns", "7", "--log", "--record", f"{folder}/run.events"]
@@ -258,7 +253,7 @@ def fault(program, words):
 
 
 def at_terminal(program, words):
-    """What a program writes to a terminal."""
+    """What a program writes to a terminal, or nothing."""
     ours, theirs = pty.openpty()
     try:
         silent = subprocess.DEVNULL
@@ -266,6 +261,8 @@ def at_terminal(program, words):
         process.wait(20)
         os.set_blocking(ours, False)
         return os.read(ours, 8192).decode().replace("\r\n", "\n")
+    except BlockingIOError:
+        return ""
     finally:
         os.close(ours)
         os.close(theirs)
@@ -281,7 +278,7 @@ def expect_fault(program, words, first, *causes):
     expect("what is written to a terminal", first + cause, at_terminal(program, words))
 
 
-@case
+@case("CauseUnsaid")
 def what_the_system_said_of_a_fault(program):
     port = str(free_port())
     expect_fault(
@@ -333,13 +330,13 @@ CONFIGURATIONS = (
 )
 
 
-@case
+@case("CauseUnsaid")
 def what_is_wrong_with_the_words(program):
     for words, text, cause in WORDS:
         expect_fault(program, words, f"coap-proxyd: {text}\n", f"cause: {cause}\n")
 
 
-@case
+@case("CauseUnsaid")
 def what_is_wrong_with_a_configuration(program):
     for config, text, cause in CONFIGURATIONS:
         with tempfile.NamedTemporaryFile("w", prefix="coap-proxyd-test-", suffix=".toml") as file:
@@ -352,7 +349,7 @@ def what_is_wrong_with_a_configuration(program):
             expect(f"whether {cause!r} is in {said!r}", True, cause in said[len(first) :] and said.count("\n") == 2)
 
 
-@case
+@case("ListeningUnsaid")
 def somebody_at_a_terminal_is_told_that_it_listens(program):
     port = free_port()
     said = at_terminal(program, ["-A", "127.0.0.1", "-p", str(port), "--turns", "1"])
