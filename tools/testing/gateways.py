@@ -9,7 +9,7 @@ import time
 from testing import captures
 from testing.coap import ACK, CON, CONTENT, EMPTY, GET, MAX_AGE, NON, message, read
 from testing.namespaces import join, made_in, namespaces, socket_in
-from testing.network import Broken, Stage, expect
+from testing.network import Broken, Skipped, Stage, expect, has_ipv6
 from testing.steps import T
 
 # The addresses of the gateway, of a client and of a device, of networks for documentation (RFC 5737), and the port of
@@ -96,12 +96,15 @@ def await_start(client, process):
     raise Broken("the proxy doesn't serve the namespace")
 
 
-def accounts_for_both_interfaces(program):
-    """Has a capture agree of a proxy that its clients know at one address, and its device at another."""
+def accounts_for_both_interfaces(program, address):
+    """Has a capture agree of a proxy that listens at all addresses, by this one, and that its clients know at one of
+    them, and its device at another."""
+    if ":" in address and not has_ipv6():
+        raise Skipped("there is no ::1")
     run = captures.worked.Run("gateway", ["--replay", "--map", f"/t=coap://{DEVICE}/temp"], b"", b"", b"")
     with namespaces(3, lines_of) as (gateway, clients, devices), Stage(program) as stage:
         with socket_in(clients, CLIENT) as client, socket_in(devices, DEVICE, PORT) as device:
-            words = ["-A", "0.0.0.0", *run.words[1:]]
+            words = ["-A", address, *run.words[1:]]
             with socket_in(clients, CLIENT) as first:
                 await_start(first, stage.start(["ip", "netns", "exec", gateway, *program, *words]))
             with Capture(gateway) as capture:
