@@ -1,5 +1,6 @@
 """What the program logs with --log while it serves a socket, and what it says of a fault beside its text."""
 
+import errno
 import fcntl
 import os
 import pty
@@ -253,19 +254,26 @@ def fault(program, words):
 
 
 def at_terminal(program, words):
-    """What a program writes to a terminal, or nothing."""
+    """What a program writes to a terminal until it ends."""
     ours, theirs = pty.openpty()
     try:
         silent = subprocess.DEVNULL
         process = subprocess.Popen([*program, *words], stdin=silent, stdout=silent, stderr=theirs)
-        process.wait(20)
-        os.set_blocking(ours, False)
-        return os.read(ours, 8192).decode().replace("\r\n", "\n")
-    except BlockingIOError:
-        return ""
     finally:
-        os.close(ours)
         os.close(theirs)
+    with os.fdopen(ours, "rb", buffering=0) as terminal:
+        process.wait(20)
+        return b"".join(chunks(terminal)).decode().replace("\r\n", "\n")
+
+
+def chunks(terminal):
+    """What comes from a terminal, until nobody has it open any more: the system passes it on in parts, some of them after
+    the program has ended."""
+    try:
+        while data := terminal.read(8192):
+            yield data
+    except OSError as end:
+        expect("how a terminal ends", errno.EIO, end.errno)
 
 
 def expect_fault(program, words, first, *causes):
