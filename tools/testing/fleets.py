@@ -65,7 +65,7 @@ def start_fleet(stage, folder):
             place = dict(line.strip().split("=") for line in lines)
         address = (place["ADDRESS"], int(place["PORT"]))
         config = os.path.join(folder, f"{name}.toml")
-        words = ["-A", address[0], "-p", str(address[1]), "--config", config]
+        words = ["-A", address[0], "-p", str(address[1]), "--config", config, *place["OPTIONS"].split()]
         if not stage.is_ready(stage.start([*stage.program, *words]), address):
             raise Broken(f"{name} doesn't serve {address}")
         if name == "front":

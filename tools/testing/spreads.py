@@ -50,7 +50,7 @@ class Spread:
         with open(os.path.join(self.stage.folder, f"etc/default/coap-proxyd-spread{number}")) as lines:
             place = dict(line.strip().split("=") for line in lines)
         config = os.path.join(self.stage.folder, f"etc/coap-proxyd/spread{number}.toml")
-        words = ["-A", place["ADDRESS"], "-p", place["PORT"], "--config", config]
+        words = ["-A", place["ADDRESS"], "-p", place["PORT"], "--config", config, place["OPTIONS"]]
         self.instances[number] = self.stage.start(self.inside(*self.stage.program, *words))
 
     def check(self):
