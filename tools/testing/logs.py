@@ -64,13 +64,14 @@ class Log:
         raise Failed(f"expected {count} lines {word}, got {self.lines()}")
 
     def await_dropped(self, count):
-        """How many lines of dropped messages were written, and how many were left out, once these are so many."""
-        until, dropped, left_out = time.monotonic() + PATIENCE, 0, 0
-        while dropped + left_out < count and time.monotonic() < until:
+        """How many lines of dropped messages were written, and how many each other line says were left out, once these
+        are so many."""
+        until, dropped, left_out = time.monotonic() + PATIENCE, 0, []
+        while dropped + sum(left_out) < count and time.monotonic() < until:
             time.sleep(0.05)
             lines = self.lines()
             dropped = sum(word == "dropped" for word, _ in lines)
-            left_out = sum(int(values["lines"]) for word, values in lines if word == "left_out")
+            left_out = [int(values["lines"]) for word, values in lines if word == "left_out"]
         return dropped, left_out
 
     def expect_line(self, word, number, **wanted):
@@ -202,9 +203,10 @@ def more_lines_than_are_written(program):
             log.client.request(GET, [], kind=NON)
         # While they come slowly, a line may be written now and then, with one before it that counts those left out.
         dropped, left_out = log.await_dropped(199)
-        most = 20 + 5 * (time.monotonic() - begun)
-        expect_between("how many lines were written", 20, most, dropped)
-        expect("how many were written and left out", 199, dropped + left_out)
+        more = 5 * (time.monotonic() - begun)
+        expect_between("how many lines were written", 20, 20 + more, dropped)
+        expect_between("how many lines say what was left out", 1, 1 + more, len(left_out))
+        expect("how many were written and left out", 199, dropped + sum(left_out))
 
 
 @case("WaitsForReaders")
