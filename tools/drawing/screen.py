@@ -144,16 +144,21 @@ class Frame:
         found = worst_origins(self.group_rates("origin"))
         if not found:
             return
-        room = self.width - 56
+        room = self.width - 58
         self.put("")
-        heads = f"{'asked/s':>9}{'again/s':>9}{'errors/s':>10}{'gave up':>9}{'mean':>9}{'silent':>10}"
+        heads = f"{'asked/s':>9}{'again/s':>9}{'errors/s':>10}{'gave up':>9}{'mean':>9}{'silent for':>12}"
         self.put(f"{'origin, worst first':<{room}}{heads}", SOFT)
         for it in found:
-            silent = "-" if it.silent is None else short(seconds_text(int(it.silent) * 1000), 9)
+            silent = "-" if it.silent is None else coarse_text(int(it.silent))
             mean = "-" if it.mean is None else seconds_text(round(it.mean * 1000))
             numbers = f"{rate(it.asked):>9}{rate(it.again):>9}{rate(it.errors):>10}{it.given_up_in_all:>9,.0f}"
-            line = f"{short(short_endpoint(it.name), room - 1):<{room}}{numbers}{mean:>9}{silent:>10}"
+            line = f"{short(short_endpoint(it.name), room - 1):<{room}}{numbers}{mean:>9}{silent:>12}"
             self.put(line, BAD if it.given_up else PLAIN)
+
+
+def coarse_text(seconds):
+    """A stretch of time in its two greatest units, in at most eleven columns below 1,000 days."""
+    return " ".join(seconds_text(seconds * 1000).split(" ")[:4]) if seconds else "0 s"
 
 
 def short(text, room):

@@ -6,8 +6,8 @@ from drawing.parts import filled, part
 from reading.counting import TABLES
 from reading.endpoints import short_endpoint
 
-# How many rows a table has.
-ROWS = 15
+# How many rows a table has, and how many clients one of its cells names.
+ROWS, SOME = 15, 3
 
 
 def figure(value, name):
@@ -68,7 +68,21 @@ def talker_rows(clients, name_of):
         yield escaped(name_of(name)), f"{it.datagrams:,}", f"{it.bytes:,}", f"{it.again:,}", f"{it.requests:,}"
 
 
-def origin_rows(origins, name_of):
+def clients_text(clients, name_of):
+    """Who it happened to: the first few by name, with how often, and how many more."""
+    first = sorted(clients.items(), key=lambda it: (-it[1], it[0]))[:SOME]
+    more = f" and {len(clients) - SOME:,} more" if len(clients) > SOME else ""
+    return ", ".join(f"{name_of(name)} ({count:,})" for name, count in first) + more
+
+
+def trouble_rows(troubles, since, name_of):
+    """Rows of what went wrong, what did most often first."""
+    for name, it in most_of(troubles, lambda it: it.count()):
+        times = (words.time_text(moment, since) for moment in (it.first, it.last))
+        yield escaped(name), f"{it.count():,}", *times, escaped(clients_text(it.clients, name_of))
+
+
+def origin_rows(origins, since, name_of):
     """Rows of what was asked of origins."""
     for name, it in origins:
         times = sorted(it.times)
@@ -81,12 +95,21 @@ def origin_rows(origins, name_of):
             f"{it.sorts['error']:,}",
             middle,
             most,
+            "never" if it.heard is None else words.time_text(it.heard, since),
         )
 
 
 def section(name, *content):
     """A part of the page."""
     return element("section", element("h2", escaped(name)) + "".join(content))
+
+
+def troubles_section(counts, since, name_of):
+    """What went wrong, if something did: why, how often, when, and to whom."""
+    if not counts.troubles:
+        return ""
+    heads = ("what, and why", "times", "first", "last", "clients")
+    return section("What went wrong", table("What did most often", heads, trouble_rows(counts.troubles, since, name_of)))
 
 
 def card(name, chart):
@@ -106,6 +129,7 @@ def body(counts, limits, since, name_of):
             figures(counts),
             section("Hit rate over time", charts.hit_rate(counts, since)),
             section("Answers a second", charts.legend(colours.SORTS), charts.answers_over_time(counts, since)),
+            troubles_section(counts, since, name_of),
             section(
                 "By target", table("What is asked for most", ("target", *heads), answered_rows(counts.targets, str))
             ),
@@ -115,8 +139,8 @@ def body(counts, limits, since, name_of):
                 charts.answer_times(named),
                 table(
                     "The worst first",
-                    ("origin", "ended", "sent again", "given up", "errors", "half within", "nine in ten"),
-                    origin_rows(origins, name_of),
+                    ("origin", "ended", "sent again", "given up", "errors", "half within", "nine in ten", "last heard"),
+                    origin_rows(origins, since, name_of),
                 ),
             ),
             section("Tables against their limits", element("div", fill, class_="cards")),

@@ -3,12 +3,14 @@
 All is counted while it is read. What is kept of datagrams is that of the last minutes, in which they may come again."""
 
 import heapq
-from collections import defaultdict
+from collections import Counter, defaultdict
 
 from reading import messages
 from reading.belonging import Belonging, sort_of
 from reading.choosing import ROUND
+from reading.endpoints import short_endpoint
 from reading.messages import ACK, CON, RST
+from reading.replays import cause_of
 
 # Of how many stretches of time counts are kept at most, the length of the first ones in milliseconds, and the names of
 # how many targets and peers.
@@ -20,7 +22,8 @@ LIFETIMES = {"con_records": 247_000, "non_records": 145_000}
 TABLES = ("exchanges", "waiters", *LIFETIMES)
 # After how long at least an answer that isn't acknowledged is given up, in milliseconds (RFC 7252, 4.8.2).
 PATIENCE = 62_000
-# The outcomes of requests that are remembered.
+# The outcomes of requests that are turned away, and those that are remembered.
+TURNED = ("overloaded", "refused", "no record room", "no id", "out of memory")
 REMEMBERED = ("hit", "joined", "opened", "refused", "overloaded")
 # Of how many answers an origin's times are kept.
 MOST_TIMES = 100_000
@@ -123,11 +126,43 @@ class Tables:
             self.waiters.pop(number, None)
 
 
+class Trouble:
+    """How often something went wrong, for which clients, and when first and last."""
+
+    def __init__(self):
+        self.first = self.last = None
+        self.clients = Counter()
+
+    def add(self, moment, client):
+        """Counts it once more."""
+        self.first = moment if self.first is None else self.first
+        self.last = moment
+        self.clients[client if client in self.clients or len(self.clients) < MOST_NAMES else OTHERS] += 1
+
+    def count(self):
+        """How often it was."""
+        return sum(self.clients.values())
+
+
+def trouble_of(row):
+    """What went wrong at a row: why a request is turned away, in the program's words, or the error that a client got,
+    and of which origin. Nothing where nothing did."""
+    if row.inward and row.outcome in TURNED and row.first is None:
+        return f"{row.outcome} {cause_of(row.words)}".strip()
+    request = row.request
+    if row.inward or row.first or row.code < 0x80 or request is None or request.outcome in TURNED:
+        return ""
+    origin = row.exchange and row.exchange.origin
+    return messages.code_name(row.code) + (f" of {short_endpoint(origin)}" if origin else "")
+
+
 class Peer:
     """What one target, client or origin had."""
 
     def __init__(self):
         self.requests = self.datagrams = self.bytes = self.again = self.given_up = 0
+        # when something came from it last
+        self.heard = None
         self.sorts, self.times = dict.fromkeys(SORTS, 0), []
 
     def share(self):
@@ -142,6 +177,7 @@ class Counts:
     def __init__(self):
         self.belonging, self.tables, self.answers = Belonging(), Tables(), Answers()
         self.targets, self.clients, self.origins = (defaultdict(Peer) for _ in range(3))
+        self.troubles = defaultdict(Trouble)
         self.first = self.last = None
         self.came = self.sent = self.again = self.given_up = 0
         self.total = Peer()
@@ -162,6 +198,9 @@ class Counts:
             self.given_up += 1
         if row.code >= 0x40 or row.outcome in ("no record room", "no id"):
             self.take_answer(row)
+        trouble = trouble_of(row)
+        if trouble:
+            self.named(self.troubles, trouble).add(row.moment, row.peer)
         if self.belonging.ended:
             self.take_end(self.belonging.ended)
         if self.belonging.count % ROUND == 0:
@@ -176,6 +215,7 @@ class Counts:
             origin = self.named(self.origins, row.peer)
             origin.datagrams += 1
             origin.again += row.first is not None and not row.inward
+            origin.heard = row.moment if row.inward else origin.heard
             return
         client = self.named(self.clients, row.peer)
         if row.inward:

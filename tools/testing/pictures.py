@@ -9,10 +9,11 @@ import re
 import tempfile
 import time
 import xml.etree.ElementTree
+from collections import Counter
 
 from drawing import charts, colours, page, words
 from drawing.picture import picture
-from drawing.summary import summary
+from drawing.summary import clients_text, summary
 from reading import captures, messages, replays
 from reading.belonging import sort_of
 from reading.choosing import Choice, moment_since
@@ -264,6 +265,22 @@ def a_summary_counts_each_answer_once(program):
     expect("bars", 6, sum(it.attrib.get("class", "").endswith(" bar") for it in tree.iter()))
 
 
+def a_summary_says_what_went_wrong_and_for_whom(program):
+    incident = counts_of_file(program, os.path.join(PICTURES, "trying-incident.events"))
+    told = lambda counts: {name: (dict(it.clients), it.first, it.last) for name, it in counts.troubles.items()}
+    wanted = {"overloaded 5.03 exchanges 2/2": ({"127.0.0.1:40001": 1}, 9001, 9001)}
+    expect("what went wrong", wanted, told(incident))
+    silent = counts_of_file(program, os.path.join(WORKED, "silent_origin.events"))
+    wanted = {"5.04 Gateway Timeout of 127.0.0.1:5690": {"127.0.0.1:40001": 1}}
+    expect("who isn't answered", wanted, {name: dict(it.clients) for name, it in silent.troubles.items()})
+    expect("when it was heard", None, silent.origins["127.0.0.1:5690"].heard)
+    expect("when the valve was", 95_040, counts_of_file(program, SLEEPING).origins["192.0.2.50:5683"].heard)
+    text = summary(incident, limits(), None, {"127.0.0.1:40001": "display"}, "")
+    expect("whether the page says it", True, ">overloaded 5.03 exchanges 2/2<" in text and ">display (1)<" in text)
+    some = Counter({f"c{number}": number for number in range(1, 6)})
+    expect("of many clients", "c5 (5), c4 (4), c3 (3) and 2 more", clients_text(some, str))
+
+
 @case("NotCounted")
 def the_tables_of_a_summary_are_those_that_are_held(stage):
     origin, path = stage.peer(), os.path.join(stage.folder, "run.events")
@@ -357,10 +374,11 @@ ENDS = (
     a_valve_that_sleeps_has_each_sort, a_joined_request_belongs_to_the_exchange, a_silent_origin_is_named,
     duplicates_repeat_the_first, who_is_turned_away_is_told_why, a_capture_is_drawn_as_its_replay,
     a_capture_that_begins_late_is_doubted, what_belongs_to_the_chosen_is_there, a_picture_holds_odd_bytes_as_text,
-    a_page_holds_odd_bytes_as_data, a_summary_counts_each_answer_once, the_colours_are_told_apart,
-    the_pictures_are_up_to_date,
+    a_page_holds_odd_bytes_as_data, a_summary_counts_each_answer_once, a_summary_says_what_went_wrong_and_for_whom,
+    the_colours_are_told_apart, the_pictures_are_up_to_date,
 )
 WRONG = (
     ("DigitChanged", the_pictures_are_up_to_date), ("CommentLost", who_is_turned_away_is_told_why),
+    ("CommentLost", a_summary_says_what_went_wrong_and_for_whom),
     ("DigitChanged", a_capture_is_drawn_as_its_replay),
 )

@@ -35,6 +35,7 @@ coap_proxyd_origin_requests_total{origin="[fd00:0:0:0:0:0:0:1]:5683"} 50
 coap_proxyd_origin_given_up_total{origin="[fd00:0:0:0:0:0:0:1]:5683"} 7
 coap_proxyd_origin_answer_seconds_sum{origin="192.0.2.1:5683"} 5
 coap_proxyd_origin_answer_seconds_count{origin="192.0.2.1:5683"} 50
+coap_proxyd_origin_seconds_since_answer{origin="192.0.2.1:5683"} 93784
 coap_proxyd_origin_answer_seconds_bucket{origin="192.0.2.1:5683",le="+Inf"} 50
 coap_proxyd_held{what="exchanges"} 250
 coap_proxyd_limit{what="exchanges"} 256
@@ -64,6 +65,8 @@ def the_worst_comes_first(program):
     expect("a rate", True, " 20.0/s" in text[place("hit  ")])
     expect("the map that turns away", "2.0", text[place('/b"a')].split()[-1])
     expect("a mean", True, "100 ms" in text[place("192.0.2.1:5683")])
+    expect("how long it is silent", True, text[place("192.0.2.1:5683")].endswith(" 1 d 2 h"))
+    expect("how long at most", 11, max(len(screen.coarse_text(it)) for it in (0, 59, 3599, 86_399, 999 * 86_400 - 1)))
     expect("a full table", ["bad"], [style for line, style in lines if line.startswith("exchanges")])
     again = [line for line, _ in screen.frame(Metrics(SERIES % (5, 10, 0, 0), 20), now, 80, at=21)]
     expect("a rate after a new start", True, any(" 2.0/s" in line for line in again))
