@@ -2,11 +2,12 @@
 events or a capture."""
 
 import contextlib
+import functools
 import itertools
 import os
 import shutil
 import tempfile
-from collections import defaultdict, deque, namedtuple
+from collections import Counter, defaultdict, deque, namedtuple
 
 from checking.configuration import SHARED, member
 from checking.toml_lines import read_toml
@@ -70,9 +71,10 @@ class EventRun:
         """Its lines. What was recorded may lack the end of its last one."""
         return lines_of(self.path, whole=self.head.recorded)
 
-    def count(self):
-        """How many events it has but ticks, quickly."""
-        return sum(1 for line in self.lines() if not line.startswith("#") and "tick" not in line)
+    def is_longer(self, most):
+        """Whether it has more datagrams that came than this, quickly."""
+        came = (line for line in self.lines() if not line.startswith("#") and "tick" not in line)
+        return any(number == most for number, _ in enumerate(came))
 
     def seen(self):
         """What was seen, in order."""
@@ -84,13 +86,11 @@ class EventRun:
 
 
 class CaptureRun:
-    """A run of which a capture was taken."""
+    """A run of which a capture was taken. It is replayed once something of it is asked for."""
 
     def __init__(self, path, program, words, at=None):
-        with open(path, "rb") as file:
-            found = list(datagrams(file))
-        self.run = captured(found, at, program, words)
-        self.proxy, self.since, self.names, self.title, self.fault = self.run.proxy, self.run.start, {}, "", ""
+        self.path, self.program, self.at = path, program, at
+        self.names, self.title, self.fault = {}, "", ""
         self.words, self.head = words, Head(words, [], None, {}, "", False)
 
     def __enter__(self):
@@ -103,9 +103,32 @@ class CaptureRun:
         """The limits of its tables."""
         return limits_of(self.words)
 
-    def count(self):
-        """How many datagrams came."""
-        return sum(1 for it in self.run.found if it.to in self.proxy)
+    @functools.cached_property
+    def run(self):
+        """What it shows."""
+        with open(self.path, "rb") as file:
+            return captured(list(datagrams(file)), self.at, self.program, self.words)
+
+    @property
+    def proxy(self):
+        """The proxy's endpoints."""
+        return self.run.proxy
+
+    @property
+    def since(self):
+        """The moment of its first datagram."""
+        return self.run.start
+
+    def is_longer(self, most):
+        """Whether more datagrams than this came from or went to an endpoint of the proxy, or, where none is given, to
+        any one. It is told without a replay, for which all of the capture would be held."""
+        counts = Counter()
+        with open(self.path, "rb") as file:
+            for endpoint in (it for each in datagrams(file) for it in (each.source, each.to)):
+                counts[endpoint] += 1
+                if counts[endpoint] > most and (not self.at or endpoint in self.at):
+                    return True
+        return False
 
     def seen(self):
         """What was seen, in order: the datagrams of the capture, with what the replay says of them."""

@@ -10,6 +10,7 @@ from drawing import words
 from drawing.lines import fit
 from reading import messages, replays, runs
 from reading.choosing import Choice, chosen_rows
+from testing.captures import PROXY, capture, packet
 from testing.coap import BLOCK2, CON, ETAG, GET, MAX_AGE, URI_PATH, URI_QUERY, message
 from testing.drawn import LADDER, MAP, ODD, limits, rows_of, written
 from testing.network import expect
@@ -130,6 +131,20 @@ def limits_are_those_of_the_configuration(program):
         expect("those by default", (256, 1024), tuple(limits()[name] for name in ("exchanges", "waiters")))
 
 
+# What is said of a run that is too long to be drawn.
+TOO_MANY = (
+    b"ladder: these are more than 200,000 datagrams: choose some by --from, --to, --client, --origin or --target, or "
+    b"count them by --summary\n"
+)
+
+
+def drawn(program, *words):
+    """The status of tools/ladder for these words, what it writes, and what it says."""
+    pipe = subprocess.PIPE
+    done = subprocess.run([sys.executable, LADDER, "--program", program, *words], stdout=pipe, stderr=pipe, timeout=50)
+    return done.returncode, done.stdout, done.stderr
+
+
 def too_many_are_refused_with_a_hint(program):
     with tempfile.TemporaryDirectory(prefix="coap-proxyd-test-") as folder:
         path = os.path.join(folder, "run.events")
@@ -137,22 +152,25 @@ def too_many_are_refused_with_a_hint(program):
             file.write(f"# words: --replay {' '.join(MAP)}\n")
             for number in range(2_000_000):
                 file.write(f"{number} 0 127.0.0.1:{1024 + number % 60_000} 5001{number % 65_536:04X}B174\n")
-        done = subprocess.run(
-            [sys.executable, LADDER, "--program", program[0], path], stdout=subprocess.PIPE, stderr=subprocess.PIPE, timeout=50
-        )
-        expect("the status and the output", (2, b""), (done.returncode, done.stdout))
-        expect(
-            "the hint",
-            b"ladder: these are more than 200,000 datagrams: choose some by --from, --to, --client, --origin or "
-            b"--target, or count them by --summary\n",
-            done.stderr,
-        )
+        expect("what comes of it", (2, b"", TOO_MANY), drawn(program[0], path))
         choice = Choice(first=1_000, last=1_999)
         expect("how many are chosen", 1_000, sum(row.inward for row in rows_of(program, path, choice=choice)[0]))
+
+
+def a_long_capture_is_refused_before_it_is_replayed(program):
+    sent = packet(0, "127.0.0.1:40001", PROXY, bytes.fromhex("50010007B174"))
+    with tempfile.TemporaryDirectory(prefix="coap-proxyd-test-") as folder:
+        path = os.path.join(folder, "run.pcap")
+        with open(path, "wb") as file:
+            file.write(capture(b"") + sent * 200_001)
+        expect("what comes of it", (2, b"", TOO_MANY), drawn("/bin/false", path, *MAP))
+        expect("at that endpoint", (2, b"", TOO_MANY), drawn("/bin/false", "--at", PROXY, path, *MAP))
+        status, _, said = drawn("/bin/false", "--at", "127.0.0.1:5690", path, *MAP)
+        expect("at another", (2, b"ladder: no datagrams of 127.0.0.1:5690\n"), (status, said))
 
 
 CASES = (
     heads_old_and_new_are_read, a_head_names_no_file_to_the_program, what_is_said_is_read_old_and_new,
     options_are_told_in_their_forms, odd_bytes_are_shown, limits_are_those_of_the_configuration,
-    too_many_are_refused_with_a_hint,
+    too_many_are_refused_with_a_hint, a_long_capture_is_refused_before_it_is_replayed,
 )
