@@ -9,7 +9,7 @@ from testing.coap import (
     ACK, BLOCK2, CON, CONTENT, DELETE, EMPTY, ETAG, GET, MAX_AGE, NON, NOT_FOUND, POST, PROXY_SCHEME, PROXY_URI, PUT, RST,
     URI_HOST, URI_PATH, URI_QUERY, VALID, message, number_bytes,
 )
-from testing.network import expect
+from testing.network import FAULT, RESULT, expect
 
 T, MAP = (URI_PATH, b"t"), ("--map", "/t=coap://127.0.0.1:5690/temp")
 HERE, THERE = "coap://127.0.0.1:5690/temp", "127.0.0.1:5690"
@@ -43,7 +43,7 @@ def explained(program, events, config, words):
             [*program, "--replay", "--explain", *words, "--config", file.name],
             input="\n".join(lines).encode() + b"\n", stdout=subprocess.PIPE, stderr=subprocess.PIPE, timeout=50,
         )
-    expect("the status and standard error", (0, b""), (done.returncode, done.stderr))
+    expect("the status and standard error", (0, b""), (done.returncode, done.stderr), *FAULT)
     return [line for line in done.stdout.decode().splitlines() if line.startswith("#")]
 
 
@@ -81,7 +81,7 @@ def the_first_answer(program):
     with open(os.path.join(folder, "first-run.events"), "rb") as events:
         done = subprocess.run([*program, "--replay", "--explain", *MAP], stdin=events, capture_output=True, timeout=50)
     with open(os.path.join(folder, "first-run.explained"), "rb") as stored:
-        expect("what is written", (0, stored.read(), b""), (done.returncode, done.stdout, done.stderr))
+        expect("what is written", (0, stored.read(), b""), (done.returncode, done.stdout, done.stderr), *RESULT)
 
 
 def a_configuration_that_is_read_once(program):
@@ -101,7 +101,7 @@ def a_configuration_that_is_read_once(program):
                 process.kill()
                 output, errors = process.communicate()
         said = f"# 1 0 {client(1)} NON GET {HERE} opened\n".encode()
-        expect("what is written", (0, said, b""), (process.returncode, output, errors))
+        expect("what is written", (0, said, b""), (process.returncode, output, errors), *RESULT)
 
 
 def refusals(program):

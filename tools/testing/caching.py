@@ -6,7 +6,7 @@ from testing.coap import (
     ACCEPT, CHANGED, CONTENT, CREATED, DELETE, DELETED, ETAG, GET, LOCATION_PATH, MAX_AGE, NON, NOT_FOUND, POST, PUT,
     SIZE1, URI_QUERY, VALID,
 )
-from testing.network import Life, case_list, expect, expect_between
+from testing.network import Life, case_list, expect, expect_between, expect_message
 from testing.steps import T, TEMP, change, expect_hit, fetch, max_age, path
 
 CASES, case = case_list()
@@ -117,7 +117,7 @@ def a_second_proxy_behind_a_map_keeps_the_age(stage):
     time.sleep(2.2)
     request = other.request(GET, path("o", "x"), kind=NON)
     reply = other.receive("the response")
-    expect("the response", (CONTENT, request.message.token, b"21"), (reply.message.code, *reply.message[3:6:2]))
+    expect_message("the response", reply, code=CONTENT, token=request.message.token, payload=b"21")
     expect("its options", [MAX_AGE], [number for number, _ in reply.message.options])
     # The inner one has 57 left, and the outer one rounds up once more.
     aged = reply.at - answer.at

@@ -10,7 +10,7 @@ from testing import memory, programs, worked
 from testing.coap import (
     CON, CONTENT, EMPTY, ETAG, GET, NON, PROXY_URI, RST, UNAVAILABLE, URI_PATH, URI_QUERY, message,
 )
-from testing.network import Skipped, expect, expect_between
+from testing.network import RESULT, Skipped, expect, expect_between
 from testing.ranges import CLIENT, KEPT, ORIGIN, Script, endpoint
 from testing.steps import TEMP, max_age, path
 
@@ -128,7 +128,7 @@ def the_greatest_limits_take_little_address_space(program):
         words, pipe = [*program, "--replay", "--config", config], subprocess.PIPE
         usual = {"input": b"", "stdout": pipe, "stderr": pipe, "timeout": 20}
         done = subprocess.run(words, preexec_fn=limited, **usual)
-    expect("status and texts", (0, b"", b""), (done.returncode, done.stdout, done.stderr))
+    expect("status and texts", (0, b"", b""), (done.returncode, done.stdout, done.stderr), *RESULT)
 
 
 # Time of the processor

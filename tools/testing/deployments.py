@@ -15,7 +15,7 @@ import urllib.request
 
 from platforms import elf
 from testing import programs
-from testing.network import Broken, Skipped, case_list, expect, free_port
+from testing.network import FAULT, Broken, Skipped, case_list, expect, free_port
 
 CASES, case = case_list()
 TOOLS = os.path.dirname(os.path.dirname(os.path.abspath(__file__)))
@@ -34,10 +34,10 @@ def run_tool(*words):
 @case("ResetOfAnotherId")
 def a_ping_says_whether_the_proxy_is_there(stage):
     host, port = stage.proxy()
-    expect("a ping of the proxy", (0, ""), run_tool("ping", host, "--port", str(port)))
+    expect("a ping of the proxy", (0, ""), run_tool("ping", host, "--port", str(port)), *FAULT)
     away = free_port()
     said = f"ping: no answer from {host}, port {away}\n"
-    expect("a ping of nobody", (1, said), run_tool("ping", host, "--port", str(away)))
+    expect("a ping of nobody", (1, said), run_tool("ping", host, "--port", str(away)), *FAULT)
 
 
 def status_of(url):
@@ -115,10 +115,10 @@ def check_images(program):
         layouts = [os.path.join(folder, name) for name in ("one", "two")]
         if not programs.is_static(path):
             said = f"tools/image: {path} takes a C library, which an image without one doesn't have\n"
-            expect("what is said of a dynamic program", (1, said), run_tool("image", layouts[0], path))
+            expect("what is said of a dynamic program", (1, said), run_tool("image", layouts[0], path), *FAULT)
             return
         for layout in layouts:
-            expect("what is said", (0, ""), run_tool("image", layout, path))
+            expect("what is said", (0, ""), run_tool("image", layout, path), *FAULT)
         check_image(layouts[0], path)
         expect("whether both are the same", True, all_files(layouts[0]) == all_files(layouts[1]))
 

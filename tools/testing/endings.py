@@ -3,7 +3,7 @@
 import subprocess
 import tempfile
 
-from testing.network import expect
+from testing.network import RESULT, expect
 
 CASES = []
 FILE, SOCKET = b"coap-proxyd: file\n", b"coap-proxyd: socket\n"
@@ -21,7 +21,8 @@ def expect_end(program, words, status, errors, **streams):
     pipe = subprocess.PIPE
     usual = {"stdin": subprocess.DEVNULL, "stdout": pipe, "stderr": pipe}
     done = subprocess.run([*program, *words], timeout=20, **{**usual, **streams})
-    expect("status and texts", (status, b"", errors), (done.returncode, done.stdout or b"", done.stderr or b""))
+    came = done.returncode, done.stdout or b"", done.stderr or b""
+    expect("what comes of it", (status, b"", errors), came, *RESULT)
 
 
 @case

@@ -7,7 +7,7 @@ import sys
 import threading
 
 from testing.coap import ACK, CONTENT, EMPTY, GET, MAX_AGE, URI_PATH, message, read
-from testing.network import Broken, case_list, expect, udp
+from testing.network import FAULT, Broken, case_list, expect, expect_message, udp
 
 CASES, case = case_list()
 SCRIPT = os.path.join(os.path.dirname(os.path.dirname(os.path.abspath(__file__))), "fleet")
@@ -53,7 +53,7 @@ def write_fleet(stage, sensors, port):
     folder = os.path.join(stage.folder, "fleet")
     words = [sys.executable, SCRIPT, names, folder, "--address", stage.host, "--port", str(port)]
     done = subprocess.run(words, stdout=subprocess.PIPE, stderr=subprocess.PIPE, timeout=50)
-    expect("the status of fleet", (0, b""), (done.returncode, done.stderr))
+    expect("the status of fleet", (0, b""), (done.returncode, done.stderr), *FAULT)
     return folder
 
 
@@ -81,13 +81,12 @@ def ask_all(stage, front, folder):
     for name, path in paths.items():
         options = [(URI_PATH, part.encode()) for part in path.split("/")[1:]]
         request = client.request(GET, options)
-        came = client.receive(f"an answer of {name}").message
-        if came.code == EMPTY:
-            separate = client.receive(f"a separate answer of {name}")
-            client.acknowledge(separate)
-            came = separate.message
-        expect(f"the answer of {name}", (CONTENT, request.message.token), (came.code, came.token))
-        answered += came.payload == name.encode()
+        came = client.receive(f"an answer of {name}")
+        if came.message.code == EMPTY:
+            came = client.receive(f"a separate answer of {name}")
+            client.acknowledge(came)
+        expect_message(f"the answer of {name}", came, code=CONTENT, token=request.message.token)
+        answered += came.message.payload == name.encode()
     return answered
 
 

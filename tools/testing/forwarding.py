@@ -9,7 +9,7 @@ from testing.coap import (
     GET, NON, NOT_ALLOWED, NOT_FOUND, NOT_SUPPORTED, OBSERVE, OSCORE, POST, PROXY_SCHEME, PROXY_URI, RST, URI_HOST, URI_PATH,
     URI_PORT, URI_QUERY, message, number_bytes,
 )
-from testing.network import Life, Skipped, case_list, expect, expect_between, has_ipv6
+from testing.network import RESULT, Life, Skipped, case_list, expect, expect_between, has_ipv6
 from testing.steps import T, TEMP, expect_hit, fetch, max_age, path
 
 CASES, case = case_list()
@@ -245,7 +245,7 @@ def a_port_that_is_taken_ends_it(stage):
     words = [*stage.program, "-A", stage.host, "-p", str(taken.port)]
     process = stage.start(words, subprocess.PIPE)
     output, errors = process.communicate(timeout=20)
-    expect("status and texts", (1, b"", b"coap-proxyd: socket\n"), (process.returncode, output, errors))
+    expect("status and texts", (1, b"", b"coap-proxyd: socket\n"), (process.returncode, output, errors), *RESULT)
 
 
 @case("StatusIsZero")

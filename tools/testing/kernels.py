@@ -6,7 +6,7 @@ import struct
 import subprocess
 
 from testing import programs
-from testing.network import Skipped, expect
+from testing.network import RESULT, Skipped, expect
 
 NO_NEW_PRIVILEGES, SET_FILTER, FILTER = 38, 22, 2
 LOAD, JUMP_IF_EQUAL, RETURN = 0x20, 0x15, 0x06
@@ -50,4 +50,4 @@ def runs_without_random_bytes(program):
     wanted = subprocess.run(words, **what)
     expect("how many datagrams are sent", 2, wanted.stdout.count(b"\n"))
     done = subprocess.run(words, **what, preexec_fn=refuse)
-    expect("status and texts", (0, wanted.stdout, b""), (done.returncode, done.stdout, done.stderr))
+    expect("status and texts", (0, wanted.stdout, b""), (done.returncode, done.stdout, done.stderr), *RESULT)

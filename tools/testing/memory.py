@@ -13,7 +13,7 @@ import time
 from testing import programs, worked
 from testing.coap import ACK, CON, CONTENT, DELETED, EMPTY, GET, NON, message, read
 from testing.network import (
-    PATIENCE, Came, Failed, Life, case_list, check_response, expect, expect_between,
+    PATIENCE, RESULT, Came, Failed, Life, case_list, check_response, expect, expect_between, expect_message,
 )
 from testing.steps import path
 
@@ -107,7 +107,7 @@ def check_line(program, run, came):
     tick, it must be about to send a client its answer in a Confirmable message."""
     number = int(came[2].split(b":")[0].split(b" ")[1])
     before, after = (worked.play(program, cut(run, count))[1] for count in (number - 1, number))
-    expect("what stands", (1, before, b"line %d: out of memory\n" % number), came)
+    expect("what stands", (1, before, b"line %d: out of memory\n" % number), came, *RESULT)
     if run.events.splitlines()[number - 1].endswith(b" tick"):
         _, to, data = after[len(before) :].split() or (b"", ORIGIN, b"")
         expect("whether this tick takes memory", (True, b"4"), (to != ORIGIN, data[:1]))
@@ -116,7 +116,7 @@ def check_line(program, run, came):
 def check_refused(program, run, came):
     """Has a replay that was refused memory once end as it must."""
     if came[2] == START:
-        expect("what stands", (1, b"", START), came)
+        expect("what stands", (1, b"", START), came, *RESULT)
     elif came[2]:
         check_line(program, run, came)
     else:
@@ -187,8 +187,7 @@ class Sequence:
             asked = self.origin.receive("a request")
         else:
             asked = self.effect(send, self.origin, "a request")
-        it = asked.message
-        expect("the request", (CON, GET, path("temp", name), b""), (it.kind, it.code, it.options, it.payload))
+        expect_message("the request", asked, kind=CON, code=GET, options=path("temp", name), payload=b"")
         return request, asked
 
     def fetch(self, name, kind):

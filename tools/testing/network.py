@@ -13,7 +13,8 @@ import tempfile
 import time
 from collections import namedtuple
 
-from testing.coap import ACK, CON, EMPTY, MAX_AGE, NON, message, number, number_bytes, read, told
+from testing.coap import ACK, CON, EMPTY, MAX_AGE, NON, message, number, number_bytes, read
+from testing.telling import datagram_text, parts_text
 
 # How long a datagram that must come may take, and how long it is watched that none comes, in seconds. The machine may
 # be loaded.
@@ -30,6 +31,10 @@ Life = namedtuple("Life", "max_age sent seen proxies", defaults=(None, 1))
 
 # What must hold: a name, a function that tries it on a stage, and the stand-ins that it must find wrong.
 Case = namedtuple("Case", "name function stand_ins")
+
+# What is told of a program that has ended, and of one whose output isn't looked at.
+RESULT = ("the status", "standard output", "standard error")
+FAULT = RESULT[::2]
 
 
 class Failed(Exception):
@@ -59,10 +64,19 @@ def case_list():
     return cases, case
 
 
-def expect(what, wanted, came):
-    """Fails where something isn't as wanted."""
-    if wanted != came:
-        raise Failed(f"{what}: expected {wanted!r}, got {came!r}")
+def expect(what, wanted, came, *labels):
+    """Fails where something isn't as wanted. If its parts have labels, those are told that differ."""
+    if wanted == came:
+        return
+    parts = zip((f"{label}: " for label in labels), wanted, came) if labels else [("", wanted, came)]
+    told = (f"{label}expected {one!r}, got {other!r}" for label, one, other in parts if one != other)
+    raise Failed(f"{what}: {'; '.join(told)}")
+
+
+def expect_message(what, came, **parts):
+    """Fails where a message has other parts than these, which have the names of its fields."""
+    if any(getattr(came.message, name) != value for name, value in parts.items()):
+        raise Failed(f"{what}: expected {parts_text(parts)}; got {datagram_text(came.data)}")
 
 
 def expect_between(what, least, most, came):
@@ -132,20 +146,20 @@ class Peer:
         try:
             return Came(read(came[0]), *came)
         except ValueError:
-            raise Failed(f"expected {what}, got {told(came[0])}") from None
+            raise Failed(f"expected {what}, got {datagram_text(came[0])}") from None
 
     def expect_bytes(self, what, data):
         """Has the next datagram be these very bytes."""
         came = self.receive(what)
         if came.data != data:
-            raise Failed(f"{what}: expected {told(data)}, got {told(came.data)}")
+            raise Failed(f"{what}: expected {datagram_text(data)}; got {datagram_text(came.data)}")
         return came
 
     def expect_silence(self, what, seconds=SILENCE):
         """Has no datagram come for a while."""
         came = self.poll(seconds)
         if came is not None:
-            raise Failed(f"{what}: expected nothing, got {told(came[0])}")
+            raise Failed(f"{what}: expected nothing, got {datagram_text(came[0])}")
 
     # As a client.
 
@@ -166,7 +180,7 @@ class Peer:
         came = self.receive("a response")
         check_response(came, kind, request, code, options, payload, life)
         if kind == ACK:
-            expect("Message ID", request.message.message_id, came.message.message_id)
+            expect_message("the response", came, message_id=request.message.message_id)
         return came
 
     def expect_separate(self, request, code, options=(), payload=b"", life=None):
@@ -188,10 +202,8 @@ class Peer:
     def expect_request(self, code, options=(), payload=b""):
         """Has the next datagram be a request of the proxy."""
         came = self.receive("a request")
-        it = came.message
-        expect("the request", (CON, code, 8), (it.kind, it.code, len(it.token)))
-        expect("its options", sorted(options, key=lambda it: it[0]), it.options)
-        expect("its payload", payload, it.payload)
+        expect_message("a request", came, kind=CON, code=code, options=in_order(options), payload=payload)
+        expect("how long the token of a request is", 8, len(came.message.token))
         return came
 
     def answer(self, request, code, options=(), payload=b"", kind=ACK):
@@ -205,13 +217,19 @@ class Peer:
         self.send(message(kind, EMPTY, request.message.message_id), request.source)
 
 
+def in_order(options):
+    """Options by their numbers. Those of one number stay in their order."""
+    return sorted(options, key=lambda it: it[0])
+
+
 def check_response(came, kind, request, code, options, payload, life):
     """Fails where a message isn't this response to a request."""
-    it = came.message
-    expect("the response", (kind, code, request.message.token), (it.kind, it.code, it.token))
-    others = it.options if life is None else [one for one in it.options if one[0] != MAX_AGE]
-    expect("its options", sorted(options, key=lambda it: it[0]), others)
-    expect("its payload", payload, it.payload)
+    wanted = in_order(options)
+    if life is not None:
+        # Its Max-Age is looked at by itself.
+        wanted = in_order(wanted + [it for it in came.message.options if it[0] == MAX_AGE])
+    parts = {"kind": kind, "code": code, "token": request.message.token, "options": wanted, "payload": payload}
+    expect_message("the response", came, **parts)
     if life is not None:
         expect_age(life, request.at, came)
 

@@ -7,7 +7,9 @@ from testing.coap import (
     IF_NONE_MATCH, NON, NOT_ALLOWED, NOT_FOUND, NOT_SUPPORTED, POST, PROXY_SCHEME, PROXY_URI, PUT, SIZE1, UNAVAILABLE,
     URI_HOST, URI_PORT, URI_QUERY, VALID, message, number_bytes,
 )
-from testing.network import Broken, Life, Skipped, case_list, expect, expect_between, free_port, has_ipv6
+from testing.network import (
+    Broken, Life, Skipped, case_list, expect, expect_between, expect_message, free_port, has_ipv6,
+)
 from testing.steps import T, TEMP, change, expect_hit, fetch, max_age, path
 
 CASES, case = case_list()
@@ -274,7 +276,7 @@ def a_get_that_goes_in_a_circle_is_given_up(stage):
     request = client.request(GET, URI, kind=NON)
     # Either of the two may be the first to give up; the other then passes its 5.04 on.
     came = client.receive("a response")
-    expect("the response", (GATEWAY_TIMEOUT, request.message.token), (came.message.code, came.message.token))
+    expect_message("the response", came, code=GATEWAY_TIMEOUT, token=request.message.token)
     expect_between("seconds until 5.04", 0.99, 4.0, came.at - request.at)
 
 

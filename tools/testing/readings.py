@@ -13,7 +13,7 @@ from reading.choosing import Choice, chosen_rows
 from testing.captures import PROXY, capture, packet
 from testing.coap import BLOCK2, CON, ETAG, GET, MAX_AGE, URI_PATH, URI_QUERY, message
 from testing.drawn import LADDER, MAP, ODD, limits, rows_of, written
-from testing.network import expect
+from testing.network import RESULT, expect
 # The front of a recording.
 HEAD = "# coap-proxyd 0.2.0 --replay"
 
@@ -152,7 +152,7 @@ def too_many_are_refused_with_a_hint(program):
             file.write(f"# words: --replay {' '.join(MAP)}\n")
             for number in range(2_000_000):
                 file.write(f"{number} 0 127.0.0.1:{1024 + number % 60_000} 5001{number % 65_536:04X}B174\n")
-        expect("what comes of it", (2, b"", TOO_MANY), drawn(program[0], path))
+        expect("what comes of it", (2, b"", TOO_MANY), drawn(program[0], path), *RESULT)
         choice = Choice(first=1_000, last=1_999)
         expect("how many are chosen", 1_000, sum(row.inward for row in rows_of(program, path, choice=choice)[0]))
 
@@ -162,11 +162,12 @@ def a_long_capture_is_refused_before_it_is_replayed(program):
     with tempfile.TemporaryDirectory(prefix="coap-proxyd-test-") as folder:
         path = os.path.join(folder, "run.pcap")
         with open(path, "wb") as file:
-            file.write(capture(b"") + sent * 200_001)
-        expect("what comes of it", (2, b"", TOO_MANY), drawn("/bin/false", path, *MAP))
-        expect("at that endpoint", (2, b"", TOO_MANY), drawn("/bin/false", "--at", PROXY, path, *MAP))
-        status, _, said = drawn("/bin/false", "--at", "127.0.0.1:5690", path, *MAP)
-        expect("at another", (2, b"ladder: no datagrams of 127.0.0.1:5690\n"), (status, said))
+            file.write(capture(b"") + sent * 3_001)
+        wanted = 2, b"", TOO_MANY.replace(b"200,000", b"3,000")
+        expect("what comes of it", wanted, drawn("/bin/false", "--svg", path, *MAP), *RESULT)
+        expect("at that endpoint", wanted, drawn("/bin/false", "--svg", "--at", PROXY, path, *MAP), *RESULT)
+        wanted = 2, b"", b"ladder: no datagrams of 127.0.0.1:5690\n"
+        expect("at another", wanted, drawn("/bin/false", "--svg", "--at", "127.0.0.1:5690", path, *MAP), *RESULT)
 
 
 CASES = (

@@ -9,7 +9,7 @@ import tempfile
 import time
 
 from testing.coap import CON, CONTENT, GET, NON, NOT_SUPPORTED, PROXY_URI, message
-from testing.network import PATIENCE, Life, case_list, expect, free_port
+from testing.network import FAULT, PATIENCE, Life, case_list, expect, free_port
 from testing.statistics import await_metric
 from testing.steps import T, TEMP, expect_hit, max_age
 
@@ -109,11 +109,11 @@ def run_a_turn(program, path, *more):
 def a_file_that_is_there_stays_as_it_is(program):
     with tempfile.TemporaryDirectory(prefix="coap-proxyd-test-") as folder:
         path = os.path.join(folder, "run.events")
-        expect("the first run", (0, b""), run_a_turn(program, path))
+        expect("the first run", (0, b""), run_a_turn(program, path), *FAULT)
         with open(path, "rb") as file:
             text = file.read()
         expect("how many turns it has", 1, len([line for line in text.splitlines() if not line.startswith(b"#")]))
-        expect("the second run", (1, b"coap-proxyd: file\n"), run_a_turn(program, path))
+        expect("the second run", (1, b"coap-proxyd: file\n"), run_a_turn(program, path), *FAULT)
         with open(path, "rb") as file:
             expect("the file", text, file.read())
 
@@ -125,7 +125,7 @@ def a_line_that_is_too_long_for_a_recording_is_a_fault(program):
         for count, end, files in ((16_375, (1, b"coap-proxyd: file\n"), 1), (16_374, (0, b""), 2)):
             with open(config, "w", encoding="ascii") as file:
                 file.write("version = 1\n" + "#" * count)
-            expect(f"a run with {count} bytes in a line", end, run_a_turn(program, path, "--config", config))
+            expect(f"a run with {count} bytes in a line", end, run_a_turn(program, path, "--config", config), *FAULT)
             expect("how many files there are", files, len(os.listdir(folder)))
 
 
@@ -141,7 +141,7 @@ def a_full_disk_ends_the_recording_alone(program):
         # What is too long for a file is refused then, and ends nothing.
         pipe, more = subprocess.PIPE, {"preexec_fn": limited, "restore_signals": False}
         done = subprocess.run(words, stdout=pipe, stderr=pipe, timeout=20, **more)
-        expect("the run", (0, b"coap-proxyd: the recording has ended\n"), (done.returncode, done.stderr))
+        expect("the run", (0, b"coap-proxyd: the recording has ended\n"), (done.returncode, done.stderr), *FAULT)
         with open(path, "rb") as file:
             lines = file.read().split(b"\n")
         expect("whether it ends with a whole line", (b"", True), (lines[-1], len(lines) > 2))
@@ -154,7 +154,7 @@ def a_recording_ends_before_it_is_too_long(program):
             words = [*program, "-A", "127.0.0.1", "-p", str(free_port()), "--turns", "7", "--record", path]
             words += ["--record-bytes", str(most)]
             done = subprocess.run(words, stdout=subprocess.PIPE, stderr=subprocess.PIPE, timeout=20)
-            expect("the run", (0, end), (done.returncode, done.stderr))
+            expect("the run", (0, end), (done.returncode, done.stderr), *FAULT)
             with open(path, "rb") as file:
                 text = file.read()
             expect("whether it is short enough", True, len(text) <= most and text.endswith(b"\n"))
@@ -167,7 +167,7 @@ def a_recording_ends_before_it_is_too_long(program):
 def a_size_is_that_of_a_recording(program):
     for words in (["--record-bytes", "1000"], ["--replay", "--record-bytes", "1000"]):
         done = subprocess.run([*program, *words], stdin=subprocess.DEVNULL, stderr=subprocess.PIPE, timeout=20)
-        expect("the run", (2, b"coap-proxyd: arguments\n"), (done.returncode, done.stderr))
+        expect("the run", (2, b"coap-proxyd: arguments\n"), (done.returncode, done.stderr), *FAULT)
 
 
 def a_recording_in_a_folder_is_named_by_its_moment(program):
@@ -179,7 +179,7 @@ def a_recording_in_a_folder_is_named_by_its_moment(program):
             expect("the name", since.replace(":", ".") + ".events", name)
         expect("how many files there are", 2, len(os.listdir(folder)))
         missing = os.path.join(folder, "missing", "")
-        expect("a run without the folder", (1, b"coap-proxyd: file\n"), run_a_turn(program, missing))
+        expect("a run without the folder", (1, b"coap-proxyd: file\n"), run_a_turn(program, missing), *FAULT)
 
 
 def an_account_has_the_time_of_day(program):

@@ -8,7 +8,7 @@ import shutil
 import subprocess
 import tempfile
 
-from testing.network import expect
+from testing.network import FAULT, RESULT, expect
 
 TOP = os.path.dirname(os.path.dirname(os.path.dirname(os.path.abspath(__file__))))
 # A line of the help: an option by its letter, by its name, or both, and perhaps what stands behind it.
@@ -113,13 +113,14 @@ def check_choice(program):
         noted = sum_in(folder)
         put_program(folder, "bin/coap-proxyd-other", program[-1], noted)
         said = f"coap-proxyd: bin/ has no program for this machine, {machine}\n"
-        expect("what is said where bin/ has none", (1, "", said + none), which(folder))
+        expect("what is said where bin/ has none", (1, "", said + none), which(folder), *RESULT)
         path = put_program(folder, f"bin/coap-proxyd-{machine}", "/bin/false", noted)
-        expect("what is said of one that fails", (1, "", f"coap-proxyd: {path} doesn't start here\n" + none), which(folder))
+        said = f"coap-proxyd: {path} doesn't start here\n"
+        expect("what is said of one that fails", (1, "", said + none), which(folder), *RESULT)
         put_program(folder, f"bin/coap-proxyd-{machine}", program[-1], noted)
-        expect("which it is", (0, f"{path}\n", ""), which(folder))
+        expect("which it is", (0, f"{path}\n", ""), which(folder), *RESULT)
         put_program(folder, f"bin/coap-proxyd-{machine}", program[-1], b"1 2\n")
-        expect("what is said of other sources", (1, "", none), which(folder))
+        expect("what is said of other sources", (1, "", none), which(folder), *RESULT)
 
 
 def check_stale(program):
@@ -131,12 +132,13 @@ def check_stale(program):
         run = functools.partial(subprocess.run, stdin=subprocess.DEVNULL, capture_output=True, text=True, timeout=20, env=env)
         script = os.path.join(folder, "coap-proxyd")
         for words in (["--help"], ["-A", "::1", "--help"], ["-p", "5683", "--version"]):
-            wanted = run([*program, *words])
+            wanted = (0, run([*program, *words]).stdout, "")
             done = run([script, *words])
-            expect(f"what comes of {words}", (0, wanted.stdout, ""), (done.returncode, done.stdout, done.stderr))
+            expect(f"what comes of {words}", wanted, (done.returncode, done.stdout, done.stderr), *RESULT)
         done = run([script, "--replay"])
         said = "coap-proxyd: the sources were changed since bin/ was made, and rt isn't in PATH to build them; "
-        expect("what is said", (1, "", f"{said}{path} runs as it is\n"), (done.returncode, done.stdout, done.stderr))
+        wanted = (1, "", f"{said}{path} runs as it is\n")
+        expect("what is said", wanted, (done.returncode, done.stdout, done.stderr), *RESULT)
 
 
 def check_installed(program, prefix):
@@ -152,7 +154,7 @@ def check_installed(program, prefix):
     for name, words in {**tools, "check-config": [config]}.items():
         tool = os.path.join(prefix, "bin", f"coap-proxyd-{name}")
         done = subprocess.run([tool, *words], stdin=subprocess.DEVNULL, capture_output=True, timeout=20)
-        expect(f"what {name} does", (0, b""), (done.returncode, done.stderr))
+        expect(f"what {name} does", (0, b""), (done.returncode, done.stderr), *FAULT)
         expect(f"whether {name} says something", True, len(done.stdout) > 0)
     expect("what the last one says", b"accepted\n", done.stdout)
 
@@ -161,7 +163,7 @@ def check_uninstall(folder, prefix):
     """Has the script leave a configuration that was changed, and no empty folder."""
     with open(os.path.join(prefix, "etc", "coap-proxyd.toml"), "a") as file:
         file.write("# mine\n")
-    expect("what comes of uninstalling", (0, ""), installed(folder, prefix, "--uninstall"))
+    expect("what comes of uninstalling", (0, ""), installed(folder, prefix, "--uninstall"), *FAULT)
     expect("what stays", ["etc", os.path.join("etc", "coap-proxyd.toml")], left_in(prefix))
 
 
@@ -172,12 +174,12 @@ def check_install(program):
         put_program(folder, "crates/proxyd/out/proxyd", program[-1], sum_in(folder))
         put_program(folder, f"bin/coap-proxyd-{os.uname().machine}", program[-1], b"1 2\n")
         prefix = os.path.join(folder, "prefix")
-        expect("what comes of it", (0, ""), installed(folder, prefix))
+        expect("what comes of it", (0, ""), installed(folder, prefix), *FAULT)
         expect("whether it may run", True, os.access(os.path.join(prefix, "sbin", "coap-proxyd"), os.X_OK))
         check_installed(program, prefix)
         check_uninstall(folder, prefix)
         refused = "coap-proxyd: the prefix may have letters, digits and / . _ + - alone\n"
-        expect("what comes of a blank", (2, refused), installed(folder, f"{prefix} of mine"))
+        expect("what comes of a blank", (2, refused), installed(folder, f"{prefix} of mine"), *FAULT)
 
 
 def check_third_parties(_):
@@ -214,6 +216,7 @@ def check_options(program):
             missing = set(filter(None, option[:2])) - completed - {"-h", "-V"}
             expect("which options bash doesn't complete", set(), missing)
             for words in forms(*option):
-                expect(f"what is said of {words}", (1, " nothing is built from these sources yet"), said(folder, words))
+                wanted = (1, " nothing is built from these sources yet")
+                expect(f"what is said of {words}", wanted, said(folder, words), *FAULT)
         for words in (["--colour"], ["-q"], ["--replay", "run.events"]):
-            expect(f"what is said of {words}", (2, " the words aren't understood"), said(folder, words))
+            expect(f"what is said of {words}", (2, " the words aren't understood"), said(folder, words), *FAULT)

@@ -6,7 +6,7 @@ import subprocess
 import tempfile
 import time
 
-from testing.network import expect, expect_between, free_port
+from testing.network import FAULT, expect, expect_between, free_port
 
 TOP = os.path.dirname(os.path.dirname(os.path.dirname(os.path.abspath(__file__))))
 RECORDED = re.compile(r"RECORD=--record (.*-[0-9]{4}-[01][0-9]-[0-3][0-9]T[0-2][0-9]\.[0-5][0-9]\.[0-6][0-9]Z\.events)\n")
@@ -57,7 +57,8 @@ def each_recording_has_a_name(_):
     with tempfile.TemporaryDirectory(prefix="coap-proxyd-test-") as folder:
         names, said = [], os.path.join(folder, "words")
         for _ in range(2):
-            expect("what comes of it", (0, ""), run_script("name-recording", os.path.join(folder, "east"), said))
+            done = run_script("name-recording", os.path.join(folder, "east"), said)
+            expect("what comes of it", (0, ""), done, *FAULT)
             with open(said) as file:
                 names.append(RECORDED.fullmatch(file.read())[1])
             open(names[-1], "x").close()

@@ -7,7 +7,7 @@ import tempfile
 import time
 
 from testing.coap import ACK, BLOCK2, CON, EMPTY, GATEWAY_TIMEOUT, GET, NON, message
-from testing.network import PATIENCE, Failed, case_list, expect, expect_between, free_port
+from testing.network import PATIENCE, Failed, case_list, expect, expect_between, expect_message, free_port
 from testing.steps import T, expect_hit, fetch
 
 CASES, case = case_list()
@@ -144,7 +144,7 @@ def each_number_stands_behind_its_name(stage):
     first.expect_response(requests[0], GATEWAY_TIMEOUT)
     second.expect_separate(requests[1], GATEWAY_TIMEOUT)
     told = third.receive("an answer")
-    expect("the answer", (CON, GATEWAY_TIMEOUT), (told.message.kind, told.message.code))
+    expect_message("the answer", told, kind=CON, code=GATEWAY_TIMEOUT)
     expect("the answer again", told.data, third.receive("the answer again").data)
     third.send(message(ACK, EMPTY, told.message.message_id))
     names = {key: f"coap_proxyd_{name}_total" for key, (name, _) in TRAFFIC.items()}

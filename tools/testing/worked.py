@@ -8,8 +8,11 @@ import tempfile
 from collections import namedtuple
 
 from testing.network import Broken, Failed, expect
+from testing.telling import line_text
 
-Run = namedtuple("Run", "name words config events output")
+TOP = os.path.dirname(os.path.dirname(os.path.dirname(os.path.abspath(__file__))))
+# A run has the name of its file, from the top of the repository, if it is in one.
+Run = namedtuple("Run", "name words config events output file", defaults=("",))
 
 # Lines of worked runs: what an origin is asked, what its client is told, and a tick.
 ASKED, TOLD = b"# > 127.0.0.1:5690 480100010000000000000001B474656D70\n", b"# > 127.0.0.1:40001 50450002D1010AFF3231\n"
@@ -53,12 +56,12 @@ def output_of(lines):
     return text if is_said else None
 
 
-def run_of(name, events):
-    """The worked run of a file's name and bytes."""
+def run_of(name, events, file=""):
+    """The worked run of a name and the bytes of its file."""
     lines = events.split(b"\n")
     words = after(lines, b"# words:")[0].decode().split()
     config = b"".join(line + b"\n" for line in after(lines, b"# config: "))
-    return Run(name, words, config, events, output_of(lines))
+    return Run(name, words, config, events, output_of(lines), file)
 
 
 def changed(runs):
@@ -66,15 +69,16 @@ def changed(runs):
     for change, name, old, new in CHANGES:
         if runs[name].events.count(old) != 1:
             raise Broken(f"{name} can't be changed to {change}")
-        yield f"{name} with {change}", run_of(name, runs[name].events.replace(old, new))
+        yield f"{name} with {change}", run_of(name, runs[name].events.replace(old, new), runs[name].file)
 
 
 def runs(folder):
     """All worked runs of the crate in this folder."""
     data = os.path.join(folder, "data")
     for name in sorted(file[:-7] for file in os.listdir(data) if file.endswith(".events")):
-        with open(os.path.join(data, f"{name}.events"), "rb") as file:
-            yield run_of(name, file.read())
+        path = os.path.join(data, f"{name}.events")
+        with open(path, "rb") as file:
+            yield run_of(name, file.read(), os.path.relpath(path, TOP))
 
 
 def expected(output):
@@ -104,12 +108,30 @@ def play(program, run):
         return done.returncode, done.stdout, done.stderr
 
 
-def first_difference(wanted, came):
-    """The first line in which two texts differ."""
+def said_at(events):
+    """The lines `# > ..` of a run's file by which something is written, with their numbers."""
+    lines = enumerate(events.split(b"\n"), 1)
+    return [(number, line) for number, line in lines if line.startswith(b"# >") and line + b"\n" != NOTHING]
+
+
+def place_of(run, at, is_error):
+    """Where a run's file says what a line of standard output or error must be, or else behind which line of the file it
+    says nothing more."""
+    said = said_at(run.events)
+    datagrams = sum(1 for _ in itertools.takewhile(lambda it: not it[1].startswith(b"# > status "), said))
+    numbers = [number for number, _ in said][datagrams if is_error else 0 :]
+    if not run.file or not numbers:
+        return run.file or run.name
+    return f"{run.file}:{numbers[at]}" if at < len(numbers) else f"{run.file}, behind line {numbers[-1]}"
+
+
+def first_difference(run, stream, wanted, came):
+    """What differs in the first line in which two texts do: where that is, and both, with their datagrams decoded."""
     one, other = wanted.split(b"\n"), came.split(b"\n")
     at = next((n for n, (a, b) in enumerate(zip(one, other)) if a != b), min(len(one), len(other)))
-    lines = [text[at][:300] if at < len(text) else b"the end" for text in (one, other)]
-    return f"line {at + 1}: expected {lines[0]!r}, got {lines[1]!r}"
+    lines = (line_text(text[at]) or "the end" if at < len(text) else "the end" for text in (one, other))
+    place = place_of(run, at, stream == "standard error")
+    return "{}: {}, line {}:\n  expected {}\n  got {}".format(place, stream, at + 1, *lines)
 
 
 def check(run, came):
@@ -121,10 +143,10 @@ def check(run, came):
         # A log has one line more, which says what a fault comes from.
         came = (*came[:2], re.sub(rb"^cause: .*\n", b"", came[2], flags=re.MULTILINE))
     if wanted[0] != came[0]:
-        raise Failed(f"status: expected {wanted[0]}, got {came[0]} ({came[2][:200]!r})")
+        raise Failed(f"{run.file or run.name}: status: expected {wanted[0]}, got {came[0]} ({came[2][:200]!r})")
     for stream, one, other in zip(("standard output", "standard error"), wanted[1:], came[1:]):
         if one != other:
-            raise Failed(f"{stream}, {first_difference(one, other)}")
+            raise Failed(first_difference(run, stream, one, other))
 
 
 def places(events):
@@ -154,7 +176,12 @@ def check_places(program, run):
     # What stands right before a last line that lacks its line feed may belong to that.
     if found and found != came and not run.events.endswith(b"\n"):
         found[-1] = found[-1][0] + 1, found[-1][1]
-    expect("the events at which datagrams are sent", found, came)
+    for at, (wanted, sent) in enumerate(zip(found, came)):
+        if wanted != sent:
+            told = [f"at event {number}: {line_text(line)}" for number, line in (wanted, sent)]
+            place = place_of(run, at, False)
+            raise Failed(f"{place}: it is sent at another event:\n  expected {told[0]}\n  got {told[1]}")
+    expect(f"{run.file}: how many datagrams are sent", len(found), len(came))
 
 
 def check_count(folder):
