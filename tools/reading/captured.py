@@ -99,8 +99,7 @@ def event_lines(found, proxy, start, shown):
         if it.to in proxy:
             yield f"{moment} {DRAW} {it.source} {it.data.hex().upper() or '-'}\n"
         if it.source in proxy:
-            for _ in range(TICKS):
-                yield f"{moment} {shown.get(place, DRAW)} tick\n"
+            yield from itertools.repeat(f"{moment} {shown.get(place, DRAW)} tick\n", TICKS)
             place += 1
 
 
@@ -114,26 +113,53 @@ def without_age(data):
     return it._replace(options=options)
 
 
+class Queues:
+    """Values by keys, which are taken in the order in which they were put there. Nearly all keys have one at a time,
+    and there may be a million, so that only others have a queue."""
+
+    def __init__(self):
+        self.first, self.later = {}, {}
+
+    def put(self, key, value):
+        """Puts a value behind those of a key."""
+        if key in self.first:
+            self.later.setdefault(key, deque()).append(value)
+        else:
+            self.first[key] = value
+
+    def take(self, key):
+        """Takes the first value of a key away, if it has one."""
+        value, others = self.first.pop(key, None), self.later.get(key)
+        if others:
+            self.first[key] = others.popleft()
+            if not others:
+                del self.later[key]
+        return value
+
+    def values(self):
+        """All values that are there."""
+        return itertools.chain(self.first.values(), *self.later.values())
+
+
 class Agreement:
     """Finds the datagrams that a replay sends among those of a capture, each once."""
 
     def __init__(self, sent):
-        self.awaited = defaultdict(deque)
+        self.awaited = Queues()
         for it in sent:
             self.expect(it)
 
     def expect(self, it):
         """The capture has this datagram of the proxy."""
-        self.awaited[it.to, without_age(it.data)].append(it)
+        self.awaited.put((it.to, without_age(it.data)), it)
 
     def find(self, to, data):
         """The datagram of the capture that is one of the replay, or None."""
-        places = self.awaited[to, without_age(data)]
-        return places.popleft() if places else None
+        return self.awaited.take((to, without_age(data)))
 
     def missing(self):
         """What the capture has and the replay hasn't sent, in order."""
-        return sorted((it for places in self.awaited.values() for it in places), key=lambda it: it.at)
+        return sorted(self.awaited.values(), key=lambda it: it.at)
 
 
 def missing_of(said, sent):

@@ -4,8 +4,9 @@ import functools
 import ipaddress
 
 
+@functools.lru_cache(65_536)
 def endpoint(ip, port):
-    """An endpoint of an address in bytes."""
+    """An endpoint of an address in bytes. The datagrams of a capture have a few of them, each a million times."""
     if len(ip) == 4:
         return f"{'.'.join(map(str, ip))}:{port}"
     return "[" + ":".join(f"{int.from_bytes(ip[n : n + 2], 'big'):x}" for n in range(0, 16, 2)) + f"]:{port}"

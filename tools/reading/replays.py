@@ -6,6 +6,7 @@ import re
 import shlex
 import shutil
 import subprocess
+import sys
 import tempfile
 import threading
 from collections import namedtuple
@@ -190,28 +191,30 @@ def comment_of(line):
         return None
     _, number, moment, words = line.rstrip("\n").split(" ", 3)
     time, _, rest = words.partition(" ")
-    return Said(int(number), int(moment), rest if time.endswith("Z") else words, [])
+    words = rest if time.endswith("Z") else words
+    # Of the ticks of a long run most do nothing, or the same as another.
+    return Said(int(number), int(moment), sys.intern(words) if words.startswith("tick ") else words, ())
 
 
 def sent_of(line):
     """The destination and the bytes of a datagram in a replay's output."""
     _, to, data = line.split()
-    return to, b"" if data == "-" else bytes.fromhex(data)
+    return sys.intern(to), b"" if data == "-" else bytes.fromhex(data)
 
 
 def said_of(lines):
     """What the lines of a replay's output say of each event: a comment, and behind it what was sent."""
-    said = None
+    said, sent = None, []
     for line in lines:
         comment = comment_of(line)
         if comment is None:
-            said.sent.append(sent_of(line))
+            sent.append(sent_of(line))
             continue
         if said:
-            yield said
-        said = comment
+            yield said._replace(sent=sent) if sent else said
+        said, sent = comment, []
     if said:
-        yield said
+        yield said._replace(sent=sent)
 
 
 class Replay:

@@ -7,11 +7,11 @@ import itertools
 import os
 import shutil
 import tempfile
-from collections import Counter, defaultdict, deque, namedtuple
+from collections import Counter, namedtuple
 
 from checking.configuration import SHARED, member
 from checking.toml_lines import read_toml
-from reading.captured import TICKS, captured, without_age
+from reading.captured import TICKS, Queues, captured, without_age
 from reading.captures import Bad, datagrams, is_capture
 from reading.replays import Head, Replay, built_program, events_of, head_of, lines_of, outcome_of, replay_words
 
@@ -132,7 +132,7 @@ class CaptureRun:
 
     def seen(self):
         """What was seen, in order: the datagrams of the capture, with what the replay says of them."""
-        self.sent, said, rows, late = defaultdict(deque), iter(self.run.said), [], 0
+        self.sent, said, rows, late = Queues(), iter(self.run.said), [], 0
         for it in self.run.found:
             moment = max(it.at - self.since, rows[-1].moment if rows else 0)
             if it.to in self.proxy:
@@ -142,15 +142,15 @@ class CaptureRun:
                 continue
             for one in itertools.islice(said, TICKS):
                 rows.extend(self.tick(moment, one))
-            known = self.sent[it.to, without_age(it.data)]
-            late = late if known else len(rows) + 1
-            rows.append(Seen(moment, it.to, False, it.data, known.popleft() if known else "not in the replay"))
+            known = self.sent.take((it.to, without_age(it.data)))
+            late = len(rows) + 1 if known is None else late
+            rows.append(Seen(moment, it.to, False, it.data, "not in the replay" if known is None else known))
         return self.with_doubt(rows, late)
 
     def note(self, said, words):
         """Notes what a replay sends, to be found in the capture."""
         for to, data in said.sent:
-            self.sent[to, without_age(data)].append(words)
+            self.sent.put((to, without_age(data)), words)
 
     def tick(self, moment, said):
         """What is seen of a tick without a datagram."""
