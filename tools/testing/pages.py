@@ -170,7 +170,9 @@ def what_went_wrong_is_found_by_a_click(program):
         browser.click("#datagram button.only")
         browser.evaluate("document.getElementById('words').value = '40007', look()")
         browser.click(".kinds button")
-        expect("what went wrong for another client", 2, browser.evaluate("troubles.groups.length"))
+        expect("what went wrong for another client", 1, browser.evaluate("troubles.groups.length"))
+        told = panel(browser, "troubles")
+        expect("how often", True, "no answer 127.0.0.1:40007 × 2" in told and "2 targets · opened" in told)
 
 
 def a_long_run(folder):

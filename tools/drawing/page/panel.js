@@ -110,18 +110,23 @@ function whoOf(place) {
   return peer === undefined ? "the proxy" : laneOf(peer)[0];
 }
 
-// Finds the troubles that are listed: those of one kind, peer, target and cause together, in the order in which they
-// began.
+// Finds the troubles that are listed: those of one kind, peer and cause together, in the order in which they began.
 function groupTroubles() {
   const groups = new Map();
   for (const place of troubles.all) {
     if (troubles.found && !troubles.found.has(place)) continue;
     if (troubles.kind && partOf(place, TROUBLE) !== troubles.kind) continue;
-    const key = [rows[place][TROUBLE], whoOf(place), rows[place][TARGET], causeOf(place)].join("\n");
+    const key = [rows[place][TROUBLE], whoOf(place), causeOf(place)].join("\n");
     if (groups.has(key)) groups.get(key).push(place);
     else groups.set(key, [place]);
   }
   troubles.groups = [...groups.values()];
+}
+
+// The target of troubles, or how many they have.
+function targetsOf(places) {
+  const targets = new Set(places.map(place => rows[place][TARGET]));
+  return targets.size > 1 ? `${targets.size.toLocaleString("en")} targets` : strings[rows[places[0]][TARGET]];
 }
 
 // A line for such troubles. A click goes to the first, the next one to the next.
@@ -130,7 +135,7 @@ function troubleItem(places, choose, on) {
   const many = places.length > 1 ? html("b", "many", ` × ${places.length.toLocaleString("en")}`) : "";
   const button = html("button", places.includes(on) ? "on" : "", html("span", "at", timeText(row[MOMENT])),
     html("span", "who", html("b", "", strings[row[TROUBLE]]), ` ${peer}`, many),
-    html("span", "what", [strings[row[TARGET]], why].filter(part => part).join(" · ")));
+    html("span", "what", [targetsOf(places), why].filter(part => part).join(" · ")));
   button.type = "button";
   button.addEventListener("click", () => choose(places[(places.indexOf(on) + 1) % places.length]));
   return html("li", "", button);
