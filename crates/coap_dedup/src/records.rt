@@ -157,6 +157,17 @@ impl Records {
         }
     }
 
+    /// The endpoint whose message the record at this place is of, counted from 0 for the oldest. Of
+    /// the oldest some may have expired, but none if `is_full`. Doesn't allocate.
+    pub fn source(&self, place: usize) -> Option<Endpoint>
+        ensures exact { result ≡ option_map (λ r. r.from) (slice_get self.now.items place) }
+    {
+        match self.ring.get(place) {
+            Some(record) => Some(record.from),
+            None => None,
+        }
+    }
+
     /// Keeps a record of a message that has just arrived and wasn't seen before, with the datagram
     /// that is sent in reply to it, if there is one (RFC 7252, 4.5). Expired records are released.
     ///

@@ -60,6 +60,14 @@ impl EndpointMap {
         Ok(EndpointMap { slots, places })
     }
 
+    /// The endpoint at the place of this number, with what is counted for it. The places are
+    /// numbered from 1 on, without a gap, in no order.
+    pub fn entry(&self, number: u64) -> Option<Entry>
+        ensures exact { result ≡ item_at number self.now.items }
+    {
+        self.slots.get(number)
+    }
+
     /// What is counted for an endpoint, whose place is this, if anything is.
     pub fn get(&self, at: Peer, place: Option<u64>) -> Option<EndpointCounts>
         requires place { place ≡ first_that (is_entry_of at) self.now.items }
