@@ -1,5 +1,5 @@
 -- Who is due because an answer has come waits for its exchange.
-use Rattle.std.proofs.Common.{◌≡◌, ℕ, List, Option, Some, refl}
+use Rattle.std.proofs.Common.{◌≡◌, ℕ, List, Some, refl}
 use Rattle.coap_pending.specs.declared.exchange.Exchange.{Exchange}
 use Rattle.coap_pending.specs.declared.waiter.Waiter.{Waiter}
 use Rattle.coap_pending.specs.declared.waiter.WaiterState.{WaiterState}

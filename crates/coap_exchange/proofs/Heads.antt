@@ -1,5 +1,5 @@
 -- The heads of endpoints, as exchanges come, change and go, and whose turn they tell.
-use Rattle.std.proofs.Common.{◌≡◌, ℕ, ◌<◌, ◌≤◌, ◌&&◌, ◌||◌, List, [], ◌∷◌, length, Bool, true, false, cond, eqb, leb, Option, Some, None, refl, sym, ap, ◌∙◌, subst, arith, inl, inr}
+use Rattle.std.proofs.Common.{◌≡◌, ℕ, ◌+◌, ◌<◌, ◌≤◌, ◌&&◌, ◌||◌, List, [], ◌∷◌, length, Bool, true, false, cond, eqb, leb, Option, Some, None, refl, sym, ap, ◌∙◌, subst, arith, inl, inr}
 use Rattle.std.specs.Prelude.{◌⊎◌, not, IfSome}
 use Rattle.std.specs.Option.{option_map}
 use Rattle.std.proofs.lemmas.Bool.{eqb-true, eq-eqb, ne_eqb}
@@ -122,6 +122,19 @@ module _ (xs : List (Numbered Exchange)) (r : IsRising 0 xs) where
           least : (b : Bool) → leb h m ≡ b → h ≤ m
           least true f = grind (arith, nat_tests)
           least false f = absurd (let off = first.1 m (grind (arith, nat_tests)) in let on = passes-own (item_at m xs) y there q in cc)
+
+-- where none waits for its turn, none waits with an endpoint
+no-first : (xs : List (Numbered Exchange)) (at : Endpoint) → count is_queued xs ≡ 0 → first_that (is_queued_to at) xs ≡ None
+no-first [] at none = refl
+no-first (x ∷ xs) at none = go (is_queued x.1) refl none (no-first xs at)
+  where
+    go : (b : Bool) → is_queued x.1 ≡ b → (cond b 1 0) + count is_queued xs ≡ 0 → (count is_queued xs ≡ 0 → first_that (is_queued_to at) xs ≡ None) → first_that (is_queued_to at) (x ∷ xs) ≡ None
+    go true e f rest = absurd (omega arith)
+    go false e f rest = rw e (rest (omega arith))
+
+-- so no endpoint has a head
+pub no-head : (xs : List (Numbered Exchange)) (at : Endpoint) → count is_queued xs ≡ 0 → head_at xs at ≡ None
+no-head xs at none = ap (option_map (λ n. (count (is_sent_to at) xs, n))) (no-first xs at none)
 
 -- ---- one exchange comes, changes or goes
 

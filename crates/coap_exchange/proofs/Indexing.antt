@@ -1,5 +1,5 @@
 -- The indexes of exchanges keep step with their table, as exchanges come, change and go.
-use Rattle.std.proofs.Common.{◌≡◌, ℕ, ◌+◌, ◌≤◌, List, [], ◌∷◌, ◌++◌, length, Option, refl, ◌∙◌, arith}
+use Rattle.std.proofs.Common.{◌≡◌, ℕ, ◌≤◌, List, length, Option}
 use Rattle.coap_pending.specs.declared.exchange.Exchange.{Exchange}
 use Rattle.coap_exchange.specs.declared.index.Index.{Index}
 use Rattle.coap_exchange.specs.Index.{id_of, opening_of, end_of, queue_of, cache_key_of, target_of, keys_at, AreIndexed, CanRekeyAll, HaveRekeyed}

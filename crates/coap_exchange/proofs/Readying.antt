@@ -5,6 +5,7 @@ use Rattle.std.specs.Option.{option_map}
 use Rattle.std.proofs.lemmas.Bool.{eqb-true, eqb-false, eq-eqb, ne_eqb, leb-true, leb-false}
 use Rattle.std.proofs.lemmas.Bool.Decides.{nat_tests}
 use Rattle.coap_pending.specs.declared.exchange.Exchange.{Exchange}
+use Rattle.coap_store.specs.declared.answer.Answer.{Answer}
 use Rattle.coap_pending.specs.declared.waiter.Waiter.{Waiter}
 use Rattle.coap_pending.specs.declared.waiter.WaiterState.{WaiterState}
 use Rattle.coap_pending.specs.declared.waiter.WaiterState.TheVariants.{Waiting, Delivering}
@@ -14,7 +15,7 @@ use Rattle.coap_endpoint.specs.declared.target.Target.{Target}
 use Rattle.coap_pending.specs.declared.exchange.ExchangeState.{ExchangeState}
 use Rattle.coap_pending.specs.declared.exchange.ExchangeState.TheVariants.{Queued, Sent, Acked, Done}
 use Rattle.coap_pending.specs.declared.exchange.Sending.{Sending}
-use Rattle.coap_pending.specs.Exchanges.{acked, answer_in_state, answer_of, fired_exchange, is_changed_with, is_queued, is_queued_state, is_sent, is_sent_state, sent, tainted_by}
+use Rattle.coap_pending.specs.Exchanges.{acked, answer_at, answer_in_state, answer_of, is_done, is_missing, fired_exchange, is_changed_with, is_queued, is_queued_state, is_sent, is_sent_state, sent, tainted_by}
 use Rattle.endpoint_counts.specs.IndexOf.{key_at, IsIndexOf}
 use Rattle.coap_exchange.specs.WaiterIndex.{answered_of}
 use Rattle.coap_exchange.specs.Ready.{ready_at, ready_in, ready_of, AreReady, Tables}
@@ -289,6 +290,47 @@ module _ (old new : Tables) (oldw : IsTable old.waiters) (neww : IsTable new.wai
     -- so the index keeps step
     pub ready-moved : next.limit ≡ index.limit → new.waiters.limit ≡ old.waiters.limit → AreReady new next
     ready-moved limit same = record { only = ready-only; all = ready-all; limit = limit ∙ are.limit ∙ sym same }
+
+  -- what was ready is there
+  pub there-as : (was : Option Pair) → ready_in old at ≡ was → IfSome was (λ p. is_in p index.pairs ≡ true)
+  there-as was f = subst (λ (o : Option Pair). IfSome o (λ p. is_in p index.pairs ≡ true)) f (among at)
+    where
+      found : (e : ℕ) (o : Option Pair) → ready_at old e ≡ o → IfSome o (λ p. is_in p index.pairs ≡ true)
+      found e None is = tt
+      found e (Some p) is = are.all e p is
+
+      among : (a : Option ℕ) → IfSome (ready_in old a) (λ p. is_in p index.pairs ≡ true)
+      among None = tt
+      among (Some e) = found e (ready_at old e) refl
+
+  -- the same, given what it was and what it is
+  pub free-as : (was is : Option Pair) → ready_in old at ≡ was → ready_in new at ≡ is → IfSome is (λ p. is_in p index.pairs ≡ true → was ≡ Some p)
+  free-as was is f g = subst (λ (o : Option Pair). IfSome o (λ p. is_in p index.pairs ≡ true → was ≡ Some p)) g (subst (λ (w : Option Pair). IfSome (ready_in new at) (λ p. is_in p index.pairs ≡ true → w ≡ Some p)) f ready-free)
+
+  pub room-as : AreRising index.pairs → new.waiters.limit ≡ old.waiters.limit → (was is : Option Pair) → ready_in old at ≡ was → ready_in new at ≡ is → length index.pairs + one_of is ≤ index.limit + one_of was
+  room-as r limit was is f g = subst (λ (o : Option Pair). length index.pairs + one_of o ≤ index.limit + one_of was) g (subst (λ (w : Option Pair). length index.pairs + one_of (ready_in new at) ≤ index.limit + one_of w) f (ready-room r limit))
+
+  pub moved-as : (was is : Option Pair) → ready_in old at ≡ was → ready_in new at ≡ is → (next : OrderedIndex) → IsReplaced index.pairs next.pairs was is → next.limit ≡ index.limit → new.waiters.limit ≡ old.waiters.limit → AreReady new next
+  moved-as was is f g next replaced limit same = ready-moved next (subst (λ (o : Option Pair). IsReplaced index.pairs next.pairs (ready_in old at) o) (sym g) (subst (λ (w : Option Pair). IsReplaced index.pairs next.pairs w is) (sym f) replaced)) limit same
+
+-- ---- exchanges for which nobody is ready
+
+-- what hasn't an answer makes nobody ready
+unanswered : (o : Option Answer) (first : Option ℕ) → not (is_missing o) ≡ false → ready_of (moment_of o) first ≡ None
+unanswered None first e = refl
+unanswered (Some a) first e = absurd cc
+
+-- so an open exchange doesn't
+pub open-unready : (t : Tables) (n : ℕ) → IfSome (item_at n t.exchanges.items) (λ x. is_done x ≡ false) → ready_in t (Some n) ≡ None
+open-unready t n still = go (item_at n t.exchanges.items) refl still
+  where
+    go : (o : Option Exchange) → item_at n t.exchanges.items ≡ o → IfSome o (λ x. is_done x ≡ false) → ready_at t n ≡ None
+    go None e f = rw e refl
+    go (Some x) e f = rw e (unanswered (answer_at x) (first_that (waits_for n) t.waiters.items) f)
+
+-- nor does one that is gone
+pub gone-unready : (t : Tables) (n : ℕ) → item_at n t.exchanges.items ≡ None → ready_in t (Some n) ≡ None
+gone-unready t n e = rw e refl
 
 -- ---- what stays where one item changes
 

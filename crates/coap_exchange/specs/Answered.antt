@@ -19,6 +19,11 @@ got_of x = moment_of (answer_at x)
 abbrev pub got_in : ℕ → List (Numbered Exchange) → Option ℕ
 got_in number exchanges = moment_of (answer_in number exchanges)
 
+-- the same, if there is an exchange
+abbrev pub got_by : Option ℕ → List (Numbered Exchange) → Option ℕ
+got_by None exchanges = None
+got_by (Some number) exchanges = got_in number exchanges
+
 -- what is due at a moment under a number
 abbrev pub due_at : ℕ → Option ℕ → Option Pair
 due_at moment None = None

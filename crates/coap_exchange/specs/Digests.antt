@@ -1,5 +1,5 @@
 -- Digests, by which exchanges are found.
-use Rattle.std.specs.Prelude.{ℕ, ◌+◌, ◌*◌, ◌%◌, ◌^◌}
+use Rattle.std.specs.Prelude.{ℕ}
 use Rattle.coap_store.specs.contracts.key.CacheKeyHash.TheImpl as keys
 use Rattle.coap_store.specs.declared.key.CacheKey.{CacheKey}
 use Rattle.coap_endpoint.specs.contracts.target.TargetHash.TheImpl as targets

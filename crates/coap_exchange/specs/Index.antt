@@ -1,5 +1,5 @@
 -- What exchanges are looked up by: indexes that are kept in step with a table.
-use Rattle.std.specs.Prelude.{◌≡◌, ℕ, ◌+◌, ◌≤◌, ◌&&◌, ◌||◌, Bool, true, not, if◌then◌else◌, nat_le, map, List, Option, Some, None}
+use Rattle.std.specs.Prelude.{◌≡◌, ℕ, ◌&&◌, ◌||◌, Bool, true, not, if◌then◌else◌, nat_le, map, List, Option, Some, None}
 use Rattle.coap_pending.specs.declared.exchange.Exchange.{Exchange}
 use Rattle.coap_pending.specs.declared.exchange.Sending.{Sending}
 use Rattle.coap_exchange.specs.declared.index.Index.{Index}

@@ -1,5 +1,5 @@
 -- Exchanges as they are opened.
-use Rattle.std.specs.Prelude.{◌≡◌, ◌≤◌, ◌+◌, ◌-◌, ◌^◌, ◌==◌, ◌&&◌, ◌||◌, false, if◌then◌else◌, None}
+use Rattle.std.specs.Prelude.{false, None}
 use Rattle.coap_pending.specs.declared.exchange.ExchangeState.TheVariants.{Queued}
 use Rattle.coap_pending.specs.declared.exchange.Exchange.{Exchange}
 use Rattle.coap_exchange.specs.declared.opening.Opening.{Opening}

@@ -6,7 +6,7 @@ ghost use Rattle.indexmap.specs.IndexMap.{get};
 ghost use Rattle.coap_endpoint.specs.declared.endpoint.Endpoint.{Endpoint};
 ghost use Rattle.coap_pending.specs.declared.exchange.ExchangeState.TheVariants.{Queued};
 ghost use Rattle.coap_exchange.specs.declared.table.AdmitError.TheVariants.{ClientFull, Full};
-ghost use Rattle.endpoint_counts.specs.Clients.{count_of, AreWithin};
+ghost use Rattle.endpoint_counts.specs.Clients.{count_of, AreOfClients, AreWithin};
 ghost use Rattle.coap_pending.specs.Due.{first_due};
 ghost use Rattle.coap_pending.specs.Exchanges.{acked, answer_in, answered, changed_by, due_among, fire_at, fired_exchange, is_done, is_joinable, is_opened_by, is_queued, is_sent, is_sent_to, sent, tainted_by, was_sent_as, CanChange, CanUpdate, IsDue, is_queued_to, is_with};
 ghost use Rattle.coap_exchange.specs.Opening.{opened};
@@ -138,6 +138,13 @@ impl Exchanges {
         ensures within { AreWithin is_opened_by self.now }
     {
         count_of(&self.clients, Peer::new(client))
+    }
+
+    /// The clients that opened exchanges, with how many each has opened.
+    pub fn clients(&self) -> &EndpointMap
+        ensures exact { AreOfClients is_opened_by self.now.items result.now }
+    {
+        &self.clients
     }
 
     /// The number of exchanges ever admitted.
@@ -310,7 +317,13 @@ impl Exchanges {
         self.send_queue.heads.laws();
         self.endpoints.laws();
         self.clients.laws();
-        let head = head_of(&self.table, &self.index, &self.endpoints, &Some(at));
+        let head = head_of(
+            &self.table,
+            &self.index,
+            &self.endpoints,
+            self.queued,
+            &Some(at),
+        );
         open_one(&mut self.endpoints, at);
         enter(&mut self.clients, opener);
         let (was, is) = (keys_in(None), keys_of(&listed));
@@ -318,7 +331,13 @@ impl Exchanges {
             Ok(number) => {
                 self.queued += 1;
                 self.index.rekey(number, was, is);
-                let next = head_of(&self.table, &self.index, &self.endpoints, &Some(at));
+                let next = head_of(
+                    &self.table,
+                    &self.index,
+                    &self.endpoints,
+                    self.queued,
+                    &Some(at),
+                );
                 self.send_queue.heads.replace(head, next);
                 self.send_queue.note(now);
                 Ok(number)
@@ -421,7 +440,7 @@ impl Exchanges {
     {
         let found = self.table.get(number);
         let at = mover_of(found, &change);
-        let head = head_of(&self.table, &self.index, &self.endpoints, &at);
+        let head = head_of(&self.table, &self.index, &self.endpoints, self.queued, &at);
         let queued = queued_without(self.queued, &self.table, number, found);
         recount(&mut self.endpoints, &self.table, number, found, &change);
         depart(&mut self.clients, leaver_of(found, &change));
@@ -429,7 +448,7 @@ impl Exchanges {
         self.queued = queued;
         let is = self.table.update(number, change);
         self.index.rekey(number, was, is);
-        let next = head_of(&self.table, &self.index, &self.endpoints, &at);
+        let next = head_of(&self.table, &self.index, &self.endpoints, queued, &at);
         self.send_queue.heads.replace(head, next);
     }
 }

@@ -45,6 +45,7 @@ pub use coap_pending::{
 };
 pub use coap_store::Answer;
 pub use digests::HashedKey;
+pub use endpoint_counts::EndpointMap;
 pub use exchanges::Exchanges;
 pub use opening::Opening;
 pub use table::AdmitError;

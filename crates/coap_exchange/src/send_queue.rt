@@ -1,6 +1,8 @@
 //! Whose turn it is to be sent.
 ghost use Rattle.std.specs.Prelude.{◌≡◌, ◌<◌, [], true, IfOk};
 ghost use Rattle.std.specs.Option.{option_copied};
+ghost use Rattle.coap_pending.specs.Exchanges.{is_queued};
+ghost use Rattle.coap_pending.specs.Table.{count};
 ghost use Rattle.coap_exchange.specs.Index.{AreIndexed};
 ghost use Rattle.coap_exchange.specs.Counted.{AreCounted};
 ghost use Rattle.coap_exchange.specs.SendQueue.{head_in, lower, mover, noted, IsSendQueue, IsLowestUnder};
@@ -96,19 +98,25 @@ pub(crate) fn mover_of(found: Option<&IndexedExchange>, change: &Option<Change>)
 }
 
 /// The number of exchanges sent to an endpoint, and its first queued exchange, if it has one.
+/// `queued` exchanges are queued in all: where none is, none is looked for.
 pub(crate) fn head_of(
     exchanges: &Table<IndexedExchange>,
     index: &Index,
     endpoints: &EndpointMap,
+    queued: usize,
     at: &Option<Peer>,
 ) -> Option<(u64, u64)>
     requires indexed { AreIndexed exchanges.now.items exchanges.now.limit index.now }
     requires counted { AreCounted exchanges.now.items endpoints.now }
+    requires queued { queued ≡ count is_queued exchanges.now.items }
     ensures exact { result ≡ head_in exchanges.now.items at.now }
 {
     let Some(at) = at else {
         return None;
     };
+    if queued == 0 {
+        return None;
+    }
     let sought = Sought::Queued(at.endpoint());
     let number = first_sought(exchanges, &index.queues, at.digest(), &sought)?;
     Some((counts_of(endpoints, *at).sent as u64, number))

@@ -4,9 +4,10 @@ ghost use Rattle.std.specs.Option.{option_copied};
 ghost use Rattle.coap_pending.specs.declared.exchange.Exchange.{Exchange};
 ghost use Rattle.coap_pending.specs.declared.waiter.Waiter.{Waiter};
 ghost use Rattle.coap_pending.specs.Due.{first_due};
-ghost use Rattle.coap_pending.specs.Exchanges.{acked, answered, changed_by, fire_at, fired_exchange, is_done, is_opened_by, is_queued, is_sent, sent, tainted_by, CanUpdate, IsDue};
+ghost use Rattle.coap_pending.specs.Exchanges.{acked, answered, fire_at, fired_exchange, is_done, is_opened_by, is_queued, is_sent, sent, tainted_by, IsDue};
 ghost use Rattle.coap_exchange.specs.Opening.{opened};
-ghost use Rattle.coap_exchange.specs.Ready.{ready_in};
+ghost use Rattle.coap_exchange.specs.Ready.{ready_at, ready_in, Tables};
+ghost use Rattle.coap_exchange.specs.Answered.{got_by};
 ghost use Rattle.coap_pending.specs.Table.{Table, item_at, admitted_to, without, withdrawn, changed_at, all_changed, count, IsTable};
 ghost use Rattle.coap_pending.specs.Waiters.{delivered, due_after, fired_waiter, is_of, is_waiting, joined};
 ghost use Rattle.coap_pending.specs.Waiters as waiters;
@@ -19,8 +20,7 @@ use coap_endpoint::Target;
 use coap_message::{Moment, OutOfMemory, Seq};
 use coap_pending::due::sooner;
 use coap_pending::{
-    Change, Exchange, ExchangeNumber, Fire, Joining, Sending, Timer, Waiter, WaiterChange,
-    WaiterNumber,
+    Exchange, ExchangeNumber, Fire, Joining, Sending, Timer, Waiter, WaiterChange, WaiterNumber,
 };
 use coap_store::Answer;
 use endpoint_counts::Peer;
@@ -155,12 +155,11 @@ impl UnderWay {
             → self.old.exchanges ≡ admitted_to item before
             → self.new ≡ record self.old { exchanges = before } }
     {
-        let number = Some(self.exchanges.admitted());
+        let number = self.exchanges.admitted();
         self.ready.laws();
         let was = ready_in(&self.exchanges, &self.waiters, number);
         self.exchanges.withdraw();
-        let is = ready_in(&self.exchanges, &self.waiters, number);
-        self.ready.replace(was, is);
+        self.ready.replace(was, None);
     }
 
     /// `Exchanges::send`.
@@ -221,7 +220,10 @@ impl UnderWay {
                   };
             } }
     {
-        self.update_exchange(number, Some(Change::Answer(answer)));
+        self.ready.laws();
+        self.exchanges.answered(number, answer);
+        let is = ready_in(&self.exchanges, &self.waiters, number);
+        self.ready.replace(None, is);
     }
 
     /// `Exchanges::taint`.
@@ -247,7 +249,10 @@ impl UnderWay {
                   };
             } }
     {
-        self.update_exchange(number, None);
+        self.ready.laws();
+        let was = ready_in(&self.exchanges, &self.waiters, number);
+        self.exchanges.close(number);
+        self.ready.replace(was, None);
     }
 
     /// Has a client wait for an exchange: `Waiters::admit`, where there is room for it, and for one
@@ -270,9 +275,10 @@ impl UnderWay {
         let exchange = Some(joining.exchange);
         let client = Peer::new(joining.client);
         self.ready.laws();
-        let was = ready_in(&self.exchanges, &self.waiters, exchange);
+        let got = got_in(&self.exchanges, exchange);
+        let was = ready_since(got, &self.waiters, exchange);
         let number = self.waiters.admit_in_room(joining, client)?;
-        let is = ready_in(&self.exchanges, &self.waiters, exchange);
+        let is = ready_since(got, &self.waiters, exchange);
         self.ready.replace(was, is);
         Ok(number)
     }
@@ -287,9 +293,10 @@ impl UnderWay {
     {
         let exchange = self.waiters.awaited(self.waiters.admitted());
         self.ready.laws();
-        let was = ready_in(&self.exchanges, &self.waiters, exchange);
+        let got = got_in(&self.exchanges, exchange);
+        let was = ready_since(got, &self.waiters, exchange);
         self.waiters.withdraw();
-        let is = ready_in(&self.exchanges, &self.waiters, exchange);
+        let is = ready_since(got, &self.waiters, exchange);
         self.ready.replace(was, is);
     }
 
@@ -337,24 +344,6 @@ impl UnderWay {
         self.waiters.fire(number, now)
     }
 
-    /// `Exchanges::update`. Which client of the exchange is to be served first follows.
-    fn update_exchange(&mut self, number: ExchangeNumber, change: Option<Change>)
-        requires { CanUpdate change (item_at number self.old.exchanges.items) }
-        ensures { self.new
-            ≡ record self.old {
-              exchanges =
-                  record self.old.exchanges {
-                    items = updated_at changed_by change number self.old.exchanges.items;
-                  };
-            } }
-    {
-        self.ready.laws();
-        let was = ready_in(&self.exchanges, &self.waiters, Some(number));
-        self.exchanges.update(number, change);
-        let is = ready_in(&self.exchanges, &self.waiters, Some(number));
-        self.ready.replace(was, is);
-    }
-
     /// `Waiters::update`. Which client of its exchange is to be served first follows.
     fn update_waiter(&mut self, number: WaiterNumber, change: Option<WaiterChange>)
         requires { waiters.CanUpdate change (item_at number self.old.waiters.items) }
@@ -368,9 +357,10 @@ impl UnderWay {
     {
         let exchange = self.waiters.awaited(number);
         self.ready.laws();
-        let was = ready_in(&self.exchanges, &self.waiters, exchange);
+        let got = got_in(&self.exchanges, exchange);
+        let was = ready_since(got, &self.waiters, exchange);
         self.waiters.update(number, change);
-        let is = ready_in(&self.exchanges, &self.waiters, exchange);
+        let is = ready_since(got, &self.waiters, exchange);
         self.ready.replace(was, is);
     }
 }
@@ -380,14 +370,40 @@ impl UnderWay {
 fn ready_in(
     exchanges: &Exchanges,
     waiters: &Waiters,
-    number: Option<ExchangeNumber>,
+    number: ExchangeNumber,
 ) -> Option<(Moment, WaiterNumber)>
     ensures exact { result
-        ≡ ready_in (record { exchanges = exchanges.now; waiters = waiters.now }) number }
+        ≡ ready_at (record { exchanges = exchanges.now; waiters = waiters.now }) number }
+    ensures sound { IsTable waiters.now }
+{
+    let got = got_in(exchanges, Some(number));
+    ready_since(got, waiters, Some(number))
+}
+
+/// The moment when the answer of an exchange came, if there is an exchange and an answer.
+fn got_in(exchanges: &Exchanges, number: Option<ExchangeNumber>) -> Option<Moment>
+    ensures exact { result ≡ got_by number exchanges.now.items }
+{
+    let answer = exchanges.answer_of(number?)?;
+    Some(answer.got)
+}
+
+/// The same as `ready_in`, if there is an exchange, for one whose answer came at this moment, if it
+/// has.
+fn ready_since(
+    got: Option<Moment>,
+    waiters: &Waiters,
+    number: Option<ExchangeNumber>,
+) -> Option<(Moment, WaiterNumber)>
+    ensures exact { (t : Tables)
+        → t.waiters ≡ waiters.now
+        → got ≡ got_by number t.exchanges.items
+        → result ≡ ready_in t number }
     ensures sound { IsTable waiters.now }
 {
     waiters.laws();
-    let number = number?;
-    let answer = exchanges.answer_of(number)?;
-    due_at(answer.got, waiters.first_waiting(number))
+    let (Some(got), Some(number)) = (got, number) else {
+        return None;
+    };
+    due_at(got, waiters.first_waiting(number))
 }

@@ -7,7 +7,7 @@ ghost use Rattle.indexmap.specs.IndexMap.{get};
 ghost use Rattle.coap_exchange.specs.declared.table.AdmitError.TheVariants.{ClientFull, Full};
 ghost use Rattle.coap_exchange.specs.Answered.{due_at};
 ghost use Rattle.coap_endpoint.specs.declared.endpoint.Endpoint.{Endpoint};
-ghost use Rattle.endpoint_counts.specs.Clients.{count_of, AreWithin};
+ghost use Rattle.endpoint_counts.specs.Clients.{count_of, AreOfClients, AreWithin};
 ghost use Rattle.coap_pending.specs.Due.{due_row, first_due};
 ghost use Rattle.coap_exchange.specs.WaiterIndex.{answered_of, end_of, waiter_keys_at};
 ghost use Rattle.coap_pending.specs.Table.{empty_table, item_at, admitted_to, without, withdrawn, changed_at, count, first_that, passes, IsTable};
@@ -120,6 +120,13 @@ impl Waiters {
         ensures within { AreWithin is_of self.now }
     {
         count_of(&self.clients, Peer::new(client))
+    }
+
+    /// The clients that waiters are of, with how many each has.
+    pub fn clients(&self) -> &EndpointMap
+        ensures exact { AreOfClients is_of self.now.items result.now }
+    {
+        &self.clients
     }
 
     /// The number of waiters ever admitted.

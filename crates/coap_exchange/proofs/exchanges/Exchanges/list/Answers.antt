@@ -1,4 +1,4 @@
-use Rattle.std.proofs.Common.{◌≡◌, ◌∙◌, ◌+◌, ◌<◌, Some, true, false, length, ap, arith, refl, rules}
+use Rattle.std.proofs.Common.{◌≡◌, ◌∙◌, ◌+◌, ◌<◌, Some, true, false, length, ap, arith, refl}
 use Rattle.coap_pending.specs.declared.exchange.Exchange.{Exchange}
 use Rattle.coap_pending.specs.Exchanges.{is_opened_by, is_queued, is_sent, is_with}
 use Rattle.coap_pending.specs.Table.{Table, admitted_to, count}
@@ -167,3 +167,11 @@ returns-in-Err-clause-ok c = tt
 
 pub returns-in-Err-clause-err : goal.returns-in-Err-clause-err
 returns-in-Err-clause-err c = c.in-Err.ensures.err ∙ c.self.view_is
+
+pub head_of-head-requires-clause-queued : goal.head_of-head-requires-clause-queued
+head_of-head-requires-clause-queued c = c.self.invariant.0.queued
+
+pub head_of-next-requires-clause-queued : goal.head_of-next-requires-clause-queued
+head_of-next-requires-clause-queued c =
+    let waits : is_queued c.args.listed ≡ true = rw c.requires.state refl in
+    rw c.in-Ok.ensures.ok (exchanges-push c.self.inside.table.items c.self.inside.queued _ waits c.requires.now c.requires.sending c.self.invariant.0).queued

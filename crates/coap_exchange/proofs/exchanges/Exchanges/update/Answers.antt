@@ -105,3 +105,11 @@ replace-requires-clause-there c = search rules
 
 pub returns : goal.returns
 returns c = search rules
+
+pub head_of-head-requires-clause-queued : goal.head_of-head-requires-clause-queued
+head_of-head-requires-clause-queued c = c.self.invariant.0.queued
+
+pub head_of-next-requires-clause-queued : goal.head_of-next-requires-clause-queued
+head_of-next-requires-clause-queued c =
+    let can : CanUpdate c.args.change (item_at c.args.number c.self.inside.table.items) = subst (λ (t : Table Exchange). CanUpdate c.args.change (item_at c.args.number t.items)) (sym c.self.view_is) c.requires in
+    rw c.update-is.ensures.updated (exchanges-updated c.args.number c.self.inside.table c.get-found.ensures.sound c.args.change c.self.inside.queued c.queued_without-queued.result c.self.invariant.0 can c.queued_without-queued.ensures.fewer).queued

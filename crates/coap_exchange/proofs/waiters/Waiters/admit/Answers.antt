@@ -1,15 +1,7 @@
-use Rattle.std.proofs.Common.{rules, subst, ◌∙◌, ◌+◌, ◌<◌, arith, refl, sym}
-use Rattle.coap_pending.specs.declared.waiter.Waiter.{Waiter}
+use Rattle.std.proofs.Common.{rules, subst, refl}
 use Rattle.endpoint_counts.specs.Clients.{AreWithin}
-use Rattle.coap_pending.specs.Table.{IsTable, admitted_to, count}
-use Rattle.coap_pending.specs.Waiters.{is_of, is_waiting, joined}
-use Rattle.endpoint_counts.proofs.ByClient.{of_clients-push, within-push}
-use Rattle.coap_pending.proofs.Counts.{count-length, count-push}
-use Rattle.endpoint_counts.proofs.Fewer.{few-entries}
-use Rattle.coap_exchange.proofs.Steps.{step-admitted, keys-can-pass, keys-passed}
-use Rattle.coap_pending.proofs.Tables.{admitted-is, item_at-fresh, item_at-last, room-there}
-use Rattle.endpoint_counts.proofs.Indexing.{moves-admitted}
-use Rattle.coap_exchange.proofs.Waiting.{short-push, tallied-moved}
+use Rattle.coap_pending.specs.Table.{IsTable}
+use Rattle.coap_pending.specs.Waiters.{is_of}
 use Rattle.coap_exchange.proofs.waiters.Waiters.admit.Goals as goal
 
 pub returns-then-is_full-clause-number : goal.returns-then-is_full-clause-number

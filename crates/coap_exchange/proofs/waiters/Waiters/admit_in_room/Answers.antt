@@ -1,13 +1,12 @@
-use Rattle.std.proofs.Common.{◌+◌, ◌<◌, ◌∙◌, arith, length, refl, rules, subst, sym}
+use Rattle.std.proofs.Common.{◌+◌, ◌<◌, ◌∙◌, arith, length, refl, rules, subst}
 use Rattle.coap_pending.specs.declared.waiter.Waiter.{Waiter}
-use Rattle.endpoint_counts.specs.Clients.{AreWithin}
 use Rattle.coap_pending.specs.Table.{IsTable, admitted_to, count}
 use Rattle.coap_pending.specs.Waiters.{is_of, is_waiting, joined}
 use Rattle.endpoint_counts.proofs.ByClient.{of_clients-push, within-push}
 use Rattle.coap_pending.proofs.Counts.{count-length, count-push}
 use Rattle.endpoint_counts.proofs.Fewer.{few-entries}
 use Rattle.coap_exchange.proofs.Steps.{step-admitted, keys-can-pass, keys-passed}
-use Rattle.coap_pending.proofs.Tables.{admitted-is, item_at-fresh, item_at-last, room-there}
+use Rattle.coap_pending.proofs.Tables.{admitted-is, item_at-fresh, item_at-last}
 use Rattle.endpoint_counts.proofs.Indexing.{moves-admitted}
 use Rattle.coap_exchange.proofs.Waiting.{short-push, tallied-moved}
 use Rattle.coap_exchange.proofs.waiters.Waiters.admit_in_room.Goals as goal
