@@ -3,15 +3,15 @@
 use crate::causes::{BadGateway, Silence, overload_of};
 use crate::due::{Came, Due, DueAnswer, DueExchange};
 use crate::lacks::{Lacks, Usage};
-use crate::messages::{put_code, put_endpoint, put_target};
+use crate::messages::{put_code, put_endpoint, put_ip, put_target};
 use crate::ring::Ring;
 use crate::silent::SilentOrigins;
-use coap_core::{Core, Event, Outcome, Report};
+use coap_core::{Core, Event, LimitValues, Outcome, Report};
 use coap_endpoint::{Endpoint, Target};
 use coap_log::{Limiter, Line};
 use coap_message::{Code, LAST_MOMENT, MessageRef, Moment, OutOfMemory};
 use coap_store::Store;
-use coap_watch::{Seen, Watch};
+use coap_watch::{Holder, Holders, Seen, Watch};
 use std::alloc::Global;
 use std::io;
 use std::io::Write;
@@ -42,8 +42,8 @@ struct NotedCause {
 }
 
 /// Logs what goes wrong, in lines `WORD KEY=VALUE ..`: an exchange that is given up, a client that is
-/// sent 5.02, 5.03 or 5.04, a message that is dropped, and an origin that was silent and answers
-/// again. At most 20 lines are written at once, and 5 more a second; how many were left out is said
+/// sent 5.02, 5.03 or 5.04, a message that is dropped, who has most of a table that is full, and an
+/// origin that was silent and answers again. At most 20 lines are written at once, and 5 more a second; how many were left out is said
 /// before the next one. A line that the output doesn't take is left out, too.
 ///
 /// All its memory is allocated when it is made.
@@ -59,6 +59,7 @@ pub struct Logger<W: Write> {
     came: Option<Came>,
     causes: Ring<NotedCause>,
     silent: SilentOrigins,
+    holders: Holders,
 }
 
 impl<W: Write + Drop> Drop for Logger<W> {
@@ -74,6 +75,7 @@ impl<W: Write + Drop> Drop for Logger<W> {
             came: _,
             causes: _,
             silent: _,
+            holders: _,
         } = self;
     }
 }
@@ -164,11 +166,11 @@ fn put_exchange(line: &mut Line, exchange: &DueExchange, now: Moment) -> io::Res
 }
 
 impl<W: Write + Drop> Logger<W> {
-    /// One that writes to this output.
+    /// One that writes to this output, of a proxy with these limits.
     ///
     /// # Errors
     /// Out of memory.
-    pub fn new(alloc: Global, output: W) -> Result<Logger<W>, OutOfMemory> {
+    pub fn new(alloc: Global, output: W, limits: &LimitValues) -> Result<Logger<W>, OutOfMemory> {
         Ok(Logger {
             output,
             line: Line::new(alloc, LINE_ROOM)?,
@@ -180,6 +182,7 @@ impl<W: Write + Drop> Logger<W> {
             came: None,
             causes: Ring::new(alloc, CAUSES)?,
             silent: SilentOrigins::new(alloc)?,
+            holders: Holders::new(alloc, limits)?,
         })
     }
 }
@@ -383,6 +386,27 @@ impl<W: Write> Logger<W> {
         }
     }
 
+    /// Logs who has most of a table that is full.
+    fn on_full(&mut self, holder: Holder, now: Moment) {
+        if self.begin(now, "full") {
+            let put = self.put_holder(&holder);
+            self.finish(put);
+        }
+    }
+
+    /// Adds which table is full, and who has most of it.
+    fn put_holder(&mut self, holder: &Holder) -> io::Result<()> {
+        let (count, limit) = (holder.count, holder.limit);
+        self.line.key("table");
+        self.line.write_all(holder.table.name().as_bytes())?;
+        self.line.key("count");
+        write!(self.line, "{count}/{limit}")?;
+        self.line.key("address");
+        put_ip(&mut self.line, holder.ip)?;
+        put_number(&mut self.line, "has", holder.held)?;
+        put_number(&mut self.line, "ports", holder.ports)
+    }
+
     /// Logs that an origin answers again, if it was silent.
     fn on_heard(&mut self, from: Endpoint, now: Moment) {
         let Some(since) = self.silent.hear(from) else {
@@ -503,6 +527,9 @@ impl<W: Write> Watch for Logger<W> {
             Event::Datagram { from, bytes } => {
                 self.on_arrived(from, bytes, report, core, turn.now);
             }
+        }
+        if let Some(holder) = self.holders.look(turn, core) {
+            self.on_full(holder, turn.now);
         }
     }
 }

@@ -24,7 +24,7 @@ fn put_groups<W: Write>(line: &mut W, octets: [u8; 16]) -> io::Result<()> {
 }
 
 /// Adds an address: four numbers, or eight groups in brackets.
-fn put_ip<W: Write>(line: &mut W, ip: Ip) -> io::Result<()> {
+pub(crate) fn put_ip<W: Write>(line: &mut W, ip: Ip) -> io::Result<()> {
     match ip {
         Ip::V4(octets) => put_octets(line, octets),
         Ip::V6(octets) => put_groups(line, octets),

@@ -68,7 +68,7 @@ pub(crate) fn put_acceptance(
 
 impl<S: Store + Drop> State<S> {
     /// The records of the messages of this type that came.
-    fn records(&self, kind: Kind) -> &Records
+    pub(crate) fn records(&self, kind: Kind) -> &Records
         ensures { result.now ≡ records_of kind self.now }
     {
         match kind {

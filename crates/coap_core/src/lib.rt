@@ -35,7 +35,7 @@ mod timing;
 mod watching;
 
 pub use coap_endpoint::{Endpoint, Ip};
-pub use coap_exchange::{Exchange, Waiter};
+pub use coap_exchange::{EndpointMap, Exchange, Waiter};
 pub use coap_message::{Code, Datagram, LAST_MOMENT, MOST_JITTER, Moment, OutOfMemory};
 pub use coap_model::{
     ClientCounts, Counts, Limit, LimitError, LimitValues, Limits, Outcome, Report, Storing,

@@ -1,16 +1,19 @@
 //! What a core shows to those who watch it: what its next tick is about, and what a message meets.
-ghost use Rattle.std.specs.Prelude.{◌≡◌, is_some};
+ghost use Rattle.std.specs.Prelude.{◌≡◌, is_some, slice_get};
 ghost use Rattle.std.specs.Option.{option_copied, option_map};
-ghost use Rattle.coap_pending.specs.Exchanges.{is_joinable};
+ghost use Rattle.coap_pending.specs.Exchanges.{is_joinable, is_opened_by};
 ghost use Rattle.coap_pending.specs.Table.{first_that, item_at};
+ghost use Rattle.coap_pending.specs.Waiters.{is_of};
+ghost use Rattle.endpoint_counts.specs.Clients.{AreOfClients};
+ghost use Rattle.coap_model.specs.State.{records_of};
 ghost use Rattle.coap_model.specs.Ticks.{item_due};
 ghost use Rattle.coap_store.specs.Entries.{stored_for};
 ghost use Rattle.coap_core.specs.Watching as spec;
 
 use crate::proxy::Core;
 use coap_endpoint::Endpoint;
-use coap_exchange::{Exchange, ExchangeNumber, Waiter};
-use coap_message::MessageRef;
+use coap_exchange::{EndpointMap, Exchange, ExchangeNumber, Waiter};
+use coap_message::{Kind, MessageRef};
 use coap_model::{DueItem, Limits};
 use coap_store::{CacheKey, Store, Stored};
 use coap_target::Routes;
@@ -113,6 +116,29 @@ impl<S: Store + Drop> Core<S> {
             ≡ stored_for key.now self.now.store }
     {
         self.state.store.peek(key)
+    }
+
+    /// The endpoint whose message the record at this place is of, counted from 0 for the oldest of
+    /// those of messages of this type: Confirmable ones are remembered apart from all others.
+    pub fn record_source(&self, kind: Kind, place: usize) -> Option<Endpoint>
+        ensures exact { result
+            ≡ option_map (λ r. r.from) (slice_get (records_of kind self.now).items place) }
+    {
+        self.state.records(kind).source(place)
+    }
+
+    /// The clients that opened exchanges, with how many each has opened.
+    pub fn openers(&self) -> &EndpointMap
+        ensures exact { AreOfClients is_opened_by self.now.exchanges result.now }
+    {
+        self.state.under_way.exchanges().clients()
+    }
+
+    /// The clients that wait or are being sent an answer, with how many such requests each has.
+    pub fn waiting_clients(&self) -> &EndpointMap
+        ensures exact { AreOfClients is_of self.now.waiters result.now }
+    {
+        self.state.under_way.waiters().clients()
     }
 
     /// The number of Message IDs that are free at the moment of the last step: neither given nor

@@ -2,6 +2,7 @@
 use crate::line::put;
 use coap_endpoint::{Endpoint, Ip};
 use coap_message::{OutOfMemory, Pieces};
+use coap_watch::Holder;
 use percent_encoding::percent_encode_byte;
 use std::io::Write;
 use std::net::{IpAddr, Ipv4Addr, Ipv6Addr, SocketAddr};
@@ -19,18 +20,24 @@ pub(crate) enum Whose<'a> {
     Origin(Endpoint),
     /// The origins that aren't counted one by one.
     Others,
+    /// The address that had most of a table when that was full.
+    Holder(Holder),
 }
 
 /// What stands for itself in a segment of a path, beside letters and digits (RFC 3986, 2.3).
 const PLAIN: &[u8] = b"-._~";
 
-/// An endpoint as the system's socket address, whose text has an IPv6 address in brackets.
-pub fn socket_of(at: Endpoint) -> SocketAddr {
-    let address = match at.ip {
+/// An address as the system's.
+fn address_of(ip: Ip) -> IpAddr {
+    match ip {
         Ip::V4(octets) => IpAddr::V4(Ipv4Addr::from_octets(octets)),
         Ip::V6(octets) => IpAddr::V6(Ipv6Addr::from_octets(octets)),
-    };
-    SocketAddr::new(address, at.port)
+    }
+}
+
+/// An endpoint as the system's socket address, whose text has an IPv6 address in brackets.
+pub fn socket_of(at: Endpoint) -> SocketAddr {
+    SocketAddr::new(address_of(at.ip), at.port)
 }
 
 /// Adds a prefix as a path, with `%XX` for what can't stand for itself.
@@ -66,7 +73,20 @@ fn put_endpoint(out: &mut Vec<u8>, at: Endpoint) -> Result<(), OutOfMemory> {
     Ok(())
 }
 
-/// Adds the label of a part behind others: `,map="/PREFIX"`, or `,origin="ADDRESS:PORT"`.
+/// Adds a table, and the address that had most of it.
+fn put_holder(out: &mut Vec<u8>, holder: Holder) -> Result<(), OutOfMemory> {
+    put(out, b",table=\"")?;
+    put(out, holder.table.name().as_bytes())?;
+    put(out, b"\",address=\"")?;
+    let address = address_of(holder.ip);
+    if write!(out, "{address}").is_err() {
+        return Err(OutOfMemory);
+    }
+    Ok(())
+}
+
+/// Adds the label of a part behind others: `,map="/PREFIX"`, `,origin="ADDRESS:PORT"`, or
+/// `,table="TABLE",address="ADDRESS"`.
 pub(crate) fn put_whose(out: &mut Vec<u8>, whose: Whose<'_>) -> Result<(), OutOfMemory> {
     match whose {
         Whose::All => return Ok(()),
@@ -83,6 +103,7 @@ pub(crate) fn put_whose(out: &mut Vec<u8>, whose: Whose<'_>) -> Result<(), OutOf
             put_endpoint(out, at)?;
         }
         Whose::Others => put(out, b",origin=\"other")?,
+        Whose::Holder(holder) => put_holder(out, holder)?,
     }
     put(out, b"\"")
 }

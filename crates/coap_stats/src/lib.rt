@@ -3,7 +3,7 @@
 //! # First use
 //!
 //! ```rust
-//! let mut statistics = Statistics::new(alloc, core.routes())?;
+//! let mut statistics = Statistics::new(alloc, core.routes(), core.limits().values())?;
 //! drive_watched(alloc, &mut core, &mut port, &mut statistics, 1)?;
 //! let mut text = Vec::new(alloc);
 //! put_line(&mut text, &statistics, &core.counts(), limits.values())?;

@@ -2,7 +2,7 @@
 
 use crate::labels::{Whose, put_whose};
 use crate::line::{put, put_number};
-use crate::series::{put_maps, put_origins};
+use crate::series::{put_holders, put_maps, put_origins};
 use crate::statistics::Statistics;
 use crate::tally::Tally;
 use crate::words::{
@@ -299,7 +299,8 @@ fn put_held(out: &mut Vec<u8>, listen: &str, shares: &[Share]) -> Result<(), Out
 
 /// Adds the counts as metrics, each with its help and its type: what turns did, by its outcome where
 /// there are several; what became of the requests that went through each map; what each origin was
-/// sent and answered; then what the proxy holds, and its limits. The numbers and their keys are
+/// sent and answered; what the proxy holds, and its limits; then who had most of each table that was
+/// full. The numbers and their keys are
 /// those of `put_line`. Each has the label `listen`, where this proxy listens, such as
 /// `0.0.0.0:5683`: by that it is told from others on its host.
 ///
@@ -317,7 +318,8 @@ pub fn put_metrics(
     put_cache(out, listen, statistics)?;
     put_maps(out, listen, &statistics.maps)?;
     put_origins(out, listen, &statistics.origins, statistics.tally.last)?;
-    put_held(out, listen, &shares(counts, limits))
+    put_held(out, listen, &shares(counts, limits))?;
+    put_holders(out, listen, &statistics.holders, statistics.tally.last)
 }
 
 /// How many bytes a line takes at most, beside what a map's prefix takes in it.
@@ -327,7 +329,7 @@ const LINE: usize = 256;
 pub fn metrics_room(statistics: &Statistics) -> usize {
     let origins = statistics.origins.places().len().saturating_add(1);
     let mut room = origins.saturating_mul(32 * LINE);
-    room = room.saturating_add(128 * LINE);
+    room = room.saturating_add(160 * LINE);
     for map in statistics.maps.maps() {
         let line = map.prefix.size().saturating_mul(3).saturating_add(LINE);
         room = room.saturating_add(line.saturating_mul(16));

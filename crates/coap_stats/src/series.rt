@@ -7,6 +7,7 @@ use crate::metrics::{
 use crate::words::{Word, class_words};
 use coap_counts::{AnswerTimes, MapTable, OriginCounts, OriginTable, RequestCounts};
 use coap_message::{Moment, OutOfMemory};
+use coap_watch::{Holder, Holders};
 
 const MAP_REQUESTS: Metric = Metric {
     name: "coap_proxyd_map_requests_total",
@@ -48,6 +49,24 @@ const ORIGIN_TIMES: Metric = Metric {
     name: "coap_proxyd_origin_answer_seconds",
     kind: "histogram",
     help: "How long an origin server took to respond, from the first transmission.",
+};
+
+const HOLDER: Metric = Metric {
+    name: "coap_proxyd_table_holder_entries",
+    kind: "gauge",
+    help: "What the address had that had most of a table when it was last found full.",
+};
+
+const HOLDER_PORTS: Metric = Metric {
+    name: "coap_proxyd_table_holder_ports",
+    kind: "gauge",
+    help: "With how many of its ports it had that.",
+};
+
+const HOLDER_AGE: Metric = Metric {
+    name: "coap_proxyd_table_holder_seconds_since",
+    kind: "gauge",
+    help: "Full seconds since that was found.",
 };
 
 /// Adds what became of the requests that went one way.
@@ -259,4 +278,60 @@ pub(crate) fn put_origins(
     put_answers(out, listen, origins)?;
     put_silences(out, listen, origins, now)?;
     put_all_times(out, listen, origins)
+}
+
+/// One of the numbers of an address that has most of a table.
+#[derive(Clone, Copy)]
+enum HolderNumber {
+    Held,
+    Ports,
+    Age,
+}
+
+impl HolderNumber {
+    /// Its metric.
+    fn metric(self) -> Metric {
+        match self {
+            HolderNumber::Held => HOLDER,
+            HolderNumber::Ports => HOLDER_PORTS,
+            HolderNumber::Age => HOLDER_AGE,
+        }
+    }
+
+    /// The number, at a moment in milliseconds.
+    fn of(self, holder: &Holder, now: Moment) -> u64 {
+        match self {
+            HolderNumber::Held => holder.held,
+            HolderNumber::Ports => holder.ports,
+            HolderNumber::Age => now.saturating_sub(holder.found) / 1000,
+        }
+    }
+}
+
+/// Adds one of the numbers of each address that has most of a table.
+fn put_holder_numbers(
+    out: &mut Vec<u8>,
+    listen: &str,
+    holders: &Holders,
+    (number, now): (HolderNumber, Moment),
+) -> Result<(), OutOfMemory> {
+    let family = family(number.metric(), "", listen);
+    put_head(out, family.metric)?;
+    for holder in holders.all().iter().flatten() {
+        let whose = Whose::Holder(*holder);
+        put_number_of(out, Family { whose, ..family }, number.of(holder, now))?;
+    }
+    Ok(())
+}
+
+/// Adds who had most of each table that was full, at a moment in milliseconds.
+pub(crate) fn put_holders(
+    out: &mut Vec<u8>,
+    listen: &str,
+    holders: &Holders,
+    now: Moment,
+) -> Result<(), OutOfMemory> {
+    put_holder_numbers(out, listen, holders, (HolderNumber::Held, now))?;
+    put_holder_numbers(out, listen, holders, (HolderNumber::Ports, now))?;
+    put_holder_numbers(out, listen, holders, (HolderNumber::Age, now))
 }

@@ -5,13 +5,13 @@ ghost use Rattle.coap_stats.specs.Statistics as spec;
 
 use crate::tally::Tally;
 use crate::turns::{Foreseen, count_opening, count_origin, count_way, is_response};
-use coap_core::{Core, Event, Exchange};
+use coap_core::{Core, Event, Exchange, LimitValues};
 use coap_counts::{MapTable, OpeningCounts, OriginTable};
 use coap_endpoint::Endpoint;
 use coap_message::{MessageRef, Moment, OutOfMemory};
 use coap_store::{Evictions, Store};
 use coap_target::Routes;
-use coap_watch::{Seen, Watch};
+use coap_watch::{Holders, Seen, Watch};
 use std::alloc::Global;
 
 /// How many origins have counts of their own, besides those of maps.
@@ -27,6 +27,8 @@ pub struct Statistics {
     pub openings: OpeningCounts,
     /// What the cache evicted to make room.
     pub evictions: Evictions,
+    /// Who had most of each table that was full.
+    pub holders: Holders,
     /// What was known of the turn before its step.
     foreseen: Foreseen,
 }
@@ -83,11 +85,15 @@ fn note_evictions<S: Store>(evictions: &mut Evictions, store: &S)
 }
 
 impl Statistics {
-    /// Nothing yet, of a proxy with these routes. Allocates all that is ever needed.
+    /// Nothing yet, of a proxy with these routes and limits. Allocates all that is ever needed.
     ///
     /// # Errors
     /// Out of memory.
-    pub fn new(alloc: Global, routes: &Routes) -> Result<Statistics, OutOfMemory>
+    pub fn new(
+        alloc: Global,
+        routes: &Routes,
+        limits: &LimitValues,
+    ) -> Result<Statistics, OutOfMemory>
         ensures tally { IfOk result (λ s. s.tally ≡ spec.no_tally) }
         ensures maps { IfOk result (λ s. s.maps ≡ spec.no_ways routes.now) }
         ensures origins { IfOk result
@@ -103,6 +109,7 @@ impl Statistics {
             origins: OriginTable::new(alloc, places)?,
             openings: OpeningCounts::new(),
             evictions: Evictions::new(),
+            holders: Holders::new(alloc, limits)?,
             foreseen: Foreseen::nothing(),
         })
     }
@@ -123,5 +130,6 @@ impl Watch for Statistics {
         count_origin(&mut self.origins, turn, self.foreseen);
         count_opening(&mut self.openings, turn, core);
         note_evictions(&mut self.evictions, core.store());
+        self.holders.look(turn, core);
     }
 }

@@ -22,8 +22,10 @@
 #![tactic(auto)]
 
 mod both;
+mod holders;
 mod laws;
 mod watch;
 
 pub use both::Both;
+pub use holders::{Holder, Holders, SharedTable};
 pub use watch::{Seen, Unwatched, Watch};

@@ -67,7 +67,8 @@ next proxy]",
         name: "map",
         letter: None,
         value: Value::Text("PREFIX=URI"),
-        help: "One more map, after those of the file: a path prefix and its origin [default: none]",
+        help: "A map after those of the file, at most once: a path prefix and its origin [default: \
+none]",
     },
     Row {
         name: "replay",

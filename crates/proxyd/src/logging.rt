@@ -71,7 +71,7 @@ pub(crate) fn logger_of<'a>(
     let Ok(journal) = Journal::new(rt) else {
         return Err(Fault::Socket);
     };
-    match Logger::new(rt.alloc(), journal) {
+    match Logger::new(rt.alloc(), journal, plan.limits.values()) {
         Ok(logger) => Ok(Some(logger)),
         Err(_) => Err(Fault::OutOfMemory),
     }

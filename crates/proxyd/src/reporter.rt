@@ -64,7 +64,7 @@ pub(crate) fn listen_text(rt: &HostRuntime, local: Endpoint) -> Result<String, O
 
 /// Counts that are all zero, and room for their text.
 fn counters(rt: &HostRuntime, plan: &Plan) -> Result<(Statistics, Vec<u8>), OutOfMemory> {
-    let statistics = Statistics::new(rt.alloc(), &plan.routes)?;
+    let statistics = Statistics::new(rt.alloc(), &plan.routes, plan.limits.values())?;
     let text = Vec::with_capacity(rt.alloc(), metrics_room(&statistics))?;
     Ok((statistics, text))
 }

@@ -13,7 +13,7 @@ fn coap_stats(rt: HostRuntime) -> Result<(), Fail> {
     let limits = Limits::new(LimitValues::default())?;
     let mut core = fixtures::core(alloc)?;
     let mut port = fixtures::ticking_at(alloc, 2_000)?;
-    let mut statistics = Statistics::new(alloc, core.routes())?;
+    let mut statistics = Statistics::new(alloc, core.routes(), core.limits().values())?;
     drive_watched(alloc, &mut core, &mut port, &mut statistics, 1)?;
     let mut text = Vec::new(alloc);
     put_line(&mut text, &statistics, &core.counts(), limits.values())?;

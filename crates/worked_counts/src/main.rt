@@ -3,6 +3,7 @@
 //! that each stands where it belongs.
 #![tactic(auto)]
 
+mod holders;
 mod numbers;
 mod origins;
 mod ways;
@@ -39,12 +40,13 @@ fn limits() -> LimitValues {
 fn main(rt: HostRuntime) -> anyhow::Result<()> {
     let alloc = rt.alloc();
     let routes = ways::routes(alloc)?;
-    let mut statistics = Statistics::new(alloc, &routes)?;
+    let mut statistics = Statistics::new(alloc, &routes, &limits())?;
     statistics.tally = numbers::TALLY;
     statistics.openings = numbers::OPENINGS;
     statistics.evictions = numbers::EVICTIONS;
     ways::count(&mut statistics.maps, &routes);
     statistics.origins = origins::counted(alloc)?;
+    holders::note(&mut statistics.holders);
 
     let mut text = Vec::new(alloc);
     put_line(&mut text, &statistics, &HELD, &limits())?;
