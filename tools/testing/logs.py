@@ -4,6 +4,7 @@ import errno
 import fcntl
 import os
 import pty
+import random
 import re
 import subprocess
 import tempfile
@@ -13,7 +14,7 @@ from urllib.parse import unquote_to_bytes
 from testing.coap import ACK, BLOCK2, CON, CONTENT, EMPTY, GATEWAY_TIMEOUT, GET, NON, RST, URI_PATH, message
 from testing.network import PATIENCE, Failed, Stage, case_list, expect, expect_between, free_port
 from testing.recordings import limited
-from testing.steps import T, TEMP, max_age
+from testing.steps import T, TEMP, max_age, path
 
 # Functions that try a program, and the stand-ins that they must find wrong.
 CASES, case = case_list()
@@ -64,13 +65,13 @@ class Log:
         raise Failed(f"expected {count} lines {word}, got {self.lines()}")
 
     def await_dropped(self, count):
-        """How many lines of dropped messages were written, and how many each other line says were left out, once these
-        are so many."""
+        """How many lines of dropped messages, and of who has most of their table, were written, and how many each other
+        line says were left out, once these are so many."""
         until, dropped, left_out = time.monotonic() + PATIENCE, 0, []
         while dropped + sum(left_out) < count and time.monotonic() < until:
             time.sleep(0.05)
             lines = self.lines()
-            dropped = sum(word == "dropped" for word, _ in lines)
+            dropped = sum(word in ("dropped", "full") for word, _ in lines)
             left_out = [int(values["lines"]) for word, values in lines if word == "left_out"]
         return dropped, left_out
 
@@ -176,6 +177,40 @@ def messages_that_are_dropped(program):
         log.expect_line("dropped", 2, client=authority(other), con="1/1", client_con="1/1")
 
 
+@case("PortsUncounted", "LinesTwice")
+def who_has_most_of_a_full_table(program):
+    with Stage(program) as stage:
+        log = Log(stage, "con_records = 16\nclient_con_records = 3\nexchanges = 2\nclient_exchanges = 1")
+        host, nowhere = "127.1.%d.%d" % tuple(random.randrange(1, 255) for _ in range(2)), path("nowhere")
+        first, second = (stage.peer(host=host, to=log.address) for _ in range(2))
+        for client, count in ((log.client, 2), (first, 2), (second, 3), (log.client, 1)):
+            for _ in range(count):
+                client.request(GET, nowhere)
+        second.request(GET, nowhere)
+        about = {"count": "8/16", "address": host, "has": 5, "ports": 2}
+        log.expect_line("full", 1, table="con_records", **about)
+        # In the next minute it isn't said again, of whatever table.
+        first.request(GET, nowhere)
+        first.request(GET, nowhere)
+        log.await_lines("dropped", 2)
+        first.request(GET, [T], kind=NON)
+        first.request(GET, [T, (URI_PATH, b"x")], kind=NON)
+        log.await_lines("failed", 1)
+        expect("how often it is said", 1, len(log.await_lines("full")))
+
+
+@case("PortsUncounted", "ClientIsTheFirst")
+def who_has_most_of_the_exchanges(program):
+    with Stage(program) as stage:
+        log = Log(stage, "exchanges = 3\nclient_exchanges = 2\nexchange_ms = 20000")
+        for name in (b"a", b"b", b"c"):
+            log.client.request(GET, [T, (URI_PATH, name)], kind=NON)
+        about = {"count": "2/3", "address": log.client.host, "has": 2, "ports": 1}
+        log.expect_line("full", 1, table="exchanges", **about)
+        log.expect_line("failed", 1, client=authority(log.client), code="5.03", target=log.target + "/c", cause="room",
+                        client_exchanges="2/2")
+
+
 @case("LineFeedForges", "BlankForges")
 def no_byte_of_a_peer_forges_anything(program):
     with Stage(program) as stage:
@@ -202,11 +237,11 @@ def more_lines_than_are_written(program):
         for _ in range(200):
             log.client.request(GET, [], kind=NON)
         # While they come slowly, a line may be written now and then, with one before it that counts those left out.
-        dropped, left_out = log.await_dropped(199)
+        dropped, left_out = log.await_dropped(200)
         more = 5 * (time.monotonic() - begun)
         expect_between("how many lines were written", 20, 20 + more, dropped)
         expect_between("how many lines say what was left out", 1, 1 + more, len(left_out))
-        expect("how many were written and left out", 199, dropped + sum(left_out))
+        expect("how many were written and left out", 200, dropped + sum(left_out))
 
 
 @case("WaitsForReaders")

@@ -90,6 +90,19 @@ def the_file_has_what_was_sent(stage):
     expect("files beside it", ["counts.prom"], [name for name in os.listdir(stage.folder) if "counts" in name])
 
 
+@case("NotCounted")
+def who_has_most_of_a_full_table(stage):
+    path = os.path.join(stage.folder, "counts.prom")
+    limits = "[limits]\ncon_records = 8\nclient_con_records = 2\n"
+    client = stage.peer(to=stage.proxy("--stats", "1", "--stats-file", path, config=limits, version=2))
+    for _ in range(3):
+        client.request(GET, [T])
+    holder = f'table="con_records",address="{client.host}"'
+    numbers = await_metric(path, f"coap_proxyd_table_holder_entries{{{holder}}}", 2)
+    expect("its ports", 1, numbers[f"coap_proxyd_table_holder_ports{{{holder}}}"])
+    expect_between("since when", 0, 20, numbers[f"coap_proxyd_table_holder_seconds_since{{{holder}}}"])
+
+
 # Limits of which no two are the same, by their keys in a configuration and in the counts.
 LIMITS = {
     "cache_bytes": ("cached_bytes", 20_000), "cache_entries": ("entries", 30), "con_records": ("con_records", 31),
