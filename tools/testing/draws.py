@@ -1,0 +1,49 @@
+"""What the program draws as it starts: the first Message ID and the salt of its tokens, which nobody is to foretell."""
+
+import os
+import re
+import socket
+import subprocess
+import tempfile
+import time
+from concurrent.futures import ThreadPoolExecutor
+
+from testing.coap import CON, EMPTY, message
+from testing.network import PATIENCE, Failed, case_list, expect, free_port
+
+CASES, case = case_list()
+# So many starts leave a bit that is drawn the same once in 2^63 tries.
+STARTS, AT_ONCE = 64, 8
+HEAD = re.compile(r"# coap-proxyd \S+ --replay (?:.* )?--id ([0-9]+) --salt ([0-9]+)(?: .*)?\n")
+
+
+def drawn(program):
+    """The first Message ID and the salt of a start, which its recording says."""
+    with tempfile.TemporaryDirectory(prefix="coap-proxyd-test-") as folder, socket.socket(type=socket.SOCK_DGRAM) as peer:
+        path, port = os.path.join(folder, "run.events"), free_port()
+        words = ["-A", "127.0.0.1", "-p", str(port), "--turns", "1", "--record", path]
+        process, until = subprocess.Popen([*program, *words], stderr=subprocess.DEVNULL), time.monotonic() + PATIENCE
+        while process.poll() is None and time.monotonic() < until:
+            peer.sendto(message(CON, EMPTY, 1), ("127.0.0.1", port))
+            time.sleep(0.01)
+        if process.poll() is None:
+            process.kill()
+            raise Failed("it doesn't end after one turn")
+        with open(path) as recording:
+            head = HEAD.fullmatch(recording.readline())
+    expect("whether a recording begins with what was drawn", True, head is not None)
+    return int(head[1]), int(head[2])
+
+
+def constant_bits(numbers, width):
+    """The bits below this width that are the same in all numbers."""
+    return [bit for bit in range(width) if len({number >> bit & 1 for number in numbers}) == 1]
+
+
+@case("IdIsOdd", "SaltIsShort")
+def each_bit_is_drawn(program):
+    with ThreadPoolExecutor(AT_ONCE) as pool:
+        ids, salts = zip(*pool.map(lambda _: drawn(program), range(STARTS)))
+    expect("bits of the first Message ID that are always the same", [], constant_bits(ids, 16))
+    expect("bits of the salt that are always the same", [], constant_bits(salts, 63))
+    expect("whether a salt has 63 bits at most", True, max(salts) < 1 << 63)
