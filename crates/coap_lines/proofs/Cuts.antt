@@ -17,7 +17,7 @@ cut-later : (byte b : ℕ) (text : List ℕ) → (b == byte) ≡ false → cut b
 cut-later byte b text miss = ap (λ t. cond t (Some ([], text)) (option_map (with_front b) (cut byte text))) miss
 
 -- a text without the byte isn't cut
-cut-without : (byte : ℕ) (text : List ℕ) → has byte text ≡ false → cut byte text ≡ None
+pub cut-without : (byte : ℕ) (text : List ℕ) → has byte text ≡ false → cut byte text ≡ None
 cut-without byte [] none = refl
 cut-without byte (b ∷ text) none =
     let parts = or_parts (b == byte) (has byte text) none in

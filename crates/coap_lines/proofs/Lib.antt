@@ -9,8 +9,11 @@ pub mod InputLines
 pub mod LineByLine
 pub mod NextLines
 pub mod Numerals
+pub mod NumbersBefore
 pub mod Pieces
 pub mod ReadAgain
 pub mod ScriptTurns
+pub mod Sources
 pub mod TurnTexts
+pub mod TurnsRead
 pub mod WrittenTurns

@@ -1,5 +1,6 @@
 -- Endpoints as texts: `a.b.c.d:port`, and `[g:g:g:g:g:g:g:g]:port`.
 use Rattle.std.specs.Prelude.{◌≡◌, ◌==◌, ◌/◌, ◌%◌, ℕ, false, List, [], ◌∷◌, ◌++◌, length, map, codes, Option, Some, None, option_map, if◌then◌else◌}
+use Rattle.std.specs.Borrow.{Bor}
 use Rattle.std.specs.Fmt.{decimal, digit_glyph}
 use Rattle.std.specs.List.{AllZip, join_with_byte, slice_split}
 use Rattle.std.specs.Net.Addr.{octets_of}
@@ -11,8 +12,8 @@ use Rattle.coap_endpoint.specs.declared.endpoint.Ip.TheVariants.{V4, V6}
 use Rattle.coap_uri.specs.Address.{address_text, ipv4_of}
 use Rattle.coap_target.specs.RouteTexts.{all_of}
 use Rattle.coap_message.specs.Reading.{◌>>=◌}
-use Rattle.coap_lines.specs.Texts.{colon, cut, left_bracket, right_bracket}
-use Rattle.coap_lines.specs.Numbers.{IsNumber, group_of, number_of}
+use Rattle.coap_lines.specs.Texts.{colon, cut, dot, left_bracket, right_bracket, space}
+use Rattle.coap_lines.specs.Numbers.{IsNumber, group_of, number_before, number_of}
 
 -- eight groups of one to four hexadecimal digits each, with colons between them
 abbrev pub AreGroups : List ℕ → List ℕ → Type 0
@@ -64,6 +65,32 @@ v6_endpoint text = do
 abbrev pub endpoint_of : List ℕ → Option Endpoint
 endpoint_of [] = None
 endpoint_of (b ∷ text) = if b == left_bracket then v6_endpoint text else v4_endpoint (b ∷ text)
+
+-- the endpoint and the text that a call returns, which is borrowed
+abbrev pub source_seen : Option (Endpoint × Bor (List ℕ)) → Option (Endpoint × List ℕ)
+source_seen found = option_map (λ p. (p.0, p.1.now)) found
+
+-- the endpoint of an IPv4 address and a port before a space, and what follows that space
+unfoldable pub v4_source : List ℕ → Option (Endpoint × List ℕ)
+v4_source text = do
+  a ← number_before dot 255 text
+  b ← number_before dot 255 a.1
+  c ← number_before dot 255 b.1
+  d ← number_before colon 255 c.1
+  port ← number_before space 65535 d.1
+  Some (endpoint_at (V4 (a.0 ∷ b.0 ∷ c.0 ∷ d.0 ∷ [])) port.0, port.1)
+
+-- the same of an IPv6 address, after the opening bracket
+unfoldable pub v6_source : List ℕ → Option (Endpoint × List ℕ)
+v6_source text = do
+  parts ← cut space text
+  from ← v6_endpoint parts.0
+  Some (from, parts.1)
+
+-- the endpoint before a space, and what follows that space
+abbrev pub source_of : List ℕ → Option (Endpoint × List ℕ)
+source_of [] = None
+source_of (b ∷ text) = if b == left_bracket then v6_source text else v4_source (b ∷ text)
 
 -- the last three hexadecimal digits of a number, in lower case
 abbrev pub three_digits : ℕ → List ℕ

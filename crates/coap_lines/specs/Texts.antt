@@ -9,6 +9,9 @@ space = 0x20
 abbrev pub line_feed : ℕ
 line_feed = 0x0A
 
+abbrev pub dot : ℕ
+dot = 0x2E
+
 abbrev pub colon : ℕ
 colon = 0x3A
 

@@ -1,13 +1,14 @@
 //! Endpoints as texts: `a.b.c.d:port`, and `[g:g:g:g:g:g:g:g]:port`.
-ghost use Rattle.std.specs.Prelude.{◌≡◌, option_map};
+ghost use Rattle.std.specs.Prelude.{◌≡◌, ◌≤◌, IfSome, false, length, option_map};
+ghost use Rattle.std.specs.Char.{is_ascii_digit};
 ghost use Rattle.std.specs.Net.Reader.{read_byte};
-ghost use Rattle.coap_lines.specs.Endpoints.{endpoint_of, segments_read, v4_endpoint, v6_endpoint};
-ghost use Rattle.coap_lines.specs.Numbers.{number_of};
+ghost use Rattle.coap_lines.specs.Endpoints.{segments_read, source_of, source_seen, v4_source, v6_endpoint, v6_source};
+ghost use Rattle.coap_lines.specs.Numbers.{number_before, number_of, number_seen};
 
 use crate::reading::cutting::cut;
-use crate::reading::number::{read_group, read_number};
+use crate::reading::number::{read_group, read_number, read_number_before};
 use coap_endpoint::{Endpoint, Ip};
-use coap_uri::{first_part, read_ipv4};
+use coap_uri::first_part;
 use std::net::Ipv6Addr;
 
 /// Parses a port, 0 to 65,535.
@@ -43,15 +44,33 @@ fn read_segments(text: &[u8]) -> Option<[u16; 8]>
     }
 }
 
-/// The endpoint of an IPv4 address and a port.
-#[tactic(auto, unfolding(crate::specs::Endpoints::v4_endpoint))]
-fn read_v4(text: &[u8]) -> Option<Endpoint>
-    ensures { result ≡ v4_endpoint text.now }
+/// The number of an octet before the first such byte, which isn't a digit, and what follows it.
+fn read_octet_before(text: &[u8], byte: u8) -> Option<(u8, &[u8])>
+    requires { is_ascii_digit byte ≡ false }
+    ensures read { number_seen result ≡ number_before byte 255 text.now }
+    ensures shorter { IfSome result (λ found. length found.1.now ≤ length text.now) }
 {
-    let (address, port) = cut(text, b':')?;
-    let ip = Ip::V4(read_ipv4(address)?);
-    let port = read_port(port)?;
-    Some(Endpoint { ip, port })
+    let (octet, rest) = read_number_before(text, byte, 255)?;
+    Some((octet as u8, rest))
+}
+
+/// The endpoint of an IPv4 address and a port before a space, and what follows that space. It goes
+/// over the text once.
+#[tactic(auto, unfolding(crate::specs::Endpoints::v4_source))]
+fn read_v4_source(text: &[u8]) -> Option<(Endpoint, &[u8])>
+    ensures read { source_seen result ≡ v4_source text.now }
+    ensures shorter { IfSome result (λ found. length found.1.now ≤ length text.now) }
+{
+    let (a, rest) = read_octet_before(text, b'.')?;
+    let (b, rest) = read_octet_before(rest, b'.')?;
+    let (c, rest) = read_octet_before(rest, b'.')?;
+    let (d, rest) = read_octet_before(rest, b':')?;
+    let (port, rest) = read_number_before(rest, b' ', 65_535)?;
+    let endpoint = Endpoint {
+        ip: Ip::V4([a, b, c, d]),
+        port: port as u16,
+    };
+    Some((endpoint, rest))
 }
 
 /// What follows a leading colon.
@@ -79,13 +98,25 @@ fn read_v6(text: &[u8]) -> Option<Endpoint>
     })
 }
 
-/// The endpoint that a text encodes.
-pub(crate) fn read_endpoint(text: &[u8]) -> Option<Endpoint>
-    ensures { result ≡ endpoint_of text.now }
+/// The same before a space, and what follows that space.
+#[tactic(auto, unfolding(crate::specs::Endpoints::v6_source))]
+fn read_v6_source(text: &[u8]) -> Option<(Endpoint, &[u8])>
+    ensures read { source_seen result ≡ v6_source text.now }
+    ensures shorter { IfSome result (λ found. length found.1.now ≤ length text.now) }
+{
+    let (source, rest) = cut(text, b' ')?;
+    let endpoint = read_v6(source)?;
+    Some((endpoint, rest))
+}
+
+/// The endpoint before a space, and what follows that space.
+pub(crate) fn read_source(text: &[u8]) -> Option<(Endpoint, &[u8])>
+    ensures read { source_seen result ≡ source_of text.now }
+    ensures shorter { IfSome result (λ found. length found.1.now ≤ length text.now) }
 {
     match text {
         [] => None,
-        [b'[', inner @ ..] => read_v6(inner),
-        _ => read_v4(text),
+        [b'[', inner @ ..] => read_v6_source(inner),
+        _ => read_v4_source(text),
     }
 }

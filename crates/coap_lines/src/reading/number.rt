@@ -1,8 +1,8 @@
 //! Numbers as texts.
-ghost use Rattle.std.specs.Prelude.{◌≡◌, ◌==◌, ◌&&◌, ◌||◌, ◌≤◌, ◌<◌, length, nat_lt, nat_le, slice_index, IfSome};
-ghost use Rattle.std.specs.Char.{is_digit};
+ghost use Rattle.std.specs.Prelude.{◌≡◌, ◌==◌, ◌&&◌, ◌||◌, ◌≤◌, ◌<◌, false, length, nat_lt, nat_le, slice_index, IfSome};
+ghost use Rattle.std.specs.Char.{is_ascii_digit, is_digit};
 ghost use Rattle.std.specs.List.{list_all};
-ghost use Rattle.coap_lines.specs.Numbers.{group_of, number_of};
+ghost use Rattle.coap_lines.specs.Numbers.{group_of, number_before, number_of, number_seen};
 
 /// Whether a text is empty, or begins with a zero before another byte.
 fn has_wrong_start(text: &[u8]) -> bool
@@ -31,6 +31,27 @@ pub(crate) fn read_number(text: &[u8], most: u64) -> Option<u64>
         number = number.checked_mul(10)?.checked_add(u64::from(byte - b'0'))?;
     }
     if number <= most { Some(number) } else { None }
+}
+
+/// The number, at most `most`, that a text gives in decimal digits before the first such byte, and
+/// what follows that byte, which isn't a digit.
+pub(crate) fn read_number_before(text: &[u8], byte: u8, most: u64) -> Option<(u64, &[u8])>
+    requires { is_ascii_digit byte ≡ false }
+    ensures read { number_seen result ≡ number_before byte most text.now }
+    ensures within { IfSome result (λ found. found.0 ≤ most) }
+    ensures shorter { IfSome result (λ found. length found.1.now ≤ length text.now) }
+{
+    let mut number: u64 = 0;
+    for (place, &next) in text.iter().enumerate() {
+        if !next.is_ascii_digit() {
+            if next != byte || number > most || has_wrong_start(&text[..place]) {
+                return None;
+            }
+            return Some((number, &text[place + 1..]));
+        }
+        number = number.checked_mul(10)?.checked_add(u64::from(next - b'0'))?;
+    }
+    None
 }
 
 /// Whether all bytes are hexadecimal digits, in either case.

@@ -4,10 +4,9 @@ ghost use Rattle.coap_lines.specs.Answers.{Finds};
 ghost use Rattle.coap_lines.specs.Turns.{arrival_of, event_of, turn_of, turn_seen};
 ghost use Rattle.coap_model.specs.Events.{event_given};
 
-use crate::reading::cutting::cut;
 use crate::reading::datagram::read_bytes;
-use crate::reading::endpoint::read_endpoint;
-use crate::reading::number::read_number;
+use crate::reading::endpoint::read_source;
+use crate::reading::number::read_number_before;
 use coap_endpoint::Endpoint;
 use coap_message::{Datagram, LAST_MOMENT, MOST_JITTER, Moment};
 
@@ -23,15 +22,13 @@ pub struct Turn {
 }
 
 /// The source of the datagram that a text encodes, whose bytes replace what the buffer holds.
-#[tactic(auto, unfolding(crate::specs::Turns::arrival_of))]
 fn read_arrival(text: &[u8], into: &mut Datagram) -> Option<Endpoint>
     requires { length text.now / 2 ≤ into.old.room }
     ensures read { Finds (λ from. event_given (Some from)) (arrival_of text.now) result
         into.new.bytes }
     ensures room { into.new.room ≡ into.old.room }
 {
-    let (source, hex) = cut(text, b' ')?;
-    let from = read_endpoint(source)?;
+    let (from, hex) = read_source(text)?;
     read_bytes(hex, into)?;
     Some(from)
 }
@@ -58,16 +55,13 @@ fn read_event(text: &[u8], into: &mut Datagram) -> Option<Option<Endpoint>>
 /// The bytes of a datagram replace what the buffer holds, which has room for half as many as the
 /// line is long, so that this doesn't allocate. If the line encodes no such turn, there is no
 /// result, and what the buffer holds isn't specified.
-#[tactic(auto, unfolding(crate::specs::Turns::turn_of))]
 pub fn read_turn(line: &[u8], last: Moment, into: &mut Datagram) -> Option<Turn>
     requires { length line.now / 2 ≤ into.old.room }
     ensures read { Finds turn_seen (turn_of last line.now) result into.new.bytes }
     ensures room { into.new.room ≡ into.old.room }
 {
-    let (moment, rest) = cut(line, b' ')?;
-    let (draw, text) = cut(rest, b' ')?;
-    let now = read_number(moment, LAST_MOMENT)?;
-    let draw = read_number(draw, u64::from(MOST_JITTER))?;
+    let (now, rest) = read_number_before(line, b' ', LAST_MOMENT)?;
+    let (draw, text) = read_number_before(rest, b' ', u64::from(MOST_JITTER))?;
     let from = read_event(text, into)?;
     if now < last {
         return None;
