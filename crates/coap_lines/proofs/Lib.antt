@@ -11,6 +11,7 @@ pub mod LineByLine
 pub mod NextLines
 pub mod Numerals
 pub mod NumbersBefore
+pub mod OctetTexts
 pub mod Pieces
 pub mod ReadAgain
 pub mod ScriptTurns
