@@ -22,9 +22,9 @@ COUNTS, STAMP = "/run/coap-proxyd/coap-proxyd.prom", "Nov 28 12:51:01 vm coap-pr
 JOURNALCTL = 'journalctl() {{ case "$*" in *"-o cat"*) cat "{0}" ;; *) sed "s/^/{1}/" "{0}" ;; esac; }}'
 
 
-def blocks():
-    """The blocks of commands and of output in the section."""
-    text = read(TOP, "docs", "TRYING.md").partition(SECTION)[2].partition("\n## ")[0]
+def blocks(section=SECTION):
+    """The blocks of commands and of output in a section."""
+    text = read(TOP, "docs", "TRYING.md").partition(section)[2].partition("\n## ")[0]
     return [textwrap.dedent(it).strip("\n") for it in re.findall(r"(?:^    .*\n)+", text, re.MULTILINE)]
 
 
