@@ -1,5 +1,4 @@
-"""The commands in the documents: what they call the program or a tool with exists, and those of two sections of
-docs/TRYING.md, which replay events, print what stands behind them."""
+"""What stands in documents: options in commands exist, replays print what they should, and an invariant is proved."""
 
 import os
 import re
@@ -9,7 +8,7 @@ import tempfile
 
 from testing.network import expect
 from testing.questions import blocks
-from testing.script import OPTION, TOP, read
+from testing.script import TOP, read
 
 PAGES = "README CONTRIBUTING docs/TRYING docs/REPLAY docs/SCALING docs/DEPLOYING docs/BUILDING".split()
 # An indented line, or what stands between backquotes.
@@ -26,23 +25,17 @@ FOUND = [("coap-proxyd-ladder", "--sgv"), ("./coap-proxyd", "--colour"), ("tools
 
 def calls(text):
     """The calls of the program and of tools in a page: the name, if there is one, and the options of each."""
-    for parts in CODE.findall(text):
-        for name, words in CALL.findall("".join(parts)):
-            yield name, GIVEN.findall(words)
+    found = [call for parts in CODE.findall(text) for call in CALL.findall("".join(parts))]
+    return [(name, GIVEN.findall(words)) for name, words in found]
 
 
 def options_of(program, name):
-    """The options of the program, of the script that runs it, whose own stand at its head, or of a tool. To some tools
-    the program's are given, too."""
-    words = subprocess.run([*program, "--help"], stdout=subprocess.PIPE, text=True, timeout=20).stdout
-    known = {it for option in OPTION.findall(words) for it in option[:2]}
-    if name == "./coap-proxyd":
-        known.update(re.findall(r"^#   (--\w+)", read(TOP, "coap-proxyd"), re.MULTILINE))
-    if name in ("", "coap-proxyd", "./coap-proxyd"):
-        return known
+    """The options of the program, of the script that runs it (its head), or of a tool, which may take both."""
     tool = os.path.join(TOP, "tools", re.sub("^(tools/|coap-proxyd-)", "", name))
-    done = subprocess.run([tool, "--help"], stdin=subprocess.DEVNULL, capture_output=True, text=True, timeout=20)
-    return set(GIVEN.findall(done.stdout + done.stderr)).union(known if "[WORD ..]" in done.stdout else ())
+    words = program if name in ("", "coap-proxyd", "./coap-proxyd") else [tool]
+    done = subprocess.run([*words, "--help"], stdin=subprocess.DEVNULL, capture_output=True, text=True, timeout=20)
+    text = done.stdout + done.stderr + (read(TOP, "coap-proxyd").partition("\ntop=")[0] if name[:1] == "." else "")
+    return set(GIVEN.findall(text)).union(options_of(program, "") if "[WORD ..]" in text else ())
 
 
 def unknown(program, given):
@@ -55,25 +48,31 @@ def options_exist(program):
     given = [call for page in PAGES for call in calls(read(TOP, f"{page}.md"))]
     expect("whether there are calls", True, len(given) > 40)
     expect("which options don't exist", [], unknown(program, given))
-    expect("what is found of faults", FOUND, unknown(program, list(calls(FAULTS))))
+    expect("what is found of faults", FOUND, unknown(program, calls(FAULTS)))
 
 
 def replays_print_what_stands_there(program):
+    top, words = shlex.quote(TOP), " ".join(map(shlex.quote, program))
+    ladder = f"{top}/tools/ladder --program {program[-1]}"
+    paths = {"./coap-proxyd": words, "tools/ladder": ladder, " examples/": f" {top}/examples/"}
     for section in ("A night's incident", "The same questions, of a recording"):
         # what a command prints begins with a digit or a number sign
         every = blocks(f"\n## {section}\n")
         pairs = [(it, after) for it, after in zip(every, [*every[1:], "end"]) if it[0].isalpha()]
         wanted = [line for _, after in pairs for line in [*([] if after[0].isalpha() else after.splitlines()), "end"]]
+        script = "exec 2>&1 < /dev/null\n" + "".join(f"{command}\necho end\n" for command, _ in pairs)
+        script = re.sub("|".join(map(re.escape, paths)), lambda it: paths[it[0]], script)
         with tempfile.TemporaryDirectory(prefix="coap-proxyd-test-") as folder:
-            os.mkdir(os.path.join(folder, "tools"))
-            os.symlink(os.path.join(TOP, "examples"), os.path.join(folder, "examples"))
-            ladder = [os.path.join(TOP, "tools", "ladder"), "--program", os.path.join(folder, "coap-proxyd")]
-            for name, words in (("coap-proxyd", program), ("tools/ladder", ladder)):
-                with open(os.path.join(folder, name), "w", opener=lambda *it: os.open(*it, 0o755)) as file:
-                    file.write(f'#!/bin/sh\nexec {" ".join(map(shlex.quote, words))} "$@"\n')
-            words = ["bash", "-c", "exec 2>&1 < /dev/null\n" + "".join(f"{it}\necho end\n" for it, _ in pairs)]
-            done = subprocess.run(words, stdout=subprocess.PIPE, text=True, cwd=folder, timeout=60)
+            done = subprocess.run(["bash", "-c", script], stdout=subprocess.PIPE, text=True, cwd=folder, timeout=60)
         expect(f"what {section} prints", [it.split() for it in wanted], [it.split() for it in done.stdout.splitlines()])
 
 
-CASES = (options_exist, replays_print_what_stands_there)
+def an_invariant_is_that_of_a_test(_):
+    paths = ("src/failing.rt", "proofs/failing/FailingPort/new/Invariants.antt")
+    texts = [re.sub("^ {8}", "", read(TOP, "crates", "test_ports", it), flags=re.MULTILINE) for it in paths]
+    parts = re.findall(r"^```(\w*)\n(.*?)^```$", read(TOP, "docs", "EMBEDDING.md"), re.DOTALL | re.MULTILINE)
+    found = [[code in text for text in texts] for language, code in parts if not language]
+    expect("which parts are compiled", [[True, False], [False, True]], found)
+
+
+CASES = (options_exist, replays_print_what_stands_there, an_invariant_is_that_of_a_test)
