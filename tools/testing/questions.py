@@ -93,8 +93,9 @@ def each_command_prints_what_the_page_says(program):
             known = set(map(form_of, wanted))
             expect(f"what {command!r} prints, beside what the page says", [], [it for it in lines if form_of(it) not in known])
             found.append([" ".join(it.split()) for it in lines])
-    why, silent_ones, hits, evicted = found[:4]
+    why, silent_ones, hits, evicted, flooding = found
     expect("how many clients got 5.04", 1, len(why))
     expect("the silent device", True, silent_ones[0].endswith(f'origin="{silent.authority}"}} 1'))
     expect("the hits", ["0 of 1 /d7", "1 of 3 /d1"], hits)
     expect("what made room", ["evicted=1 evicted_fresh=1"], [" ".join(it.split(" ")[:2]) for it in evicted])
+    expect("who floods", [f"address={FLOODING} has=4 ports=1"], [it.partition("/4096 ")[2] for it in flooding])
