@@ -97,10 +97,14 @@ def who_has_most_of_a_full_table(stage):
     client = stage.peer(to=stage.proxy("--stats", "1", "--stats-file", path, config=limits, version=2))
     for _ in range(3):
         client.request(GET, [T])
-    holder = f'table="con_records",address="{client.host}"'
-    numbers = await_metric(path, f"coap_proxyd_table_holder_entries{{{holder}}}", 2)
-    expect("its ports", 1, numbers[f"coap_proxyd_table_holder_ports{{{holder}}}"])
-    expect_between("since when", 0, 20, numbers[f"coap_proxyd_table_holder_seconds_since{{{holder}}}"])
+    numbers = await_metric(path, 'coap_proxyd_requests_total{outcome="no_record_room"}', 1)
+    # A stand-in has clients at another address.
+    [name] = [it for it in numbers if it.startswith("coap_proxyd_table_holder_entries{")]
+    labels = name.partition("{")[2]
+    expect("whether the table is told", True, labels.startswith('table="con_records",address="127.'))
+    expect("what the client has", 2, numbers[name])
+    expect("its ports", 1, numbers[f"coap_proxyd_table_holder_ports{{{labels}"])
+    expect_between("since when", 0, 20, numbers[f"coap_proxyd_table_holder_seconds_since{{{labels}"])
 
 
 # Limits of which no two are the same, by their keys in a configuration and in the counts.
