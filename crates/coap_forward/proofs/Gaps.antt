@@ -1,7 +1,7 @@
 -- The request that is sent on, as it is written: its head, then its options, part by part.
 use Rattle.std.proofs.Common.{◌≡◌, ℕ, ◌<◌, ◌≤◌, Bool, true, false, cond, ltb, leb, List, [], ◌∷◌, ◌++◌, length, map, filter, Option, Some, None, Result, Ok, Err, refl, sym, ap, ◌∙◌, subst, append_assoc, arith, lit≤, Bor}
-use Rattle.std.specs.Prelude.{◌&&◌, IfSome, IfOk, option_map, unwrap_or}
-use Rattle.std.specs.List.{AllByRecursion}
+use Rattle.std.specs.Prelude.{◌&&◌, ◌||◌, IfSome, IfOk, option_map, unwrap_or}
+use Rattle.std.specs.List.{list_any, AllByRecursion}
 use Rattle.std.proofs.lemmas.Bool.{lt-leb, le-leb, leb-false, ltb-true, ltb-false, le-ltb}
 use Rattle.std.proofs.lemmas.List.{length-append}
 use Rattle.coap_message.specs.declared.error.Full.{Full}
@@ -87,6 +87,16 @@ in-gap BeforePath number is = let lt = ltb-true 7 number (first-holds (ltb 7 num
 in-gap BeforeQuery number is = let lt = ltb-true 11 number (first-holds (ltb 11 number) (ltb number 15) is) in omega arith
 in-gap BeforeScheme number is = let lt = ltb-true 15 number (first-holds (ltb 15 number) (ltb number 39) is) in omega arith
 in-gap Last number is = let lt = ltb-true 39 number is in omega arith
+
+-- where no option is forwarded, there are none in a gap
+pub no-others : (code : Code) (gap : Gap) (os : List Opt) → list_any (goes_on code) os ≡ false → others_in code gap os ≡ []
+no-others code gap [] none = refl
+no-others code gap (o ∷ os) none = go (goes_on code o) (is_in gap o.number) none (no-others code gap os)
+  where
+    go : (b c : Bool) → (b || list_any (goes_on code) os) ≡ false → (list_any (goes_on code) os ≡ false → others_in code gap os ≡ []) → cond (c && b) (o ∷ others_in code gap os) (others_in code gap os) ≡ []
+    go true c e rest = absurd cc
+    go false true e rest = rest e
+    go false false e rest = rest e
 
 -- the others in a gap are in order after what may stand before it
 pub AreOptions-others : (code : Code) (gap : Gap) (before : ℕ) (os : List Opt) → before ≤ floor_of gap → AreOptions 0 os → AreOptions before (others_in code gap os)

@@ -1,6 +1,7 @@
 -- How the forwarded request is written: the options of its target and the tag, and the others in
 -- the gaps between them.
-use Rattle.std.specs.Prelude.{ℕ, ◌&&◌, Bool, nat_lt, List, [], ◌∷◌, ◌++◌, codes, filter, map, Option, Some, None}
+use Rattle.std.specs.Prelude.{◌≡◌, ℕ, ◌&&◌, Bool, nat_lt, List, [], ◌∷◌, ◌++◌, codes, filter, map, Option, Some, None}
+use Rattle.std.specs.List.{list_any}
 use Rattle.std.specs.Option.{option_map}
 use Rattle.coap_message.specs.declared.code.Code.{Code}
 use Rattle.coap_message.specs.declared.options.Opt.{Opt}
@@ -13,6 +14,7 @@ use Rattle.coap_endpoint.specs.declared.target.Target.{Target}
 use Rattle.coap_forward.specs.Forms.{forwarded, goes_on, merged, tagged, target_options}
 use Rattle.coap_forward.specs.declared.form.Form.{Form}
 use Rattle.coap_forward.specs.declared.form.Gap.{Gap}
+use Rattle.coap_forward.specs.declared.form.Source.{Source}
 use Rattle.coap_forward.specs.declared.form.Gap.TheVariants.{BeforeHost, BeforePort, BeforePath, BeforeQuery, BeforeScheme, Last}
 use Rattle.coap_forward.specs.declared.part.PartValues.{PartValues}
 use Rattle.coap_forward.specs.declared.part.PartValues.TheVariants.{Given, Kept}
@@ -57,6 +59,14 @@ end_of Last = 65535
 -- the options in a gap that are forwarded, of a request with this code
 abbrev pub others_in : Code → Gap → List Opt → List Opt
 others_in code gap options = filter (λ o. is_in gap o.number && goes_on code o) options
+
+-- a request has options that are forwarded
+abbrev pub has_others : Message → Bool
+has_others m = list_any (goes_on m.code) m.options
+
+-- it is known of a form whether its request does
+abbrev pub IsSource : Source → Type 0
+IsSource source = source.others ≡ has_others source.form.request.now
 
 -- what is written for a gap, and for the part after it
 abbrev pub part_of : Message → Gap → List (List ℕ) → List Opt

@@ -12,7 +12,7 @@ ghost use Rattle.coap_option.specs.Screening.{first_refused};
 ghost use Rattle.coap_endpoint.specs.Target.{IsTarget, IsShort};
 ghost use Rattle.coap_endpoint.specs.declared.target.Target.{Target};
 ghost use Rattle.coap_forward.specs.Forms.{goes_on, payload_sent, tag_if_fits, tag_to_send};
-ghost use Rattle.coap_forward.specs.Gaps.{back_in, end_of, floor_of, front_in, is_in, options_in, others_in, part_of, request_in, values_left};
+ghost use Rattle.coap_forward.specs.Gaps.{back_in, end_of, floor_of, front_in, has_others, is_in, options_in, others_in, part_of, request_in, values_left, IsSource};
 ghost use Rattle.coap_forward.specs.Messages.{is_method};
 ghost use Rattle.coap_forward.specs.declared.form.Gap.TheVariants as TheGap;
 
@@ -91,6 +91,14 @@ pub struct Form<'f, 'a, 't> {
     pub tag: Option<&'t [u8]>,
 }
 
+/// A form, and whether any option of its request is forwarded. Of most requests none is, and then
+/// none is looked for in the gaps.
+#[derive(Clone, Copy)]
+struct Source<'f, 'a, 't> {
+    form: Form<'f, 'a, 't>,
+    others: bool,
+}
+
 /// Whether an option of a request with this code is forwarded, given that no option of the request
 /// is refused: the ETags of a GET are for the proxy (RFC 7252, 5.10.6.2).
 fn goes_on(code: Code, option: OptRef<'_>) -> bool
@@ -112,6 +120,18 @@ fn goes_on(code: Code, option: OptRef<'_>) -> bool
     }
 }
 
+/// Whether any option of a request is forwarded.
+fn has_others(request: &MessageRef<'_>) -> bool
+    ensures { result ≡ has_others request.now }
+{
+    for option in request.options() {
+        if goes_on(request.code(), option) {
+            return true;
+        }
+    }
+    false
+}
+
 // ---- options, after one with the number `before`; these return the number of the last option
 
 /// Adds the request's options in a gap that are forwarded.
@@ -119,22 +139,30 @@ fn put_others(
     out: &mut Datagram,
     room: usize,
     before: u16,
-    request: &MessageRef<'_>,
+    source: Source<'_, '_, '_>,
     gap: Gap,
 ) -> Result<u16, Full>
     requires room { room ≤ out.old.room }
     requires held { length out.old.bytes ≤ room }
     requires above { before ≤ floor_of gap }
+    requires known { IsSource source }
     ensures written { Appends out.old out.new room
-        (options_spelling before (others_in request.now.code gap request.now.options))
+        (options_spelling before (others_in source.entry.form.request.now.code gap
+        source.entry.form.request.now.options))
         (unit_of result) }
     ensures last { IfOk result (λ last.
-        last ≡ last_number before (others_in request.now.code gap request.now.options)) }
+        last ≡ last_number before (others_in source.entry.form.request.now.code gap
+        source.entry.form.request.now.options)) }
     ensures below { IfOk result (λ last. last ≤ end_of gap) }
-    ensures in_order { AreOptions 0 request.now.options }
+    ensures in_order { AreOptions 0 source.entry.form.request.now.options }
 {
+    let request = source.form.request;
+    let options = request.options();
+    if !source.others {
+        return Ok(before);
+    }
     let mut last = before;
-    for option in request.options() {
+    for option in options {
         if gap.has(option.number) && goes_on(request.code(), option) {
             put_option(out, room, last, option.number, option.value)?;
             last = option.number;
@@ -176,55 +204,58 @@ fn put_part(
     out: &mut Datagram,
     room: usize,
     before: u16,
-    request: &MessageRef<'_>,
+    source: Source<'_, '_, '_>,
     part: Part<'_>,
 ) -> Result<u16, Full>
     requires room { room ≤ out.old.room }
     requires held { length out.old.bytes ≤ room }
     requires above { before ≤ floor_of part.gap }
+    requires known { IsSource source }
     requires within { AllByRecursion IsShort (values_left part.values) }
     ensures written { Appends out.old out.new room
         (options_spelling before
-        (part_of request.now part.entry.gap (values_left part.entry.values)))
+        (part_of source.entry.form.request.now part.entry.gap (values_left part.entry.values)))
         (unit_of result) }
     ensures last { IfOk result (λ last.
         last
         ≡ last_number before
-        (part_of request.now part.entry.gap (values_left part.entry.values))) }
+        (part_of source.entry.form.request.now part.entry.gap (values_left part.entry.values))) }
     ensures below { IfOk result (λ last. last ≤ end_of part.entry.gap) }
-    ensures in_order { AreOptions 0 request.now.options }
+    ensures in_order { AreOptions 0 source.entry.form.request.now.options }
 {
     let Part { gap, values } = part;
-    let last = put_others(out, room, before, request, gap)?;
+    let last = put_others(out, room, before, source, gap)?;
     put_values(out, room, last, gap.end(), values)
 }
 
 /// Adds the options up to the Uri-Port, and the tag right after the Uri-Host, so that it comes
 /// before other ETags.
-fn put_front(out: &mut Datagram, room: usize, form: Form<'_, '_, '_>) -> Result<u16, Full>
+fn put_front(out: &mut Datagram, room: usize, source: Source<'_, '_, '_>) -> Result<u16, Full>
     requires room { room ≤ out.old.room }
     requires held { length out.old.bytes ≤ room }
-    requires target { IsTarget form.target.now }
-    requires short { IfSome form.tag (λ tag. length tag.now ≤ 8) }
-    ensures written { Appends out.old out.new room (options_spelling 0 (front_in form.entry))
+    requires target { IsTarget source.form.target.now }
+    requires known { IsSource source }
+    requires short { IfSome source.form.tag (λ tag. length tag.now ≤ 8) }
+    ensures written { Appends out.old out.new room (options_spelling 0 (front_in source.entry.form))
         (unit_of result) }
-    ensures last { IfOk result (λ last. last ≡ last_number 0 (front_in form.entry)) }
+    ensures last { IfOk result (λ last. last ≡ last_number 0 (front_in source.entry.form)) }
     ensures below { IfOk result (λ last. last ≤ floor_of TheGap.BeforePath) }
-    ensures in_order { AreOptions 0 form.entry.request.now.options }
+    ensures in_order { AreOptions 0 source.entry.form.request.now.options }
 {
-    let (request, target) = (form.request, form.target);
+    let form = source.form;
+    let target = form.target;
     let host = Part {
         gap: Gap::BeforeHost,
         values: host_of(target),
     };
-    let last = put_part(out, room, 0, request, host)?;
+    let last = put_part(out, room, 0, source, host)?;
     let last = put_values(out, room, last, numbers::ETAG, PartValues::Given(form.tag))?;
     let bytes = u64::from(target.port.unwrap_or(0)).to_be_bytes();
     let port = Part {
         gap: Gap::BeforePort,
         values: port_of(target.port, without_zeros(&bytes)),
     };
-    put_part(out, room, last, request, port)
+    put_part(out, room, last, source, port)
 }
 
 /// Adds the options after the Uri-Port.
@@ -232,32 +263,33 @@ fn put_back(
     out: &mut Datagram,
     room: usize,
     before: u16,
-    form: Form<'_, '_, '_>,
+    source: Source<'_, '_, '_>,
 ) -> Result<u16, Full>
     requires room { room ≤ out.old.room }
     requires held { length out.old.bytes ≤ room }
     requires above { before ≤ floor_of TheGap.BeforePath }
-    requires target { IsTarget form.target.now }
-    ensures { Appends out.old out.new room (options_spelling before (back_in form.entry))
+    requires target { IsTarget source.form.target.now }
+    requires known { IsSource source }
+    ensures { Appends out.old out.new room (options_spelling before (back_in source.entry.form))
         (unit_of result) }
 {
-    let (request, target) = (form.request, form.target);
+    let target = source.form.target;
     let path = Part {
         gap: Gap::BeforePath,
         values: PartValues::Kept(target.path.iter()),
     };
-    let last = put_part(out, room, before, request, path)?;
+    let last = put_part(out, room, before, source, path)?;
     let query = Part {
         gap: Gap::BeforeQuery,
         values: PartValues::Kept(target.query.iter()),
     };
-    let last = put_part(out, room, last, request, query)?;
+    let last = put_part(out, room, last, source, query)?;
     let scheme = Part {
         gap: Gap::BeforeScheme,
         values: scheme_of(target),
     };
-    let last = put_part(out, room, last, request, scheme)?;
-    put_others(out, room, last, request, Gap::Last)
+    let last = put_part(out, room, last, source, scheme)?;
+    put_others(out, room, last, source, Gap::Last)
 }
 
 /// Adds all options that are forwarded.
@@ -270,8 +302,10 @@ fn put_form_options(out: &mut Datagram, room: usize, form: Form<'_, '_, '_>) -> 
     ensures { Appends out.old out.new room
         (options_spelling 0 (options_in form.entry)) result }
 {
-    let last = put_front(out, room, form)?;
-    put_back(out, room, last, form)?;
+    let others = has_others(form.request);
+    let source = Source { form, others };
+    let last = put_front(out, room, source)?;
+    put_back(out, room, last, source)?;
     Ok(())
 }
 
