@@ -103,6 +103,7 @@ impl HashedIndex {
 
     /// Moves the number from the key `was` to the key `is`: either may be absent. There is room for
     /// that.
+    #[inline(always)] // mostly both are equal, and nothing is to be done
     pub fn rekey(&mut self, number: u64, was: Option<u64>, is: Option<u64>)
         requires was { IsKeyIn self.old.pairs number was }
         requires room { length self.old.pairs + one_of is ≤ self.old.limit + one_of was }
@@ -116,6 +117,7 @@ impl HashedIndex {
         }
     }
 
+    #[inline(never)]
     fn leave(&mut self, number: u64, was: Option<u64>)
         requires was { IsKeyIn self.old.pairs number was }
         ensures limit { self.new.limit ≡ self.old.limit }
@@ -127,6 +129,7 @@ impl HashedIndex {
         }
     }
 
+    #[inline(never)]
     fn enter(&mut self, number: u64, is: Option<u64>)
         requires free { IsKeyIn self.old.pairs number None }
         requires room { length self.old.pairs + one_of is ≤ self.old.limit }

@@ -142,6 +142,7 @@ impl OrderedIndex {
 
     /// Moves the number from the key `was` to the key `is`: either may be absent. There is room for
     /// that.
+    #[inline(always)] // mostly both are equal, and nothing is to be done
     pub fn rekey(&mut self, number: u64, was: Option<u64>, is: Option<u64>)
         requires was { IsKeyIn self.old.pairs number was }
         requires room { length self.old.pairs + one_of is ≤ self.old.limit + one_of was }
@@ -158,6 +159,7 @@ impl OrderedIndex {
         }
     }
 
+    #[inline(never)]
     fn leave(&mut self, number: u64, was: Option<u64>)
         requires was { IsKeyIn self.old.pairs number was }
         ensures limit { self.new.limit ≡ self.old.limit }
@@ -171,6 +173,7 @@ impl OrderedIndex {
         }
     }
 
+    #[inline(never)]
     fn enter(&mut self, number: u64, is: Option<u64>)
         requires free { IsKeyIn self.old.pairs number None }
         requires room { length self.old.pairs + one_of is ≤ self.old.limit }
@@ -198,7 +201,7 @@ impl OrderedIndex {
         ensures kinds { (f : Pair → Bool)
             → count_by f self.new.pairs ≡ count_by f self.old.pairs + one_if (f (key, number)) }
     {
-        let place = place_after(self.buffer.pairs(), (key, number));
+        let place = place_for(self.buffer.pairs(), (key, number));
         self.buffer.insert(place, (key, number));
     }
 
@@ -232,7 +235,7 @@ impl OrderedIndex {
         ensures kinds { (f : Pair → Bool)
             → count_by f self.new.pairs + one_if (f (key, number)) ≡ count_by f self.old.pairs }
     {
-        let place = place_after(self.buffer.pairs(), (key, number));
+        let place = place_for(self.buffer.pairs(), (key, number));
         self.buffer.remove(place - 1);
     }
 }
@@ -279,6 +282,21 @@ fn place_of(pairs: &[(u64, u64)], pair: (u64, u64)) -> Option<usize>
         return None;
     }
     Some(after - 1)
+}
+
+/// The place of the first pair after this one, which is found at once if there is none: moments and
+/// numbers go up, so that most pairs are added at the end.
+fn place_for(pairs: &[(u64, u64)], pair: (u64, u64)) -> usize
+    requires { AreRising pairs.now }
+    ensures within { result ≤ length pairs.now }
+    ensures below { AllByRecursion (λ p. is_before pair p ≡ false) (take result pairs.now) }
+    ensures above { AllByRecursion (λ p. is_before pair p ≡ true) (drop result pairs.now) }
+{
+    let len = pairs.len();
+    if len == 0 || is_before(pair, pairs[len - 1]) {
+        return place_after(pairs, pair);
+    }
+    len
 }
 
 /// The place of the first pair after this one.

@@ -15,37 +15,37 @@ stands p i old xs ys same is there rising at =
 
 pub overflow_sub-place : goal.overflow_sub-place
 overflow_sub-place c =
-    let place = c.place_after-place.ensures in
-    let some = (stands (c.args.key, c.args.number) c.place_after-place.result c.args.self.now c.self.inside.buffer.pairs c.pairs.result.now c.pairs.ensures (ap (λ (r : OrderedIndex). r.pairs) (sym c.self.view_is)) c.requires.there c.self.invariant (place.within, place.below, place.above)).0 in
+    let place = c.place_for-place.ensures in
+    let some = (stands (c.args.key, c.args.number) c.place_for-place.result c.args.self.now c.self.inside.buffer.pairs c.pairs.result.now c.pairs.ensures (ap (λ (r : OrderedIndex). r.pairs) (sym c.self.view_is)) c.requires.there c.self.invariant (place.within, place.below, place.above)).0 in
     omega arith
 
 pub invariant_of-self : goal.invariant_of-self
-invariant_of-self c = subst (λ (r : OrderedIndex). AreRising r.pairs) (sym c.remove.ensures) (rising-remove (c.place_after-place.result - 1) c.self.inside.buffer.pairs c.self.invariant)
+invariant_of-self c = subst (λ (r : OrderedIndex). AreRising r.pairs) (sym c.remove.ensures) (rising-remove (c.place_for-place.result - 1) c.self.inside.buffer.pairs c.self.invariant)
 
 pub returns-clause-less : goal.returns-clause-less
 returns-clause-less c =
-    let place = c.place_after-place.ensures in
+    let place = c.place_for-place.ensures in
     let it : Pair = (c.args.key, c.args.number) in
-    let found = stands it c.place_after-place.result c.args.self.now c.self.inside.buffer.pairs c.pairs.result.now c.pairs.ensures (ap (λ (r : OrderedIndex). r.pairs) (sym c.self.view_is)) c.requires.there c.self.invariant (place.within, place.below, place.above) in
+    let found = stands it c.place_for-place.result c.args.self.now c.self.inside.buffer.pairs c.pairs.result.now c.pairs.ensures (ap (λ (r : OrderedIndex). r.pairs) (sym c.self.view_is)) c.requires.there c.self.invariant (place.within, place.below, place.above) in
     λ p. ap (λ (r : OrderedIndex). is_in p r.pairs) c.remove.ensures
-    ∙ is_in-remove p it (c.place_after-place.result - 1) c.self.inside.buffer.pairs it c.self.invariant found.1 found.2
+    ∙ is_in-remove p it (c.place_for-place.result - 1) c.self.inside.buffer.pairs it c.self.invariant found.1 found.2
     ∙ ap (λ (r : OrderedIndex). not (is_pair p it) && is_in p r.pairs) c.self.view_is
 
 pub returns-clause-counts : goal.returns-clause-counts
 returns-clause-counts c =
-    let place = c.place_after-place.ensures in
+    let place = c.place_for-place.ensures in
     let it : Pair = (c.args.key, c.args.number) in
-    let found = stands it c.place_after-place.result c.args.self.now c.self.inside.buffer.pairs c.pairs.result.now c.pairs.ensures (ap (λ (r : OrderedIndex). r.pairs) (sym c.self.view_is)) c.requires.there c.self.invariant (place.within, place.below, place.above) in
+    let found = stands it c.place_for-place.result c.args.self.now c.self.inside.buffer.pairs c.pairs.result.now c.pairs.ensures (ap (λ (r : OrderedIndex). r.pairs) (sym c.self.view_is)) c.requires.there c.self.invariant (place.within, place.below, place.above) in
     λ k. ap (λ (r : OrderedIndex). many_of k r.pairs + one_if (eqb c.args.key k)) c.remove.ensures
-    ∙ many-remove k it (c.place_after-place.result - 1) c.self.inside.buffer.pairs it found.1 found.2
+    ∙ many-remove k it (c.place_for-place.result - 1) c.self.inside.buffer.pairs it found.1 found.2
     ∙ ap (λ (r : OrderedIndex). many_of k r.pairs) c.self.view_is
 
 pub returns-clause-kinds : goal.returns-clause-kinds
 returns-clause-kinds c =
-    let place = c.place_after-place.ensures in
+    let place = c.place_for-place.ensures in
     let it : Pair = (c.args.key, c.args.number) in
-    let found = stands it c.place_after-place.result c.args.self.now c.self.inside.buffer.pairs c.pairs.result.now c.pairs.ensures (ap (λ (r : OrderedIndex). r.pairs) (sym c.self.view_is)) c.requires.there c.self.invariant (place.within, place.below, place.above) in
+    let found = stands it c.place_for-place.result c.args.self.now c.self.inside.buffer.pairs c.pairs.result.now c.pairs.ensures (ap (λ (r : OrderedIndex). r.pairs) (sym c.self.view_is)) c.requires.there c.self.invariant (place.within, place.below, place.above) in
     λ f. ap (λ (r : OrderedIndex). count_by f r.pairs + one_if (f it)) c.remove.ensures
-    ∙ ap (λ (p : Pair). count_by f (remove c.self.inside.buffer.pairs (c.place_after-place.result - 1)) + one_if (f p)) (sym found.2)
-    ∙ sum_by-remove (λ (p : Pair). cond (f p) 1 0) c.self.inside.buffer.pairs (c.place_after-place.result - 1) it found.1
+    ∙ ap (λ (p : Pair). count_by f (remove c.self.inside.buffer.pairs (c.place_for-place.result - 1)) + one_if (f p)) (sym found.2)
+    ∙ sum_by-remove (λ (p : Pair). cond (f p) 1 0) c.self.inside.buffer.pairs (c.place_for-place.result - 1) it found.1
     ∙ ap (λ (r : OrderedIndex). count_by f r.pairs) c.self.view_is
