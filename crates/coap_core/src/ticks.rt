@@ -353,9 +353,7 @@ impl<S: Store + Drop> State<S> {
               exchanges = without_idle exchange self.old.waiters self.old.exchanges;
             } }
     {
-        if self.under_way.waiters().waiting_for(exchange) == 0 {
-            self.under_way.close(exchange);
-        }
+        self.under_way.close_if_unused(exchange);
     }
 
     /// Handles the end of the current timeout of a client that was sent its answer: the answer is

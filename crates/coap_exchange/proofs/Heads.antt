@@ -1,5 +1,5 @@
 -- The heads of endpoints, as exchanges come, change and go, and whose turn they tell.
-use Rattle.std.proofs.Common.{◌≡◌, ℕ, ◌+◌, ◌<◌, ◌≤◌, ◌&&◌, ◌||◌, List, [], ◌∷◌, length, Bool, true, false, cond, eqb, leb, Option, Some, None, refl, sym, ap, ◌∙◌, subst, arith, inl, inr}
+use Rattle.std.proofs.Common.{◌≡◌, ℕ, ◌+◌, ◌<◌, ◌≤◌, ◌&&◌, ◌||◌, List, [], ◌∷◌, ◌++◌, length, Bool, true, false, cond, eqb, leb, Option, Some, None, refl, sym, ap, ◌∙◌, subst, arith, inl, inr}
 use Rattle.std.specs.Prelude.{◌⊎◌, not, IfSome}
 use Rattle.std.specs.Option.{option_map}
 use Rattle.std.proofs.lemmas.Bool.{eqb-true, eq-eqb, ne_eqb}
@@ -11,8 +11,8 @@ use Rattle.coap_pending.specs.declared.exchange.Exchange.{Exchange}
 use Rattle.coap_pending.specs.Exchanges.{is_queued, is_sent, is_sent_to, is_queued_to}
 use Rattle.ordered_index.specs.Ordered.{Pair, OrderedIndex, is_in, is_some_pair, one_of, IsReplaced}
 use Rattle.coap_pending.specs.Table.{Numbered, IsRising, count, first_that, item_at, passes}
-use Rattle.coap_exchange.specs.SendQueue.{head_at, head_in, AreHeads}
-use Rattle.coap_pending.proofs.Counts.{one_if}
+use Rattle.coap_exchange.specs.SendQueue.{head_at, head_in, head_with, AreHeads}
+use Rattle.coap_pending.proofs.Counts.{one_if, count-push}
 use Rattle.endpoint_counts.proofs.Indexing.{Moves}
 use Rattle.ordered_index.proofs.Ordering.{pair_itself, pair_only}
 use Rattle.coap_exchange.proofs.Seeking.{none-that, none-under, that-first, passes-above}
@@ -135,6 +135,33 @@ no-first (x ∷ xs) at none = go (is_queued x.1) refl none (no-first xs at)
 -- so no endpoint has a head
 pub no-head : (xs : List (Numbered Exchange)) (at : Endpoint) → count is_queued xs ≡ 0 → head_at xs at ≡ None
 no-head xs at none = ap (option_map (λ n. (count (is_sent_to at) xs, n))) (no-first xs at none)
+
+-- the number, unless there is one before it
+abbrev first_with : Option ℕ → ℕ → Option ℕ
+first_with None n = Some n
+first_with (Some m) n = Some m
+
+-- one that passes comes after all others
+first-push : {A : Type 0} (test : A → Bool) (xs : List (Numbered A)) (n : ℕ) (x : A) → test x ≡ true → first_that test (xs ++ (n, x) ∷ []) ≡ first_with (first_that test xs) n
+first-push test [] n x on = rw on refl
+first-push test (y ∷ ys) n x on = go (test y.1) refl (first-push test ys n x on)
+  where
+    go : (b : Bool) → test y.1 ≡ b → first_that test (ys ++ (n, x) ∷ []) ≡ first_with (first_that test ys) n → first_that test (y ∷ (ys ++ (n, x) ∷ [])) ≡ first_with (first_that test (y ∷ ys)) n
+    go true e h = rw e refl
+    go false e h = rw e h
+
+-- so an exchange that waits and comes after all others is the head of its endpoint, unless that has one
+pub head-push : (xs : List (Numbered Exchange)) (n : ℕ) (x : Exchange) (sent : ℕ) → is_queued x ≡ true → is_sent x ≡ false → sent ≡ count (is_sent_to x.key.target.at) xs → head_with (head_at xs x.key.target.at) sent n ≡ head_at (xs ++ (n, x) ∷ []) x.key.target.at
+head-push xs n x sent waits unsent are =
+    let at = x.key.target.at in
+    let first = first-push (is_queued_to at) xs n x (rw waits (Tells-endpoint.itself at)) in
+    let none : one_if (is_sent_to at x) ≡ 0 = rw unsent refl in
+    let same : count (is_sent_to at) (xs ++ (n, x) ∷ []) ≡ sent = omega (arith, count-push (is_sent_to at) xs (n, x), none, are) in
+    rw (first, same, ← are) (go (first_that (is_queued_to at) xs))
+  where
+    go : (o : Option ℕ) → head_with (option_map (λ m. (sent, m)) o) sent n ≡ option_map (λ m. (sent, m)) (first_with o n)
+    go None = refl
+    go (Some m) = refl
 
 -- ---- one exchange comes, changes or goes
 

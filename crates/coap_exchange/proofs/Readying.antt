@@ -1,7 +1,7 @@
 -- Who is to be served first, as exchanges and waiters come, change and go.
 use Rattle.std.proofs.Common.{◌≡◌, ℕ, ◌+◌, ◌≤◌, ◌&&◌, ◌||◌, List, [], ◌∷◌, length, Bool, true, false, cond, eqb, leb, Option, Some, None, refl, sym, ap, ◌∙◌, subst, arith, inl, inr}
 use Rattle.std.specs.Prelude.{◌⊎◌, not, IfSome}
-use Rattle.std.specs.Option.{option_map}
+use Rattle.std.specs.Option.{is_some, option_map}
 use Rattle.std.proofs.lemmas.Bool.{eqb-true, eqb-false, eq-eqb, ne_eqb, leb-true, leb-false}
 use Rattle.std.proofs.lemmas.Bool.Decides.{nat_tests}
 use Rattle.coap_pending.specs.declared.exchange.Exchange.{Exchange}
@@ -20,7 +20,7 @@ use Rattle.endpoint_counts.specs.IndexOf.{key_at, IsIndexOf}
 use Rattle.coap_exchange.specs.WaiterIndex.{answered_of}
 use Rattle.coap_exchange.specs.Ready.{ready_at, ready_in, ready_of, AreReady, Tables}
 use Rattle.ordered_index.specs.Ordered.{Pair, OrderedIndex, is_in, is_key, is_pair, is_some_pair, one_of, AreRising, IsLeast, IsNextOf, IsReplaced}
-use Rattle.coap_pending.specs.Table.{Numbered, Table, IsRising, IsTable, item_at, admitted_to, all_changed, changed_at, first_that, passes}
+use Rattle.coap_pending.specs.Table.{Numbered, Table, IsRising, IsTable, item_at, admitted_to, all_changed, changed_at, count, first_that, passes}
 use Rattle.coap_pending.specs.Waiters.{awaited_by, exchange_of, fired_state, fired_waiter, moment_of, waits_for, waits_in_state}
 use Rattle.coap_exchange.proofs.Apart.{AreApart, apart-fewer, rising-apart}
 use Rattle.coap_exchange.proofs.Answering.{answered-waits, waits-answered}
@@ -331,6 +331,25 @@ open-unready t n still = go (item_at n t.exchanges.items) refl still
 -- nor does one that is gone
 pub gone-unready : (t : Tables) (n : ℕ) → item_at n t.exchanges.items ≡ None → ready_in t (Some n) ≡ None
 gone-unready t n e = rw e refl
+
+-- nor does one for which nobody waits
+pub unused-unready : (t : Tables) (n : ℕ) → first_that (waits_for n) t.waiters.items ≡ None → ready_in t (Some n) ≡ None
+unused-unready t n none = rw none (go (got_in n t.exchanges.items))
+  where
+    go : (o : Option ℕ) → ready_of o None ≡ None
+    go None = refl
+    go (Some moment) = refl
+
+-- none waits where there is no first that does
+pub unused-first : (n : ℕ) (ws : List (Numbered Waiter)) → eqb (count (waits_for n) ws) 0 ≡ not (is_some (first_that (waits_for n) ws))
+unused-first n [] = refl
+unused-first n (w ∷ ws) = go (waits_for n w.1) refl (unused-first n ws)
+  where
+    go : (b : Bool) → waits_for n w.1 ≡ b → eqb (count (waits_for n) ws) 0 ≡ not (is_some (first_that (waits_for n) ws)) → eqb (count (waits_for n) (w ∷ ws)) 0 ≡ not (is_some (first_that (waits_for n) (w ∷ ws)))
+    go true e h = rw e (ne_eqb (1 + count (waits_for n) ws) 0 (λ f. omega arith))
+    go false e h =
+        let none : 0 + count (waits_for n) ws ≡ count (waits_for n) ws = omega arith in
+        rw (e, none) h
 
 -- ---- what stays where one item changes
 

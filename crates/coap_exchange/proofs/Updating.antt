@@ -17,7 +17,7 @@ use Rattle.coap_exchange.proofs.Heads.{StaysElsewhere}
 use Rattle.coap_exchange.proofs.ExchangeCounting.{sends-is}
 use Rattle.coap_endpoint.proofs.Equality.{Tells-endpoint}
 use Rattle.coap_endpoint.specs.Endpoint.{same_endpoint}
-use Rattle.std.specs.Prelude.{not}
+use Rattle.std.specs.Prelude.{not, IfSome}
 use Rattle.endpoint_counts.proofs.Indexing.{Moves, changed-at, changed-others, moves-changed, moves-without}
 use Rattle.coap_exchange.proofs.Ordering.{AreKept, admitted-after, changed-off, endpoint-after, kept-changed, kept-without, without-off}
 use Rattle.coap_pending.proofs.Tables.{closed-is, without-gone, without-others}
@@ -96,6 +96,15 @@ mover-stays (Some c) (Some x) off = λ e other. (
   ap (λ (b : Bool). b && same_endpoint (changed_by c x).key.target.at e) (sends-is c x) ∙ ap (λ (d : Endpoint). sends c (is_sent x) && same_endpoint d e) (endpoint-after c x) ∙ elsewhere x.key.target.at e (is_moved (Some c) x) (is_sent x) (sends c (is_sent x)) (unmoved-sent (is_queued x) (is_sent x) (sends c (is_sent x))) other,
   ap (λ (b : Bool). b && same_endpoint (changed_by c x).key.target.at e) off ∙ elsewhere x.key.target.at e (is_moved (Some c) x) (is_queued x) false (unmoved-queued (is_queued x) _) other,
 )
+
+-- how many are sent to its endpoint is how many are sent to the mover's
+pub mover-sent : (change : Option Change) (o : Option Exchange) (sent : ℕ) (xs : List (Numbered Exchange)) (endpoints : Endpoints) → AreCounted xs endpoints → IfSome o (λ x. sent ≡ sent_in endpoints x.key.target.at) → IfSome (mover change o) (λ at. sent ≡ count (is_sent_to at) xs)
+mover-sent change None sent xs endpoints are is = tt
+mover-sent change (Some x) sent xs endpoints are is = go (is_moved change x)
+  where
+    go : (b : Bool) → IfSome (cond b (Some x.key.target.at) None) (λ at. sent ≡ count (is_sent_to at) xs)
+    go true = is ∙ are.sent x.key.target.at
+    go false = tt
 
 -- ---- exchanges
 

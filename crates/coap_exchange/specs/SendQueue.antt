@@ -20,6 +20,11 @@ abbrev pub head_in : List (Numbered Exchange) → Option Endpoint → Option Pai
 head_in items None = None
 head_in items (Some at) = head_at items at
 
+-- the head of an endpoint once an exchange is queued there after all others
+abbrev pub head_with : Option Pair → ℕ → ℕ → Option Pair
+head_with None sent number = Some (sent, number)
+head_with (Some head) sent number = Some head
+
 -- whether an exchange is in the sent state after a change, or, without a change, once it is removed
 abbrev pub sends_after : Option Change → Bool → Bool
 sends_after None was = false

@@ -21,7 +21,7 @@ use crate::digests::{HashedKey, digest_of_target};
 use crate::index::{ExchangeKeys, Index, Sought, first_sought, keys_at, keys_in, keys_of};
 use crate::indexed_exchange::{IndexedExchange, client_of};
 use crate::opening::Opening;
-use crate::send_queue::{SendQueue, head_of, mover_of};
+use crate::send_queue::{SendQueue, head_of, head_with, mover_of};
 use crate::table::{AdmitError, Items, Table};
 use crate::turns::first_turn;
 use coap_endpoint::{Endpoint, Target};
@@ -30,7 +30,9 @@ use coap_pending::due::{later, sooner};
 use coap_pending::{Change, Exchange, ExchangeNumber, Fire, Sending};
 use coap_store::{Answer, CacheKey};
 use endpoint_counts::by_client::{count_of, depart, enter};
-use endpoint_counts::{EndpointMap, Peer, Stage, close_one, lowered, move_one, open_one};
+use endpoint_counts::{
+    EndpointMap, Peer, SentCounts, Stage, close_one, lowered, move_one, open_one,
+};
 use std::alloc::Global;
 use std::marker::Model;
 
@@ -317,27 +319,15 @@ impl Exchanges {
         self.send_queue.heads.laws();
         self.endpoints.laws();
         self.clients.laws();
-        let head = head_of(
-            &self.table,
-            &self.index,
-            &self.endpoints,
-            self.queued,
-            &Some(at),
-        );
-        open_one(&mut self.endpoints, at);
+        let sent = open_one(&mut self.endpoints, at);
+        let head = head_of(&self.table, &self.index, self.queued, &Some(at), sent);
         enter(&mut self.clients, opener);
         let (was, is) = (keys_in(None), keys_of(&listed));
         match self.table.admit(listed) {
             Ok(number) => {
                 self.queued += 1;
                 self.index.rekey(number, was, is);
-                let next = head_of(
-                    &self.table,
-                    &self.index,
-                    &self.endpoints,
-                    self.queued,
-                    &Some(at),
-                );
+                let next = head_with(head, sent, number);
                 self.send_queue.heads.replace(head, next);
                 self.send_queue.note(now);
                 Ok(number)
@@ -440,15 +430,15 @@ impl Exchanges {
     {
         let found = self.table.get(number);
         let at = mover_of(found, &change);
-        let head = head_of(&self.table, &self.index, &self.endpoints, self.queued, &at);
+        let sent = recount(&mut self.endpoints, &self.table, number, found, &change);
+        let head = head_of(&self.table, &self.index, self.queued, &at, sent.was);
         let queued = queued_without(self.queued, &self.table, number, found);
-        recount(&mut self.endpoints, &self.table, number, found, &change);
         depart(&mut self.clients, leaver_of(found, &change));
         let was = keys_in(found);
         self.queued = queued;
         let is = self.table.update(number, change);
         self.index.rekey(number, was, is);
-        let next = head_of(&self.table, &self.index, &self.endpoints, queued, &at);
+        let next = head_of(&self.table, &self.index, queued, &at, sent.is);
         self.send_queue.heads.replace(head, next);
     }
 }
@@ -587,18 +577,23 @@ fn queued_without(
 }
 
 /// Counts the exchange numbered `number` for its endpoint as it is after a change, in which it no
-/// longer waits for its turn, or no longer counts it if it is removed.
+/// longer waits for its turn, or no longer counts it if it is removed. Returns how many were and are
+/// sent to that endpoint.
 fn recount(
     endpoints: &mut EndpointMap,
     exchanges: &Table<IndexedExchange>,
     number: ExchangeNumber,
     found: Option<&IndexedExchange>,
     change: &Option<Change>,
-)
+) -> SentCounts
     requires counted { AreCounted exchanges.now.items endpoints.old }
     requires found { option_copied found ≡ item_at number exchanges.now.items }
     requires queued { Allows (λ c x. is_queued (changed_by c x) ≡ false) change.now
         (item_at number exchanges.now.items) }
+    ensures was { IfSome (item_at number exchanges.now.items)
+        (λ x. result.was ≡ sent_in endpoints.old x.key.target.at) }
+    ensures is { IfSome (item_at number exchanges.now.items)
+        (λ x. result.is ≡ sent_in endpoints.new x.key.target.at) }
     ensures limit { endpoints.new.limit ≡ endpoints.old.limit }
     ensures all { IsRecounted is_with (open_in endpoints.old) (open_in endpoints.new)
         (item_at number exchanges.now.items)
@@ -612,7 +607,7 @@ fn recount(
 {
     exchanges.laws();
     let Some(listed) = found else {
-        return;
+        return SentCounts { was: 0, is: 0 };
     };
     let was = listed.stage();
     match change {
@@ -621,7 +616,7 @@ fn recount(
                 sent: change.sends(was.sent),
                 queued: false,
             };
-            move_one(endpoints, listed.peer(), was, is);
+            move_one(endpoints, listed.peer(), was, is)
         }
         None => close_one(endpoints, listed.peer(), was),
     }

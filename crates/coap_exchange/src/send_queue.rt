@@ -1,18 +1,17 @@
 //! Whose turn it is to be sent.
-ghost use Rattle.std.specs.Prelude.{◌≡◌, ◌<◌, [], true, IfOk};
+ghost use Rattle.std.specs.Prelude.{◌≡◌, ◌<◌, [], true, IfOk, IfSome};
 ghost use Rattle.std.specs.Option.{option_copied};
-ghost use Rattle.coap_pending.specs.Exchanges.{is_queued};
+ghost use Rattle.coap_pending.specs.Exchanges.{is_queued, is_sent_to};
 ghost use Rattle.coap_pending.specs.Table.{count};
 ghost use Rattle.coap_exchange.specs.Index.{AreIndexed};
-ghost use Rattle.coap_exchange.specs.Counted.{AreCounted};
-ghost use Rattle.coap_exchange.specs.SendQueue.{head_in, lower, mover, noted, IsSendQueue, IsLowestUnder};
+ghost use Rattle.coap_exchange.specs.SendQueue.{head_in, head_with, lower, mover, noted, IsSendQueue, IsLowestUnder};
 
 use crate::index::{Index, Sought, first_sought};
 use crate::indexed_exchange::IndexedExchange;
 use crate::table::Table;
 use coap_message::{Moment, OutOfMemory};
 use coap_pending::{Change, ExchangeNumber};
-use endpoint_counts::{EndpointMap, Peer, counts_of};
+use endpoint_counts::Peer;
 use ordered_index::OrderedIndex;
 use std::alloc::Global;
 
@@ -97,17 +96,17 @@ pub(crate) fn mover_of(found: Option<&IndexedExchange>, change: &Option<Change>)
     }
 }
 
-/// The number of exchanges sent to an endpoint, and its first queued exchange, if it has one.
-/// `queued` exchanges are queued in all: where none is, none is looked for.
+/// The number of exchanges sent to an endpoint, which is `sent`, and its first queued exchange, if
+/// there is one. `queued` exchanges are queued in all: where none is, none is looked for.
 pub(crate) fn head_of(
     exchanges: &Table<IndexedExchange>,
     index: &Index,
-    endpoints: &EndpointMap,
     queued: usize,
     at: &Option<Peer>,
+    sent: usize,
 ) -> Option<(u64, u64)>
     requires indexed { AreIndexed exchanges.now.items exchanges.now.limit index.now }
-    requires counted { AreCounted exchanges.now.items endpoints.now }
+    requires sent { IfSome at.now (λ at. sent ≡ count (is_sent_to at) exchanges.now.items) }
     requires queued { queued ≡ count is_queued exchanges.now.items }
     ensures exact { result ≡ head_in exchanges.now.items at.now }
 {
@@ -119,5 +118,20 @@ pub(crate) fn head_of(
     }
     let sought = Sought::Queued(at.endpoint());
     let number = first_sought(exchanges, &index.queues, at.digest(), &sought)?;
-    Some((counts_of(endpoints, *at).sent as u64, number))
+    Some((sent as u64, number))
+}
+
+/// The head of an endpoint's queue once the exchange numbered `number` is queued after the others:
+/// `head` as before, unless there was none. `sent` exchanges are sent to the endpoint.
+pub(crate) fn head_with(
+    head: Option<(u64, u64)>,
+    sent: usize,
+    number: ExchangeNumber,
+) -> Option<(u64, u64)>
+    ensures exact { result ≡ head_with head sent number }
+{
+    match head {
+        Some(_) => head,
+        None => Some((sent as u64, number)),
+    }
 }

@@ -1,5 +1,5 @@
 //! What is under way: exchanges, and the clients that wait for them.
-ghost use Rattle.std.specs.Prelude.{◌≡◌, ◌+◌, ◌-◌, ◌<◌, ◌≤◌, ◌^◌, ◌↔◌, [], true, false, length, OnOk, OnErr, IfOk, IfErr, IfSome};
+ghost use Rattle.std.specs.Prelude.{◌≡◌, ◌+◌, ◌-◌, ◌<◌, ◌≤◌, ◌^◌, ◌↔◌, ◌==◌, if◌then◌else◌, [], true, false, length, OnOk, OnErr, IfOk, IfErr, IfSome};
 ghost use Rattle.std.specs.Option.{option_copied};
 ghost use Rattle.coap_pending.specs.declared.exchange.Exchange.{Exchange};
 ghost use Rattle.coap_pending.specs.declared.waiter.Waiter.{Waiter};
@@ -9,7 +9,7 @@ ghost use Rattle.coap_exchange.specs.Opening.{opened};
 ghost use Rattle.coap_exchange.specs.Ready.{ready_at, ready_in, Tables};
 ghost use Rattle.coap_exchange.specs.Answered.{got_by};
 ghost use Rattle.coap_pending.specs.Table.{Table, item_at, admitted_to, without, withdrawn, changed_at, all_changed, count, IsTable};
-ghost use Rattle.coap_pending.specs.Waiters.{delivered, due_after, fired_waiter, is_of, is_waiting, joined};
+ghost use Rattle.coap_pending.specs.Waiters.{delivered, due_after, fired_waiter, is_of, is_waiting, joined, waits_for};
 ghost use Rattle.coap_pending.specs.Waiters as waiters;
 ghost use Rattle.coap_exchange.specs.Updates.{updated_at};
 
@@ -239,20 +239,24 @@ impl UnderWay {
         self.exchanges.taint(target);
     }
 
-    /// Removes an exchange: `Exchanges::close`.
-    pub fn close(&mut self, number: ExchangeNumber)
+    /// Removes an exchange for which no client waits any more: `Exchanges::close`. Nothing happens
+    /// while one does.
+    pub fn close_if_unused(&mut self, number: ExchangeNumber)
         ensures closed { self.new
             ≡ record self.old {
               exchanges =
                   record self.old.exchanges {
-                    items = without number self.old.exchanges.items;
+                    items =
+                        if count (waits_for number) self.old.waiters.items == 0
+                        then without number self.old.exchanges.items
+                        else self.old.exchanges.items;
                   };
             } }
     {
-        self.ready.laws();
-        let was = ready_in(&self.exchanges, &self.waiters, number);
-        self.exchanges.close(number);
-        self.ready.replace(was, None);
+        self.waiters.laws();
+        if self.waiters.first_waiting(number).is_none() {
+            self.exchanges.close(number);
+        }
     }
 
     /// Has a client wait for an exchange: `Waiters::admit`, where there is room for it, and for one

@@ -28,6 +28,13 @@ pub struct Stage {
     pub queued: bool,
 }
 
+/// How many exchanges were sent to an endpoint before a change, and how many are after it.
+#[derive(Clone, Copy)]
+pub struct SentCounts {
+    pub was: usize,
+    pub is: usize,
+}
+
 impl Stage {
     /// The stage of an exchange whose request is waiting for its turn.
     pub const QUEUED: Stage = Stage {
@@ -62,12 +69,13 @@ pub fn counts_at(endpoints: &EndpointMap, at: Peer, place: Option<u64>) -> Endpo
     }
 }
 
-/// Adds an exchange with this endpoint, which is waiting for its turn. There is room for another
-/// endpoint.
-pub fn open_one(endpoints: &mut EndpointMap, at: Peer)
+/// Adds an exchange with this endpoint, which is waiting for its turn, and returns how many are sent
+/// there. There is room for another endpoint.
+pub fn open_one(endpoints: &mut EndpointMap, at: Peer) -> usize
     requires all { open_in endpoints.old at < 2 ^ 64 - 1 }
     requires queued { queued_in endpoints.old at < 2 ^ 64 - 1 }
     requires room { length endpoints.old.items < endpoints.old.limit }
+    ensures exact { result ≡ sent_in endpoints.old at }
     ensures limit { endpoints.new.limit ≡ endpoints.old.limit }
     ensures all { (e : Endpoint)
         → open_in endpoints.new e ≡ open_in endpoints.old e + one_if_at true at e }
@@ -83,15 +91,18 @@ pub fn open_one(endpoints: &mut EndpointMap, at: Peer)
         queued: counts.queued + 1,
     };
     endpoints.set(at, place, more);
+    counts.sent
 }
 
 /// Removes an exchange with this endpoint, which was at the stage `was`.
-pub fn close_one(endpoints: &mut EndpointMap, at: Peer, was: Stage)
+pub fn close_one(endpoints: &mut EndpointMap, at: Peer, was: Stage) -> SentCounts
     requires all { 0 < open_in endpoints.old at }
     requires sent { sent_in endpoints.old at
         ≤ (open_in endpoints.old at - 1) + (if was.sent then 1 else 0) }
     requires queued { queued_in endpoints.old at
         ≤ (open_in endpoints.old at - 1) + (if was.queued then 1 else 0) }
+    ensures was { result.was ≡ sent_in endpoints.old at }
+    ensures is { result.is ≡ sent_in endpoints.new at }
     ensures limit { endpoints.new.limit ≡ endpoints.old.limit }
     ensures all { (e : Endpoint)
         → open_in endpoints.new e ≡ open_in endpoints.old e - one_if_at true at e }
@@ -104,19 +115,28 @@ pub fn close_one(endpoints: &mut EndpointMap, at: Peer, was: Stage)
     let counts = counts_at(endpoints, at, place);
     if counts.all == 1 {
         endpoints.remove(at, place);
-    } else {
-        let sent = lowered(counts.sent, was.sent);
-        let queued = lowered(counts.queued, was.queued);
-        let all = counts.all - 1;
-        endpoints.set(at, place, EndpointCounts { all, sent, queued });
+        return SentCounts {
+            was: counts.sent,
+            is: 0,
+        };
+    }
+    let sent = lowered(counts.sent, was.sent);
+    let queued = lowered(counts.queued, was.queued);
+    let all = counts.all - 1;
+    endpoints.set(at, place, EndpointCounts { all, sent, queued });
+    SentCounts {
+        was: counts.sent,
+        is: sent,
     }
 }
 
 /// Moves an exchange with this endpoint from the stage `was` to the stage `is`.
-pub fn move_one(endpoints: &mut EndpointMap, at: Peer, was: Stage, is: Stage)
+pub fn move_one(endpoints: &mut EndpointMap, at: Peer, was: Stage, is: Stage) -> SentCounts
     requires all { 0 < open_in endpoints.old at }
     requires few_sent { sent_in endpoints.old at < 2 ^ 64 - 1 }
     requires few_queued { queued_in endpoints.old at < 2 ^ 64 - 1 }
+    ensures was { result.was ≡ sent_in endpoints.old at }
+    ensures is { result.is ≡ sent_in endpoints.new at }
     ensures limit { endpoints.new.limit ≡ endpoints.old.limit }
     ensures all { (e : Endpoint) → open_in endpoints.new e ≡ open_in endpoints.old e }
     ensures sent { (e : Endpoint)
@@ -132,6 +152,10 @@ pub fn move_one(endpoints: &mut EndpointMap, at: Peer, was: Stage, is: Stage)
     let queued = moved(counts.queued, was.queued, is.queued);
     let all = counts.all;
     endpoints.set(at, place, EndpointCounts { all, sent, queued });
+    SentCounts {
+        was: counts.sent,
+        is: sent,
+    }
 }
 
 /// Subtracts one from `count` if `was` is true.

@@ -19,7 +19,7 @@ mod slots;
 
 pub use endpoint_map::EndpointMap;
 pub use endpoints::{
-    EndpointCounts, Stage, close_one, counts_at, counts_of, lowered, move_one, open_one,
+    EndpointCounts, SentCounts, Stage, close_one, counts_at, counts_of, lowered, move_one, open_one,
 };
 pub use peer::Peer;
 pub use slots::Entry;

@@ -7,11 +7,11 @@ use Rattle.coap_exchange.specs.Updates.{updated_at}
 use Rattle.coap_exchange.proofs.Openers.{client-after}
 use Rattle.coap_exchange.proofs.Indexing.{can-pass-as, have-passed-as}
 use Rattle.coap_exchange.proofs.Ordering.{send_queue-free, send_queue-moved, send_queue-room}
-use Rattle.coap_exchange.proofs.Updating.{counted-updated, exchanges-updated, kept-updated, moves-updated, never-queued, of_clients-updated, stays-updated, updatable, updated-at, updated-is, updated-off, within-updated}
+use Rattle.coap_exchange.proofs.Updating.{counted-updated, exchanges-updated, kept-updated, mover-sent, moves-updated, never-queued, of_clients-updated, stays-updated, updatable, updated-at, updated-is, updated-off, within-updated}
 use Rattle.coap_exchange.proofs.exchanges.Exchanges.update.Goals as goal
 
-pub recount-requires-clause-queued : goal.recount-requires-clause-queued
-recount-requires-clause-queued c =
+pub recount-sent-requires-clause-queued : goal.recount-sent-requires-clause-queued
+recount-sent-requires-clause-queued c =
     never-queued c.args.number c.args.change (item_at c.args.number c.self.inside.table.items) (subst (λ (t : Table Exchange). CanUpdate c.args.change (item_at c.args.number t.items)) (sym c.self.view_is) c.requires)
 
 pub update-is-requires : goal.update-is-requires
@@ -35,10 +35,6 @@ head_of-next-requires-clause-indexed c =
     let ys = updated_at changed_by c.args.change n t.items in
     let passed = rw (c.keys_in-was.ensures.exact, c.get-found.ensures.exact, c.update-is.ensures.keys) at c.rekey.ensures.exact in
     rw c.update-is.ensures.updated (have-passed-as n t.limit t.items ys c.self.inside.index (moves-updated changed_by n t is c.args.change) c.self.invariant.2 _ _ refl (updated-at changed_by n c.args.change t.items) c.rekey.new.self passed (updated-is changed_by n t is c.args.change).rising)
-
-pub head_of-next-requires-clause-counted : goal.head_of-next-requires-clause-counted
-head_of-next-requires-clause-counted c =
-    rw c.update-is.ensures.updated (counted-updated c.args.number c.self.inside.table c.get-found.ensures.sound c.args.change c.self.inside.endpoints c.recount.new.endpoints c.self.invariant.1 c.recount.ensures.all c.recount.ensures.sent c.recount.ensures.queued)
 
 pub replace-requires-clause-free : goal.replace-requires-clause-free
 replace-requires-clause-free c =
@@ -74,19 +70,28 @@ invariant_of-self c =
     let replaced = rw (c.head_of-head.ensures.exact, c.head_of-next.ensures.exact, c.mover_of-at.ensures.exact, c.get-found.ensures.exact, c.update-is.ensures.updated) at c.replace.ensures.replaced in
     rw c.update-is.ensures.updated (
       exchanges-updated n t is c.args.change c.self.inside.queued c.queued_without-queued.result c.self.invariant.0 can c.queued_without-queued.ensures.fewer,
-      counted-updated n t is c.args.change c.self.inside.endpoints c.recount.new.endpoints c.self.invariant.1 c.recount.ensures.all c.recount.ensures.sent c.recount.ensures.queued,
+      counted-updated n t is c.args.change c.self.inside.endpoints c.recount-sent.new.endpoints c.self.invariant.1 c.recount-sent.ensures.all c.recount-sent.ensures.sent c.recount-sent.ensures.queued,
       have-passed-as n t.limit t.items ys c.self.inside.index moves c.self.invariant.2 _ _ refl (updated-at changed_by n c.args.change t.items) c.rekey.new.self passed rising,
       send_queue-moved n t.items ys (mover c.args.change (item_at n t.items)) moves is.rising rising (stays-updated n c.args.change t.items can) c.self.inside.send_queue c.self.invariant.3 (kept-updated n t is c.args.change) (updated-off n c.args.change t.items can) c.replace.new.self c.replace.ensures.limit len replaced,
       of_clients-updated changed_by n t is (λ (x : Exchange). x.client) client-after c.args.change c.self.inside.clients c.depart.new.clients (rw (c.leaver_of.ensures.exact, c.get-found.ensures.exact) at c.depart.ensures.exact) c.self.invariant.4,
       within-updated changed_by n t is (λ (x : Exchange). x.client) client-after c.args.change c.self.invariant.5,
-      record { for_heads = c.replace.ensures.limit ∙ c.self.invariant.6.for_heads; for_endpoints = c.recount.ensures.limit ∙ c.self.invariant.6.for_endpoints; for_clients = c.depart.ensures.limit ∙ c.self.invariant.6.for_clients },
+      record { for_heads = c.replace.ensures.limit ∙ c.self.invariant.6.for_heads; for_endpoints = c.recount-sent.ensures.limit ∙ c.self.invariant.6.for_endpoints; for_clients = c.depart.ensures.limit ∙ c.self.invariant.6.for_clients },
     )
+
+pub head_of-head-requires-clause-sent : goal.head_of-head-requires-clause-sent
+head_of-head-requires-clause-sent c =
+    let o = item_at c.args.number c.self.inside.table.items in
+    rw (c.mover_of-at.ensures.exact, c.get-found.ensures.exact) (mover-sent c.args.change o c.recount-sent.result.was c.self.inside.table.items c.self.inside.endpoints c.self.invariant.1 c.recount-sent.ensures.was)
+
+pub head_of-next-requires-clause-sent : goal.head_of-next-requires-clause-sent
+head_of-next-requires-clause-sent c =
+    let n = c.args.number in
+    let t = c.self.inside.table in
+    let counted = counted-updated n t c.get-found.ensures.sound c.args.change c.self.inside.endpoints c.recount-sent.new.endpoints c.self.invariant.1 c.recount-sent.ensures.all c.recount-sent.ensures.sent c.recount-sent.ensures.queued in
+    rw (c.mover_of-at.ensures.exact, c.get-found.ensures.exact, c.update-is.ensures.updated) (mover-sent c.args.change (item_at n t.items) c.recount-sent.result.is (updated_at changed_by c.args.change n t.items) c.recount-sent.new.endpoints counted c.recount-sent.ensures.is)
 
 pub head_of-head-requires-clause-indexed : goal.head_of-head-requires-clause-indexed
 head_of-head-requires-clause-indexed c = c.self.invariant.2
-
-pub head_of-head-requires-clause-counted : goal.head_of-head-requires-clause-counted
-head_of-head-requires-clause-counted c = c.self.invariant.1
 
 pub queued_without-queued-requires-clause-queued : goal.queued_without-queued-requires-clause-queued
 queued_without-queued-requires-clause-queued c = c.self.invariant.0.queued
@@ -94,11 +99,11 @@ queued_without-queued-requires-clause-queued c = c.self.invariant.0.queued
 pub queued_without-queued-requires-clause-found : goal.queued_without-queued-requires-clause-found
 queued_without-queued-requires-clause-found c = c.get-found.ensures.exact
 
-pub recount-requires-clause-counted : goal.recount-requires-clause-counted
-recount-requires-clause-counted c = c.self.invariant.1
+pub recount-sent-requires-clause-counted : goal.recount-sent-requires-clause-counted
+recount-sent-requires-clause-counted c = c.self.invariant.1
 
-pub recount-requires-clause-found : goal.recount-requires-clause-found
-recount-requires-clause-found c = c.get-found.ensures.exact
+pub recount-sent-requires-clause-found : goal.recount-sent-requires-clause-found
+recount-sent-requires-clause-found c = c.get-found.ensures.exact
 
 pub replace-requires-clause-there : goal.replace-requires-clause-there
 replace-requires-clause-there c = search rules
