@@ -12,6 +12,7 @@ use Rattle.endpoint_counts.specs.Digests.{digest_of_endpoint}
 use Rattle.ordered_index.specs.Ordered.{is_key}
 use Rattle.endpoint_counts.specs.Slots.{entry_key, found, is_entry_of, numbered, slots_of, AreDistinct, AreSome}
 use Rattle.coap_pending.proofs.Tables.{none-least}
+use Rattle.endpoint_counts.proofs.Firsts.{first-some}
 use Rattle.coap_pending.specs.Table.{Numbered, Table, IsRising, IsTable, admitted_to, changed_at, first_that, item_at, passes, without, withdrawn, withdrawn_at}
 
 -- ---- places
@@ -398,3 +399,21 @@ module _ (at : Endpoint) (xs ys : List (Numbered Entry)) (rx : IsRising 0 xs) (r
                     let far : eqb n last ≡ false = ne_eqb n last (λ k. apart (same ∙ sym k)) in
                     found-at e ys n y ry distinct-less (now far ∙ ap (λ (z : Entry). Some z) one) too
                 place false h = found-at e ys m y ry distinct-less (others m (ne_eqb m n apart) h ∙ g) too
+
+-- an entry of an endpoint, where one passes
+entry-there : (at : Endpoint) (o : Option Entry) → passes (is_entry_of at) o ≡ true → (x : Entry) × (o ≡ Some x) × (is_entry_of at x ≡ true)
+entry-there at None e = absurd cc
+entry-there at (Some x) e = (x, refl, e)
+
+-- a place with an endpoint's entry is the endpoint's place
+pub only-place : (at : Endpoint) (xs : List (Numbered Entry)) (n : ℕ) → IsRising 0 xs → AreDistinct xs → passes (is_entry_of at) (item_at n xs) ≡ true → first_that (is_entry_of at) xs ≡ Some n
+only-place at xs n r d on = first-some (is_entry_of at) n 0 xs r on (λ m lt. other m lt (passes (is_entry_of at) (item_at m xs)) refl)
+  where
+    other : (m : ℕ) → m < n → (b : Bool) → passes (is_entry_of at) (item_at m xs) ≡ b → passes (is_entry_of at) (item_at m xs) ≡ false
+    other m lt false e = e
+    other m lt true e =
+        let here = entry-there at (item_at n xs) on in
+        let there = entry-there at (item_at m xs) e in
+        let one : there.0.peer ≡ here.0.peer = Tells-endpoint.only there.0.peer at there.2 ∙ sym (Tells-endpoint.only here.0.peer at here.2) in
+        let same : m ≡ n = d m n there.0 here.0 there.1 here.1 (rw one (Tells-endpoint.itself here.0.peer)) in
+        absurd (omega arith)

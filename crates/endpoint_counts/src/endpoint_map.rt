@@ -19,6 +19,9 @@ pub struct EndpointMap {
     slots: Slots,
     /// The numbers of the places, by the digest of the endpoint.
     places: HashedIndex,
+    /// The number of the place that was set last. An endpoint is looked for there first: what an
+    /// exchange or a client does is often followed by what it does next.
+    last: u64,
 }
 
 impl Drop for EndpointMap {
@@ -26,6 +29,7 @@ impl Drop for EndpointMap {
         let EndpointMap {
             slots: _,
             places: _,
+            last: _,
         } = self;
     }
 }
@@ -57,7 +61,11 @@ impl EndpointMap {
     {
         let slots = Slots::new(alloc, limit)?;
         let places = HashedIndex::new(alloc, limit, seed)?;
-        Ok(EndpointMap { slots, places })
+        Ok(EndpointMap {
+            slots,
+            places,
+            last: 0,
+        })
     }
 
     /// The endpoint at the place of this number, with what is counted for it. The places are
@@ -107,10 +115,12 @@ impl EndpointMap {
     {
         let entry = Entry { peer: at, counts };
         if let Some(number) = place {
+            self.last = number;
             self.slots.set(number, entry);
             return;
         }
         let number = self.slots.len() + 1;
+        self.last = number;
         self.places.rekey(number, None, Some(at.digest()));
         self.slots.push(entry);
     }
@@ -138,6 +148,16 @@ impl EndpointMap {
 
     /// The number of the place of an endpoint, if it has one.
     pub fn place_of(&self, at: Peer) -> Option<u64>
+        ensures exact { result ≡ first_that (is_entry_of at) self.now.items }
+    {
+        if self.is_at(self.last, at) {
+            return Some(self.last);
+        }
+        self.place_by_digest(at)
+    }
+
+    /// The same, found by the endpoint's digest.
+    fn place_by_digest(&self, at: Peer) -> Option<u64>
         ensures exact { result ≡ first_that (is_entry_of at) self.now.items }
     {
         let mut after = 0;

@@ -1,28 +1,10 @@
-use Rattle.std.proofs.Common.{◌≡◌, ℕ, Some, None, false, true, rules, subst, sym, arith}
-use Rattle.ordered_index.specs.Ordered.{IsNextOf}
-use Rattle.endpoint_counts.specs.Digests.{digest_of_endpoint}
-use Rattle.endpoint_counts.specs.Slots.{entry_key, is_entry_of}
+use Rattle.std.proofs.Common.{◌≡◌, true, sym}
+use Rattle.endpoint_counts.specs.Slots.{is_entry_of}
 use Rattle.coap_pending.specs.Table.{item_at, passes}
-use Rattle.endpoint_counts.proofs.Firsts.{none-start, none-next, first-found, first-missing}
-use Rattle.endpoint_counts.proofs.Slotting.{other-key}
+use Rattle.endpoint_counts.proofs.Slotting.{only-place}
 use Rattle.endpoint_counts.proofs.endpoint_map.EndpointMap.place_of.Goals as goal
-
-pub loop-number-init : goal.loop-number-init
-loop-number-init c = (omega arith, none-start entry_key (is_entry_of c.args.at) (digest_of_endpoint c.args.at) (other-key c.args.at) c.self.inside.slots c.self.inside.places c.self.invariant.2 c.self.invariant.0)
 
 pub returns-then-is_at : goal.returns-then-is_at
 returns-then-is_at c =
-    let next : IsNextOf (digest_of_endpoint c.args.at) c.loop-number.after c.self.inside.places.pairs (Some c.in-Some.number) = subst (λ (o : ℕ). IsNextOf o c.loop-number.after c.self.inside.places.pairs (Some c.in-Some.number)) c.digest.ensures.exact c.in-Some.ensures.exact in
-    let on : passes (is_entry_of c.args.at) (item_at c.in-Some.number c.self.inside.slots.items) ≡ true = rw c.self.view_is (sym c.if-is_at.ensures.exact) in
-    record { exact = rw (← c.self.view_is) (sym (first-found entry_key (is_entry_of c.args.at) (digest_of_endpoint c.args.at) (other-key c.args.at) c.self.inside.slots c.self.inside.places c.self.invariant.2 c.self.invariant.0 c.loop-number.after c.in-Some.number c.loop-number.invariant.1 next on)) }
-
-pub loop-number-preserved : goal.loop-number-preserved
-loop-number-preserved c =
-    let next : IsNextOf (digest_of_endpoint c.args.at) c.loop-number.after c.self.inside.places.pairs (Some c.in-Some.number) = subst (λ (o : ℕ). IsNextOf o c.loop-number.after c.self.inside.places.pairs (Some c.in-Some.number)) c.digest.ensures.exact c.in-Some.ensures.exact in
-    let off : passes (is_entry_of c.args.at) (item_at c.in-Some.number c.self.inside.slots.items) ≡ false = rw c.self.view_is (sym c.if-is_at.ensures.exact) in
-    (search rules, none-next entry_key (is_entry_of c.args.at) (digest_of_endpoint c.args.at) (other-key c.args.at) c.self.inside.slots c.self.inside.places c.self.invariant.2 c.self.invariant.0 c.loop-number.after c.in-Some.number c.loop-number.invariant.1 next off)
-
-pub returns : goal.returns
-returns c =
-    let next : IsNextOf (digest_of_endpoint c.args.at) c.loop-number.after c.self.inside.places.pairs None = subst (λ (o : ℕ). IsNextOf o c.loop-number.after c.self.inside.places.pairs None) c.digest.ensures.exact c.in_default.ensures.exact in
-    record { exact = rw (← c.self.view_is) (sym (first-missing entry_key (is_entry_of c.args.at) (digest_of_endpoint c.args.at) (other-key c.args.at) c.self.inside.slots c.self.inside.places c.self.invariant.2 c.self.invariant.0 c.loop-number.after c.loop-number.invariant.1 next)) }
+    let on : passes (is_entry_of c.args.at) (item_at c.self.inside.last c.self.inside.slots.items) ≡ true = rw c.self.view_is (sym c.if-is_at.ensures.exact) in
+    record { exact = rw (← c.self.view_is) (sym (only-place c.args.at c.self.inside.slots.items c.self.inside.last c.self.invariant.2.rising c.self.invariant.1 on)) }
