@@ -3,6 +3,7 @@ pub mod Events
 pub mod Forms
 pub mod Settings
 pub mod Steps
+pub mod Within
 pub mod Storing
 pub mod Watching
 pub use Rattle.coap_model.specs.Setting

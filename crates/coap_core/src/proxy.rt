@@ -1,12 +1,8 @@
 //! The core of a proxy: one step for one event.
 ghost use Rattle.std.specs.Prelude.{◌≡◌, ◌≤◌, ◌<◌, ◌^◌, ◌+◌, [], true, length, IfOk, IfSome, IsOk, IsTrue, OnErr};
 ghost use Rattle.coap_message.specs.Datagram.{holding};
-ghost use Rattle.coap_store.specs.Entries.{entry_size};
-ghost use Rattle.coap_store.specs.Lists.{total};
 ghost use Rattle.coap_endpoint.specs.declared.endpoint.Endpoint.{Endpoint};
-ghost use Rattle.coap_dedup.specs.Records.{living_at};
 ghost use Rattle.coap_model.specs.Events.{tick};
-ghost use Rattle.coap_model.specs.Held.{held, most_held};
 ghost use Rattle.coap_model.specs.Setting.{setting_of};
 ghost use Rattle.coap_model.specs.State.{new_state, client_counts, counts};
 ghost use Rattle.coap_model.specs.Ticks.{next_due, on_tick};
@@ -15,6 +11,7 @@ ghost use Rattle.coap_model.specs.Step.{step_of};
 ghost use Rattle.coap_model.specs.Carries.{Carries};
 ghost use Rattle.coap_core.specs.Events.{IsUnread, seen};
 ghost use Rattle.coap_core.specs.Steps.{CarriesOn, Does, GivesConfirmable, KeepsWordOn, LeavesRoomOn, PromisesOn, entry_told, wants_memory};
+ghost use Rattle.coap_core.specs.Within.{AreWithinLimits};
 
 use crate::event::Event;
 use crate::setting::Setting;
@@ -161,27 +158,7 @@ impl<S: Store + Drop> Core<S> {
         // The settings don't change, and the tables stay within the limits and within the bound on
         // bytes.
         ensures setting { self.new.setting ≡ self.old.setting }
-        ensures exchanges { length self.new.exchanges ≤ self.new.setting.limits.exchanges }
-        ensures waiters { length self.new.waiters ≤ self.new.setting.limits.waiters }
-        ensures con_records { length (living_at self.new.last self.new.con_records)
-            ≤ self.new.setting.limits.con_records }
-        ensures non_records { length (living_at self.new.last self.new.non_records)
-            ≤ self.new.setting.limits.non_records }
-        ensures client_exchanges { (client : Endpoint)
-            → (client_counts self.new client).exchanges
-            ≤ self.new.setting.limits.client_exchanges }
-        ensures client_waiters { (client : Endpoint)
-            → (client_counts self.new client).waiters ≤ self.new.setting.limits.client_waiters }
-        ensures client_con_records { (from : Endpoint)
-            → (client_counts self.new from).con_records
-            ≤ self.new.setting.limits.client_con_records }
-        ensures client_non_records { (from : Endpoint)
-            → (client_counts self.new from).non_records
-            ≤ self.new.setting.limits.client_non_records }
-        ensures entries { length self.new.store ≤ self.new.setting.limits.cache_entries }
-        ensures cached_bytes { total entry_size self.new.store
-            ≤ self.new.setting.limits.cache_bytes }
-        ensures held { held self.new ≤ most_held self.new.setting.limits }
+        ensures limits { AreWithinLimits self.new }
 
         // If it runs out of memory, nothing happened.
         ensures err { OnErr result (self.new ≡ self.old) }

@@ -13,10 +13,10 @@ ghost use Rattle.coap_model.specs.Verdicts.{verdict_of};
 ghost use Rattle.coap_store.specs.Entries.{has_usable};
 ghost use Rattle.coap_message.specs.Datagram.{holding};
 ghost use Rattle.coap_model.specs.Requests.{lacks_id, refuses, overloads, next_token, copy_of, tag_carried, joins, on_key, on_new, on_request};
-ghost use Rattle.coap_model.specs.State.{can_reply, has_room_to_join, has_room_to_open, later, remembers, takes_up};
+ghost use Rattle.coap_model.specs.State.{can_reply, has_room_to_join, has_room_to_open, later, takes_up};
 ghost use Rattle.coap_core.specs.Arrivals.{of_arrival};
 ghost use Rattle.coap_core.specs.Forms.{seen};
-ghost use Rattle.coap_core.specs.Steps.{IsDone, CanGoOn, CanRemember, CanAsk, CanReplyTo, CanStep, IsAsked, IsForwardable, IsMissed, held_for, joinable_step, missed_step, needing_step, opening_step, verdict_seen, wants_memory};
+ghost use Rattle.coap_core.specs.Steps.{CanAsk, CanDo, CanGoOn, CanRemember, CanReplyTo, IsAsked, IsDone, IsDoneFor, IsForwardable, IsMissed, held_for, joinable_step, missed_step, needing_step, opening_step, verdict_seen, wants_memory};
 ghost use Rattle.coap_core.specs.Storing.{taken_up_bytes};
 ghost use Rattle.coap_core.specs.declared.requests.Verdict.TheVariants as verdicts;
 
@@ -126,9 +126,7 @@ impl<S: Store + Drop> State<S> {
         arrival: Arrival<'_, '_>,
         out: &mut Datagram,
     ) -> Result<Report, OutOfMemory>
-        requires ready { CanStep arrival.now self.old }
-        requires room { self.old.setting.limits.datagram ≤ out.old.room }
-        requires fits { length (of_arrival (on_request self.old) arrival).bytes ≤ out.old.room }
+        requires can { CanDo (of_arrival (on_request self.old) arrival) arrival.now self.old out.old }
         ensures done { IsDone
             (of_arrival (on_request self.old) arrival.entry)
             result out.old out.new self.old self.new }
@@ -151,13 +149,9 @@ impl<S: Store + Drop> State<S> {
         arrival: Arrival<'_, '_>,
         out: &mut Datagram,
     ) -> Result<Report, OutOfMemory>
-        requires ready { CanStep arrival.now self.old }
         requires new { CanRemember arrival.now arrival.from arrival.message.now self.old }
-        requires room { self.old.setting.limits.datagram ≤ out.old.room }
-        requires fits { length (of_arrival (on_new self.old) arrival).bytes ≤ out.old.room }
-        ensures { IsDone
-            (of_arrival remembers arrival.entry (of_arrival (on_new self.old) arrival.entry))
-            result out.old out.new self.old self.new }
+        requires can { CanDo (of_arrival (on_new self.old) arrival) arrival.now self.old out.old }
+        ensures { IsDoneFor arrival.entry (of_arrival (on_new self.old) arrival.entry) result out.old out.new self.old self.new }
     {
         if !self.can_reply(arrival.now, arrival.message.kind()) {
             return self.lack_id(arrival, out);
@@ -177,11 +171,8 @@ impl<S: Store + Drop> State<S> {
         out: &mut Datagram,
     ) -> Result<Report, OutOfMemory>
         requires reply { CanReplyTo arrival self.old }
-        requires room { self.old.setting.limits.datagram ≤ out.old.room }
-        requires fits { length (of_arrival (on_new self.old) arrival).bytes ≤ out.old.room }
-        ensures { IsDone
-            (of_arrival remembers arrival.entry (of_arrival (on_new self.old) arrival.entry))
-            result out.old out.new self.old self.new }
+        requires can { CanDo (of_arrival (on_new self.old) arrival) arrival.now self.old out.old }
+        ensures { IsDoneFor arrival.entry (of_arrival (on_new self.old) arrival.entry) result out.old out.new self.old self.new }
     {
         match self.verdict_of(arrival.message, asked)? {
             Verdict::RefusedWith(code) => self.refuse(arrival, code, out),
@@ -231,13 +222,8 @@ impl<S: Store + Drop> State<S> {
     ) -> Result<Report, OutOfMemory>
         requires reply { CanReplyTo arrival self.old }
         requires asked { IsAsked self.old arrival.message.now asked.now }
-        requires room { self.old.setting.limits.datagram ≤ out.old.room }
-        requires fits { length (of_arrival (on_key self.old) arrival asked.now.key).bytes
-            ≤ out.old.room }
-        ensures { IsDone
-            (of_arrival remembers arrival.entry
-            (of_arrival (on_key self.old) arrival.entry asked.now.key))
-            result out.old out.new self.old self.new }
+        requires can { CanDo (of_arrival (on_key self.old) arrival asked.now.key) arrival.now self.old out.old }
+        ensures { IsDoneFor arrival.entry (of_arrival (on_key self.old) arrival.entry asked.now.key) result out.old out.new self.old self.new }
     {
         if !is_get(arrival.message.code()) {
             let missed = Missed::new(&asked.key, Miss::Nothing);
@@ -305,14 +291,9 @@ impl<S: Store + Drop> State<S> {
         missed: Missed<'_>,
         out: &mut Datagram,
     ) -> Result<Report, OutOfMemory>
-        requires can { CanAsk arrival asked.now missed self.old }
-        requires room { self.old.setting.limits.datagram ≤ out.old.room }
-        requires fits { length (of_arrival (missed_step self.old) arrival asked.now.key).bytes
-            ≤ out.old.room }
-        ensures { IsDone
-            (of_arrival remembers arrival.entry
-            (of_arrival (missed_step self.old) arrival.entry asked.now.key))
-            result out.old out.new self.old self.new }
+        requires ask { CanAsk arrival asked.now missed self.old }
+        requires can { CanDo (of_arrival (missed_step self.old) arrival asked.now.key) arrival.now self.old out.old }
+        ensures { IsDoneFor arrival.entry (of_arrival (missed_step self.old) arrival.entry asked.now.key) result out.old out.new self.old self.new }
     {
         let exchanges = self.under_way.exchanges();
         match exchanges.joinable_as(&missed.key) {
@@ -333,10 +314,7 @@ impl<S: Store + Drop> State<S> {
         requires tags { asked.now.tags ≡ tags_of arrival.message.now }
         requires fits { length (of_arrival (joinable_step self.old) arrival exchange).bytes
             ≤ out.old.room }
-        ensures { IsDone
-            (of_arrival remembers arrival.entry
-            (of_arrival (joinable_step self.old) arrival.entry exchange))
-            result out.old out.new self.old self.new }
+        ensures { IsDoneFor arrival.entry (of_arrival (joinable_step self.old) arrival.entry exchange) result out.old out.new self.old self.new }
     {
         if !self.has_room_to_join(arrival.now, arrival.from) {
             return self.overload(arrival, out);
@@ -355,14 +333,9 @@ impl<S: Store + Drop> State<S> {
         missed: Missed<'_>,
         out: &mut Datagram,
     ) -> Result<Report, OutOfMemory>
-        requires can { CanAsk arrival asked.now missed self.old }
-        requires room { self.old.setting.limits.datagram ≤ out.old.room }
-        requires fits { length (of_arrival (needing_step self.old) arrival asked.now.key).bytes
-            ≤ out.old.room }
-        ensures { IsDone
-            (of_arrival remembers arrival.entry
-            (of_arrival (needing_step self.old) arrival.entry asked.now.key))
-            result out.old out.new self.old self.new }
+        requires ask { CanAsk arrival asked.now missed self.old }
+        requires can { CanDo (of_arrival (needing_step self.old) arrival asked.now.key) arrival.now self.old out.old }
+        ensures { IsDoneFor arrival.entry (of_arrival (needing_step self.old) arrival.entry asked.now.key) result out.old out.new self.old self.new }
     {
         let target = &asked.key.target;
         if self
@@ -503,9 +476,7 @@ impl<S: Store + Drop> State<S> {
     ) -> Result<Report, OutOfMemory>
         requires reply { CanReplyTo arrival self.old }
         requires fits { length (of_arrival (refuses self.old) arrival code).bytes ≤ out.old.room }
-        ensures { IsDone
-            (of_arrival remembers arrival.entry (of_arrival (refuses self.old) arrival.entry code))
-            result out.old out.new self.old self.new }
+        ensures { IsDoneFor arrival.entry (of_arrival (refuses self.old) arrival.entry code) result out.old out.new self.old self.new }
     {
         let head = self.reply_head(arrival.message, code);
         let token = Token::new(arrival.message.token());
@@ -521,9 +492,7 @@ impl<S: Store + Drop> State<S> {
     ) -> Result<Report, OutOfMemory>
         requires reply { CanReplyTo arrival self.old }
         requires fits { length (of_arrival (overloads self.old) arrival).bytes ≤ out.old.room }
-        ensures { IsDone
-            (of_arrival remembers arrival.entry (of_arrival (overloads self.old) arrival.entry))
-            result out.old out.new self.old self.new }
+        ensures { IsDoneFor arrival.entry (of_arrival (overloads self.old) arrival.entry) result out.old out.new self.old self.new }
     {
         let head = self.reply_head(arrival.message, Code::SERVICE_UNAVAILABLE);
         let token = Token::new(arrival.message.token());
@@ -539,9 +508,7 @@ impl<S: Store + Drop> State<S> {
     ) -> Result<Report, OutOfMemory>
         requires can { CanGoOn self.old }
         requires new { CanRemember arrival.now arrival.from arrival.message.now self.old }
-        ensures { IsDone
-            (of_arrival remembers arrival.entry (lacks_id self.old arrival.entry.now))
-            result out.old out.new self.old self.new }
+        ensures { IsDoneFor arrival.entry (lacks_id self.old arrival.entry.now) result out.old out.new self.old self.new }
     {
         out.clear();
         self.remember(arrival, &[])?;
@@ -560,11 +527,7 @@ impl<S: Store + Drop> State<S> {
         requires events { self.old.events < 2 ^ 63 }
         requires new { CanRemember arrival.now arrival.from arrival.message.now self.old }
         requires fits { length (taken_up_bytes arrival.message.now) ≤ out.old.room }
-        ensures { IsDone
-            (of_arrival remembers arrival.entry
-            (takes_up outcome arrival.entry.from arrival.entry.message.now
-            (later self.old arrival.entry.now)))
-            result out.old out.new self.old self.new }
+        ensures { IsDoneFor arrival.entry (takes_up outcome arrival.entry.from arrival.entry.message.now (later self.old arrival.entry.now)) result out.old out.new self.old self.new }
     {
         let send = put_acceptance(arrival.from, arrival.message, out);
         self.remember(arrival, out.bytes())?;
@@ -594,10 +557,7 @@ impl<S: Store + Drop> State<S> {
         requires fits { length
             (of_arrival (opening_step self.old) arrival exchange.key).bytes
             ≤ out.old.room }
-        ensures { IsDone
-            (of_arrival remembers arrival.entry
-            (of_arrival (opening_step self.old) arrival.entry exchange.entry.key))
-            result out.old out.new self.old self.new }
+        ensures { IsDoneFor arrival.entry (of_arrival (opening_step self.old) arrival.entry exchange.entry.key) result out.old out.new self.old self.new }
     {
         let NewExchange { key, tags, copy } = exchange;
         let form = Seq::from_slice(self.alloc, out.bytes())?;
@@ -635,10 +595,7 @@ impl<S: Store + Drop> State<S> {
         requires tags { tags ≡ tags_of arrival.message.now }
         requires fits { length (of_arrival (joins self.old) arrival exchange).bytes
             ≤ out.old.room }
-        ensures { IsDone
-            (of_arrival remembers arrival.entry
-            (of_arrival (joins self.old) arrival.entry exchange))
-            result out.old out.new self.old self.new }
+        ensures { IsDoneFor arrival.entry (of_arrival (joins self.old) arrival.entry exchange) result out.old out.new self.old self.new }
     {
         self.under_way.join(joining_of(arrival, tags, exchange))?;
         let done = self.accept_request(arrival, Outcome::Joined, out);

@@ -11,7 +11,7 @@ ghost use Rattle.coap_model.specs.Responses.{has_id, awaiting, on_response};
 ghost use Rattle.coap_model.specs.History.{grown_of};
 ghost use Rattle.coap_core.specs.Arrivals.{of_arrival, of_grown};
 ghost use Rattle.coap_core.specs.Storing.{IsKept, answering_at, awaited_step, confirmable_step, separate_step, if_storable, targets_in, taken_up, taken_up_bytes, taken_up_to};
-ghost use Rattle.coap_core.specs.Steps.{Does, IsDoneBy, IsNew, CanGoOn, CanRemember, CanStep, IsOpenAt, wants_memory};
+ghost use Rattle.coap_core.specs.Steps.{CanDo, CanGoOn, CanRemember, Does, IsDoneBy, IsNew, IsOpenAt, wants_memory};
 
 use crate::arrival::Arrival;
 use crate::copies::copy_of_message;
@@ -96,10 +96,7 @@ impl<S: Store + Drop> State<S> {
         arrival: Arrival<'_, '_>,
         out: &mut Datagram,
     ) -> Result<Report, OutOfMemory>
-        requires ready { CanStep arrival.now self.old }
-        requires room { self.old.setting.limits.datagram ≤ out.old.room }
-        requires fits { length (of_grown (on_response self.old) arrival true).bytes
-            ≤ out.old.room }
+        requires can { CanDo (of_grown (on_response self.old) arrival true) arrival.now self.old out.old }
         ensures done { IsDoneBy (of_grown (on_response self.old) arrival.entry)
             result out.old out.new self.old self.new }
         ensures memory { OnErr result
@@ -137,12 +134,8 @@ impl<S: Store + Drop> State<S> {
         arrival: Arrival<'_, '_>,
         out: &mut Datagram,
     ) -> Result<Report, OutOfMemory>
-        requires ready { CanStep arrival.now self.old }
         requires con { is_con arrival.message.now.kind ≡ true }
-        requires room { self.old.setting.limits.datagram ≤ out.old.room }
-        requires fits { length
-            (of_grown (confirmable_step self.old) arrival true).bytes
-            ≤ out.old.room }
+        requires can { CanDo (of_grown (confirmable_step self.old) arrival true) arrival.now self.old out.old }
         ensures done { IsDoneBy (of_grown (confirmable_step self.old) arrival.entry)
             result out.old out.new self.old self.new }
         ensures memory { OnErr result

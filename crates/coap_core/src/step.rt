@@ -9,7 +9,7 @@ ghost use Rattle.coap_model.specs.Step.{message_in, on_message, on_datagram, ste
 ghost use Rattle.coap_model.specs.Ticks.{item_due, on_tick};
 ghost use Rattle.coap_core.specs.Arrivals.{of_grown};
 ghost use Rattle.coap_core.specs.Events.{IsUnread, seen};
-ghost use Rattle.coap_core.specs.Steps.{Does, IsDoneBy, CanGoOn, CanStep, GivesConfirmable, wants_memory};
+ghost use Rattle.coap_core.specs.Steps.{CanDo, CanGoOn, Does, GivesConfirmable, IsDoneBy, wants_memory};
 
 use crate::arrival::Arrival;
 use crate::event::Event;
@@ -31,12 +31,8 @@ impl<S: Store + Drop> State<S> {
         due: Option<DueItem>,
         out: &mut Datagram,
     ) -> Result<Report, OutOfMemory>
-        requires ready { CanStep timing.now self.old }
-        requires draw { timing.draw ≤ 1000 }
         requires due { due ≡ item_due self.old }
-        requires room { self.old.setting.limits.datagram ≤ out.old.room }
-        requires fits { length (step_of self.old timing.now timing.draw true (seen event)).bytes
-            ≤ out.old.room }
+        requires can { CanDo (step_of self.old timing.now timing.draw true (seen event)) timing.now self.old out.old }
         ensures exact { IfOk result (λ report.
             Does
             (step_of self.old timing.now timing.draw (grown_of report.outcome) (seen event.entry))
@@ -68,10 +64,7 @@ impl<S: Store + Drop> State<S> {
         bytes: &[u8],
         out: &mut Datagram,
     ) -> Result<Report, OutOfMemory>
-        requires ready { CanStep now self.old }
-        requires room { self.old.setting.limits.datagram ≤ out.old.room }
-        requires fits { length (on_datagram self.old now true source bytes.now).bytes
-            ≤ out.old.room }
+        requires can { CanDo (on_datagram self.old now true source bytes.now) now self.old out.old }
         ensures done { IsDoneBy (λ grown. on_datagram self.old now grown source bytes.now)
             result out.old out.new self.old self.new }
         ensures memory { OnErr result
@@ -110,10 +103,7 @@ impl<S: Store + Drop> State<S> {
         arrival: Arrival<'_, '_>,
         out: &mut Datagram,
     ) -> Result<Report, OutOfMemory>
-        requires ready { CanStep arrival.now self.old }
-        requires room { self.old.setting.limits.datagram ≤ out.old.room }
-        requires fits { length (of_grown (on_message self.old) arrival true).bytes
-            ≤ out.old.room }
+        requires can { CanDo (of_grown (on_message self.old) arrival true) arrival.now self.old out.old }
         ensures done { IsDoneBy (of_grown (on_message self.old) arrival.entry)
             result out.old out.new self.old self.new }
         ensures memory { OnErr result

@@ -8,7 +8,7 @@ ghost use Rattle.coap_model.specs.History.{is_con_datagram};
 ghost use Rattle.coap_model.specs.Ticks.{abandons, item_due, moment_of, gives_up, idles, on_tick, without_idle};
 ghost use Rattle.coap_pending.specs.Waiters as waiters;
 ghost use Rattle.coap_pending.specs.Waiters.{is_waiting};
-ghost use Rattle.coap_core.specs.Steps.{Does, IsDone, CanGoOn, CanStep, GivesConfirmable, HasAnswer, IsClientDue, IsExchangeDue, IsFound, IsServed, answer_at, delivery_at, exchange_at, firing_at, form_at, given_at, sending_at, told_in, unheard_at, waiter_at};
+ghost use Rattle.coap_core.specs.Steps.{CanDo, CanGoOn, CanStep, Does, GivesConfirmable, HasAnswer, IsClientDue, IsDone, IsExchangeDue, IsFound, IsServed, answer_at, delivery_at, exchange_at, firing_at, form_at, given_at, sending_at, told_in, unheard_at, waiter_at};
 
 use crate::laws;
 use crate::state::{State, silent};
@@ -57,10 +57,8 @@ impl<S: Store + Drop> State<S> {
         due: Option<DueItem>,
         out: &mut Datagram,
     ) -> Result<Report, OutOfMemory>
-        requires ready { CanStep timing.now self.old }
-        requires draw { timing.draw ≤ 1000 }
         requires due { due ≡ item_due self.old }
-        requires fits { length (on_tick self.old timing.now timing.draw).bytes ≤ out.old.room }
+        requires can { CanDo (on_tick self.old timing.now timing.draw) timing.now self.old out.old }
         ensures done { IsDone (on_tick self.old timing.now timing.draw)
             result out.old out.new self.old self.new }
         ensures memory { OnErr result (GivesConfirmable (on_tick self.old timing.now timing.draw)) }
@@ -117,10 +115,8 @@ impl<S: Store + Drop> State<S> {
     /// Handles the exchange numbered `number`, which is due: it times out at its deadline, and
     /// before that its request is sent, or sent again.
     fn on_exchange(&mut self, timing: Timing, number: ExchangeNumber, out: &mut Datagram) -> Report
-        requires ready { CanStep timing.now self.old }
-        requires draw { timing.draw ≤ 1000 }
         requires due { IsFound (IsExchangeDue self.old timing.now) number self.old.exchanges }
-        requires fits { length (exchange_at self.old timing number).bytes ≤ out.old.room }
+        requires can { CanDo (exchange_at self.old timing number) timing.now self.old out.old }
         ensures { Does (exchange_at self.old timing number) result out.old out.new self.new }
     {
         let Some(exchange) = self.under_way.exchange(number) else {
@@ -149,11 +145,9 @@ impl<S: Store + Drop> State<S> {
     /// Sends the request of an exchange to its origin, with a new Message ID. It is to be sent
     /// again until it is acknowledged or answered (RFC 7252, 4.2).
     fn send(&mut self, timing: Timing, due: Due, out: &mut Datagram) -> Report
-        requires ready { CanStep timing.now self.old }
-        requires draw { timing.draw ≤ 1000 }
         requires queued { IsFound (λ x. (is_queued x ≡ true) × (due.to ≡ x.key.target.at))
             due.number self.old.exchanges }
-        requires fits { length (sending_at self.old timing due.number).bytes ≤ out.old.room }
+        requires can { CanDo (sending_at self.old timing due.number) timing.now self.old out.old }
         ensures { Does (sending_at self.old timing due.number) result out.old out.new self.new }
     {
         let (asked, timer) = (self.events, Timer::start(timing.now, timing.draw));
@@ -171,10 +165,9 @@ impl<S: Store + Drop> State<S> {
     /// Handles the end of the current timeout of an exchange: its request is retransmitted, with
     /// the same bytes, or abandoned (RFC 7252, 4.2).
     fn on_request_timeout(&mut self, now: Moment, due: Due, out: &mut Datagram) -> Report
-        requires ready { CanStep now self.old }
         requires ended { IsFound (λ x. IsDue now x × (due.to ≡ x.key.target.at)) due.number
             self.old.exchanges }
-        requires fits { length (firing_at self.old now due.number).bytes ≤ out.old.room }
+        requires can { CanDo (firing_at self.old now due.number) now self.old out.old }
         ensures { Does (firing_at self.old now due.number) result out.old out.new self.new }
     {
         match self.under_way.fire(due.number, now) {
@@ -227,10 +220,8 @@ impl<S: Store + Drop> State<S> {
         number: WaiterNumber,
         out: &mut Datagram,
     ) -> Result<Report, OutOfMemory>
-        requires ready { CanStep timing.now self.old }
-        requires draw { timing.draw ≤ 1000 }
         requires due { IsFound (IsClientDue self.old timing.now) number self.old.waiters }
-        requires fits { length (waiter_at self.old timing number).bytes ≤ out.old.room }
+        requires can { CanDo (waiter_at self.old timing number) timing.now self.old out.old }
         ensures done { IsDone (waiter_at self.old timing number)
             result out.old out.new self.old self.new }
         ensures memory { OnErr result (GivesConfirmable (waiter_at self.old timing number)) }
@@ -298,7 +289,6 @@ impl<S: Store + Drop> State<S> {
         out: &Datagram,
     ) -> Result<Report, OutOfMemory>
         requires ready { CanStep timing.now self.old }
-        requires draw { timing.draw ≤ 1000 }
         requires waits { IsFound (IsServed delivery) delivery.client.number self.old.waiters }
         requires answered { HasAnswer delivery.exchange self.old.exchanges }
         requires written { out.now.bytes ≡ (delivery_at self.old timing delivery).bytes }
@@ -324,8 +314,6 @@ impl<S: Store + Drop> State<S> {
         delivery: Delivery,
         out: &Datagram,
     ) -> Result<(), OutOfMemory>
-        requires moment { timing.now ≤ 2 ^ 62 }
-        requires draw { timing.draw ≤ 1000 }
         requires waits { IfSome (item_at delivery.client.number self.old.waiters)
             (λ v. is_waiting v ≡ true) }
         ensures ok { OnOk result
@@ -359,10 +347,9 @@ impl<S: Store + Drop> State<S> {
     /// Handles the end of the current timeout of a client that was sent its answer: the answer is
     /// retransmitted, with the same bytes, or abandoned (RFC 7252, 4.2).
     fn on_delivery_timeout(&mut self, now: Moment, due: Due, out: &mut Datagram) -> Report
-        requires ready { CanStep now self.old }
         requires ended { IsFound (λ v. waiters.IsDue now v × (due.to ≡ v.client)) due.number
             self.old.waiters }
-        requires fits { length (unheard_at self.old now due.number).bytes ≤ out.old.room }
+        requires can { CanDo (unheard_at self.old now due.number) now self.old out.old }
         ensures { Does (unheard_at self.old now due.number) result out.old out.new self.new }
     {
         match self.under_way.fire_waiter(due.number, now) {

@@ -1,4 +1,5 @@
 //! When a step is taken, and what is drawn for it.
+ghost use Rattle.std.specs.Prelude.{◌≤◌, ◌^◌};
 
 use coap_message::Moment;
 
@@ -9,4 +10,6 @@ pub(crate) struct Timing {
     pub(crate) now: Moment,
     /// A random number of milliseconds, added to the first timeout of what is sent.
     pub(crate) draw: u16,
+    ghost moment: { now ≤ 2 ^ 62 },
+    ghost jitter: { draw ≤ 1000 },
 }

@@ -117,6 +117,7 @@ impl Index {
     }
 
     /// Updates what the exchange numbered `number` is looked up by, from `was` to `is`.
+    #[inline(always)]
     pub(crate) fn rekey(&mut self, number: ExchangeNumber, was: ExchangeKeys, is: ExchangeKeys)
         requires { CanRekeyAll self.old number was is }
         ensures exact { HaveRekeyed self.old self.new number was is }

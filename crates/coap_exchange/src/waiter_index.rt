@@ -55,6 +55,7 @@ impl WaiterIndex {
     }
 
     /// Updates what the waiter numbered `number` is looked up by, from `was` to `is`.
+    #[inline(always)]
     pub(crate) fn rekey(&mut self, number: WaiterNumber, was: WaiterKeys, is: WaiterKeys)
         requires { CanRekeyWaiter self.old number was is }
         ensures exact { HaveRekeyedWaiter self.old self.new number was is }

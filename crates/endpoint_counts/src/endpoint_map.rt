@@ -171,6 +171,7 @@ impl EndpointMap {
     }
 
     /// Whether an endpoint has the place of this number.
+    #[inline(always)]
     fn is_at(&self, number: u64, at: Peer) -> bool
         ensures exact { result ≡ passes (is_entry_of at) (item_at number self.now.items) }
     {

@@ -32,6 +32,7 @@ impl Model for Peer {
 
 impl Peer {
     /// An endpoint, with its digest.
+    #[inline(always)]
     pub fn new(at: Endpoint) -> Peer
         ensures exact { result ≡ at }
     {
@@ -42,6 +43,7 @@ impl Peer {
     }
 
     /// The endpoint.
+    #[inline(always)]
     pub fn endpoint(&self) -> Endpoint
         ensures exact { result ≡ self.now }
     {
@@ -49,6 +51,7 @@ impl Peer {
     }
 
     /// The digest of the endpoint.
+    #[inline(always)]
     pub fn digest(&self) -> u64
         ensures exact { result ≡ digest_of_endpoint self.now }
     {

@@ -18,17 +18,17 @@ use Rattle.coap_core.proofs.proxy.Core.step.Given.{Over}
 use Rattle.coap_core.proofs.proxy.Core.step.Goals.{After-step-done}
 use Rattle.coap_core.proofs.proxy.Core.step.Goals as goal
 
-pub step-done-requires-clause-ready : goal.step-done-requires-clause-ready
-step-done-requires-clause-ready g c =
-    let can = can_go_on c.self.invariant.1.0 c.self.inside.state c.self.invariant.1.1 (rw (← c.self.view_is) at c.requires.events) in
-    record { can = can; onward = rw (← c.self.view_is) at c.requires.onward; moment = c.requires.moment }
-
-pub step-done-requires-clause-fits : goal.step-done-requires-clause-fits
-step-done-requires-clause-fits g c =
+pub step-done-requires-clause-can : goal.step-done-requires-clause-can
+step-done-requires-clause-can g c =
     let i = c.self.invariant in
+    let can = can_go_on i.1.0 c.self.inside.state i.1.1 (rw (← c.self.view_is) at c.requires.events) in
     let room = rw (← c.self.view_is) at c.requires.room in
     let fits = c.datagrams_fit.ensures.fits c.self.inside.state i.1.0 c.args.now c.args.draw true (seen c.args.event) i.1.1 i.0 c.laws.ensures in
-    omega (arith, room, fits)
+    record {
+      ready = record { can = can; onward = rw (← c.self.view_is) at c.requires.onward; moment = c.requires.moment };
+      room = room;
+      fits = omega (arith, room, fits);
+    }
 
 -- what the step leaves
 leaves : (g : Over) (c : After-step-done g) → IsLeft c.self.inside.state c.step-done.new.self
@@ -57,14 +57,22 @@ returns-clause-setting g c =
     let left = leaves g (goal.at.returns-clause-setting g c).After-step-done in
     rw (← c.self.view_is) left.setting
 
-pub returns-clause-exchanges : goal.returns-clause-exchanges
-returns-clause-exchanges g c = (promised g (goal.at.returns-clause-exchanges g c).After-step-done).exchanges
-
-pub returns-clause-waiters : goal.returns-clause-waiters
-returns-clause-waiters g c = (promised g (goal.at.returns-clause-waiters g c).After-step-done).waiters
-
-pub returns-clause-held : goal.returns-clause-held
-returns-clause-held g c = (promised g (goal.at.returns-clause-held g c).After-step-done).bytes
+pub returns-clause-limits : goal.returns-clause-limits
+returns-clause-limits g c =
+    let promised = promised g (goal.at.returns-clause-limits g c).After-step-done in
+    record {
+      exchanges = promised.exchanges;
+      waiters = promised.waiters;
+      con_records = promised.con_records;
+      non_records = promised.non_records;
+      client_exchanges = promised.client_exchanges;
+      client_waiters = promised.client_waiters;
+      client_con_records = promised.client_con_records;
+      client_non_records = promised.client_non_records;
+      entries = promised.entries;
+      cached_bytes = promised.cached_bytes;
+      held = promised.bytes;
+    }
 
 pub returns-clause-short : goal.returns-clause-short
 returns-clause-short g c =
@@ -74,18 +82,6 @@ returns-clause-short g c =
     let short : (grown : Bool) → length (step_of w c.args.now c.args.draw grown (seen c.args.event)).bytes ≤ w.setting.limits.datagram = λ grown. c.datagrams_fit.ensures.fits w i.1.0 c.args.now c.args.draw grown (seen c.args.event) i.1.1 i.0 c.laws.ensures in
     rw left.setting (is-short c.step-done.result (λ grown. step_of w c.args.now c.args.draw grown (seen c.args.event)) c.args.out.now c.step-done.new.out c.step-done.new.self w.setting.limits.datagram short c.step-done.ensures.exact c.step-done.ensures.none)
 
-pub returns-clause-entries : goal.returns-clause-entries
-returns-clause-entries g c = (promised g (goal.at.returns-clause-entries g c).After-step-done).entries
-
-pub returns-clause-cached_bytes : goal.returns-clause-cached_bytes
-returns-clause-cached_bytes g c = (promised g (goal.at.returns-clause-cached_bytes g c).After-step-done).cached_bytes
-
-pub returns-clause-con_records : goal.returns-clause-con_records
-returns-clause-con_records g c = (promised g (goal.at.returns-clause-con_records g c).After-step-done).con_records
-
-pub returns-clause-non_records : goal.returns-clause-non_records
-returns-clause-non_records g c = (promised g (goal.at.returns-clause-non_records g c).After-step-done).non_records
-
 pub returns-clause-promised : goal.returns-clause-promised
 returns-clause-promised g c = rw (← c.self.view_is) (on g (goal.at.returns-clause-promised g c).After-step-done Promised promises)
 
@@ -94,18 +90,6 @@ returns-clause-word g c = rw (← c.self.view_is) (on g (goal.at.returns-clause-
 
 pub returns-clause-shares : goal.returns-clause-shares
 returns-clause-shares g c = rw (← c.self.view_is) (on g (goal.at.returns-clause-shares g c).After-step-done LeavesRoom leaves-room)
-
-pub returns-clause-client_exchanges : goal.returns-clause-client_exchanges
-returns-clause-client_exchanges g c = (promised g (goal.at.returns-clause-client_exchanges g c).After-step-done).client_exchanges
-
-pub returns-clause-client_waiters : goal.returns-clause-client_waiters
-returns-clause-client_waiters g c = (promised g (goal.at.returns-clause-client_waiters g c).After-step-done).client_waiters
-
-pub returns-clause-client_con_records : goal.returns-clause-client_con_records
-returns-clause-client_con_records g c = (promised g (goal.at.returns-clause-client_con_records g c).After-step-done).client_con_records
-
-pub returns-clause-client_non_records : goal.returns-clause-client_non_records
-returns-clause-client_non_records g c = (promised g (goal.at.returns-clause-client_non_records g c).After-step-done).client_non_records
 
 pub returns-clause-ticks : goal.returns-clause-ticks
 returns-clause-ticks g c = rw (← c.self.view_is) c.step-done.ensures.ticks

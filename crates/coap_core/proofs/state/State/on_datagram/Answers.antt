@@ -14,8 +14,14 @@ use Rattle.coap_core.proofs.state.State.on_datagram.Goals as goal
 same : (g : Over) (grown : Bool) (c : In-Some g) → on_datagram c.args.self.now c.args.now grown c.args.source c.args.bytes.now ≡ on_message c.args.self.now c.args.now grown c.args.source c.in-Some.message
 same g grown c = on_read-message c.args.self.now c.args.now grown c.args.source c.args.bytes.now c.in-Some.message (sym c.in-Some.ensures)
 
-pub on_message-requires-clause-fits : goal.on_message-requires-clause-fits
-on_message-requires-clause-fits g c = subst (λ (s : Step). length s.bytes ≤ c.args.out.now.room) (same g true (goal.at.on_message-requires-clause-fits g c).In-Some) c.requires.fits
+pub on_message-requires : goal.on_message-requires
+on_message-requires g c = record {
+  can = record {
+    ready = c.requires.can.ready;
+    room = c.requires.can.room;
+    fits = subst (λ (s : Step). length s.bytes ≤ c.args.out.now.room) (same g true (goal.at.on_message-requires g c).In-Some) c.requires.can.fits;
+  };
+}
 
 pub returns-in-Some-clause-done : goal.returns-in-Some-clause-done
 returns-in-Some-clause-done g c =

@@ -28,7 +28,7 @@ put_answer-requires-clause-fits g c =
     let v = c.requires.ended.item in
     let there : item_at c.args.due.number c.self.inside.under_way.waiters.items ≡ Some v = subst (λ (s : State). item_at c.args.due.number s.waiters ≡ Some v) (sym c.self.view_is) c.requires.ended.found in
     let again : Again ≡ fire_of_state c.args.now v.state = rw there at c.in-Again.ensures.exact in
-    let fits : length (answer_in_state v.state) ≤ c.args.out.now.room = subst (λ (s : Step). length s.bytes ≤ c.args.out.now.room) (again-step c.args.self.now c.args.now c.args.due.number v c.requires.ended.found again) c.requires.fits in
+    let fits : length (answer_in_state v.state) ≤ c.args.out.now.room = subst (λ (s : Step). length s.bytes ≤ c.args.out.now.room) (again-step c.args.self.now c.args.now c.args.due.number v c.requires.ended.found again) c.requires.can.fits in
     rw c.fire_waiter.ensures.fired (subst (λ (b : List ℕ). length b ≤ c.args.out.now.room) (sym (answer c.args.due.number c.args.now c.self.inside.under_way.waiters.items v there)) fits)
 
 pub returns-in-Again : goal.returns-in-Again
@@ -49,7 +49,7 @@ returns-in-GiveUp g c =
     let there : item_at c.args.due.number c.self.inside.under_way.waiters.items ≡ Some v = subst (λ (s : State). item_at c.args.due.number s.waiters ≡ Some v) (sym c.self.view_is) c.requires.ended.found in
     let w = c.args.self.now in
     let due = c.requires.ended.holds.0 in
-    let rising : IsRising 0 t.items = subst (λ (s : State). IsRising 0 s.waiters) (sym c.self.view_is) c.requires.ready.can.waiters in
+    let rising : IsRising 0 t.items = subst (λ (s : State). IsRising 0 s.waiters) (sym c.self.view_is) c.requires.can.ready.can.waiters in
     let over : GiveUp ≡ fire_of_state c.args.now v.state = rw there at c.in-GiveUp.ensures.exact in
     let same : changed_at c.args.due.number (fired_waiter c.args.now) t.items ≡ t.items = changed-same c.args.due.number (fired_waiter c.args.now) 0 t.items v rising there (fired-same c.args.now v over) in
     let stays : c.fire_waiter.new.self ≡ c.self.inside.under_way = c.fire_waiter.ensures.fired ∙ (λ i. record c.self.inside.under_way { waiters = record t { items = same i } }) in

@@ -21,11 +21,15 @@ give_up-requires-clause-open g c =
     let k = (goal.at.give_up-requires-clause-open g c).In-Some in
     rw (found g k) (is-open c.args.self.now c.args.timing.now c.in-Some.exchange.now (due g k))
 
-pub send-requires-clause-fits : goal.send-requires-clause-fits
-send-requires-clause-fits g c =
-    let k = (goal.at.send-requires-clause-fits g c).In-Some in
-    subst (λ (s : Step). length s.bytes ≤ c.args.out.now.room)
-    (queued-step c.args.self.now c.args.timing c.args.number c.in-Some.exchange.now (found g k) (sym c.if-is_late.ensures) c.in-Queued.is) c.requires.fits
+pub send-requires-clause-can : goal.send-requires-clause-can
+send-requires-clause-can g c =
+    let k = (goal.at.send-requires-clause-can g c).In-Some in
+    record {
+      ready = c.requires.can.ready;
+      room = c.requires.can.room;
+      fits = subst (λ (s : Step). length s.bytes ≤ c.args.out.now.room)
+          (queued-step c.args.self.now c.args.timing c.args.number c.in-Some.exchange.now (found g k) (sym c.if-is_late.ensures) c.in-Queued.is) c.requires.can.fits;
+    }
 
 pub on_request_timeout-requires-clause-ended : goal.on_request_timeout-requires-clause-ended
 on_request_timeout-requires-clause-ended g c =
@@ -45,11 +49,15 @@ send-requires-clause-queued g c =
       holds = (rw c.in-Queued.is refl, refl);
     }
 
-pub on_request_timeout-requires-clause-fits : goal.on_request_timeout-requires-clause-fits
-on_request_timeout-requires-clause-fits g c =
-    let k = (goal.at.on_request_timeout-requires-clause-fits g c).In-Some in
-    subst (λ (s : Step). length s.bytes ≤ c.args.out.now.room)
-    (sent-step c.args.self.now c.args.timing c.args.number c.in-Some.exchange.now (found g k) (sym c.if-is_late.ensures) c.in-Sent.is) c.requires.fits
+pub on_request_timeout-requires-clause-can : goal.on_request_timeout-requires-clause-can
+on_request_timeout-requires-clause-can g c =
+    let k = (goal.at.on_request_timeout-requires-clause-can g c).In-Some in
+    record {
+      ready = c.requires.can.ready;
+      room = c.requires.can.room;
+      fits = subst (λ (s : Step). length s.bytes ≤ c.args.out.now.room)
+          (sent-step c.args.self.now c.args.timing c.args.number c.in-Some.exchange.now (found g k) (sym c.if-is_late.ensures) c.in-Sent.is) c.requires.can.fits;
+    }
 
 pub returns-in-Queued : goal.returns-in-Queued
 returns-in-Queued g c =

@@ -10,7 +10,7 @@ use Rattle.coap_core.proofs.state.State.on_request.Goals.{After-has_record_room}
 use Rattle.coap_core.proofs.state.State.on_request.Goals as goal
 
 pub repeat-requires : goal.repeat-requires
-repeat-requires g c = record { fits = repetition-fits c.args.self.now c.args.arrival.now c.args.arrival.from c.args.arrival.message.now (on_known c.args.self.now c.args.arrival.now c.args.arrival.from c.args.arrival.message.now) (λ known. refl) c.args.out.now.room c.requires.fits }
+repeat-requires g c = record { fits = repetition-fits c.args.self.now c.args.arrival.now c.args.arrival.from c.args.arrival.message.now (on_known c.args.self.now c.args.arrival.now c.args.arrival.from c.args.arrival.message.now) (λ known. refl) c.args.out.now.room c.requires.can.fits }
 
 -- a request that is new, and that there is room for, is remembered
 new : (g : Over) (c : After-has_record_room g) → has_record_room c.args.self.now c.args.arrival.now c.args.arrival.from c.kind.result ≡ true → of_arrival (on_request c.args.self.now) c.args.arrival ≡ of_arrival remembers c.args.arrival (of_arrival (on_new c.args.self.now) c.args.arrival)
@@ -19,8 +19,12 @@ new g c room = new-is c.args.self.now c.args.arrival.now c.args.arrival.from c.a
 pub returns-clause-done : goal.returns-clause-done
 returns-clause-done g c = done-as (new g (goal.at.returns-clause-done g c).After-has_record_room (sym c.if-not-has_record_room.ensures)) c.repeat.ensures.kept c.on_new.ensures
 
-pub on_new-requires-clause-fits : goal.on_new-requires-clause-fits
-on_new-requires-clause-fits g c = fits-as (new g (goal.at.on_new-requires-clause-fits g c).After-has_record_room (sym c.if-not-has_record_room.ensures)) c.repeat.ensures.kept c.requires.fits
+pub on_new-requires-clause-can : goal.on_new-requires-clause-can
+on_new-requires-clause-can g c = record {
+  ready = c.requires.can.ready;
+  room = rw c.repeat.ensures.kept c.requires.can.room;
+  fits = fits-as (new g (goal.at.on_new-requires-clause-can g c).After-has_record_room (sym c.if-not-has_record_room.ensures)) c.repeat.ensures.kept c.requires.can.fits;
+}
 
 pub returns-clause-memory : goal.returns-clause-memory
 returns-clause-memory g c =

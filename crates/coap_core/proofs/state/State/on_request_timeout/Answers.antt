@@ -24,7 +24,7 @@ put_form-requires-clause-fits g c =
     let found = c.requires.ended.found in
     let here : item_at c.args.due.number c.self.inside.under_way.exchanges.items ≡ Some x = subst (λ (v : State). item_at c.args.due.number v.exchanges ≡ Some x) (sym c.self.view_is) found in
     let again : Again ≡ fire_of_sending c.args.now x.sending = rw here at c.in-Again.ensures.exact in
-    let fits : length x.form ≤ c.args.out.now.room = subst (λ (s : Step). length s.bytes ≤ c.args.out.now.room) (again-step w c.args.now c.args.due.number x found again) c.requires.fits in
+    let fits : length x.form ≤ c.args.out.now.room = subst (λ (s : Step). length s.bytes ≤ c.args.out.now.room) (again-step w c.args.now c.args.due.number x found again) c.requires.can.fits in
     rw (c.fire.ensures.fired, changed-found c.args.due.number (fired_exchange c.args.now) c.self.inside.under_way.exchanges.items x here) fits
 
 pub give_up-requires-clause-open : goal.give_up-requires-clause-open
@@ -53,7 +53,7 @@ returns-in-GiveUp g c =
     let w = c.args.self.now in
     let found = c.requires.ended.found in
     let here : item_at c.args.due.number t.items ≡ Some x = subst (λ (v : State). item_at c.args.due.number v.exchanges ≡ Some x) (sym c.self.view_is) found in
-    let rising : IsRising 0 t.items = subst (λ (v : State). IsRising 0 v.exchanges) (sym c.self.view_is) c.requires.ready.can.exchanges in
+    let rising : IsRising 0 t.items = subst (λ (v : State). IsRising 0 v.exchanges) (sym c.self.view_is) c.requires.can.ready.can.exchanges in
     let over : GiveUp ≡ fire_of_sending c.args.now x.sending = rw here at c.in-GiveUp.ensures.exact in
     let same : changed_at c.args.due.number (fired_exchange c.args.now) t.items ≡ t.items = changed-same c.args.due.number (fired_exchange c.args.now) 0 t.items x rising here (fired-same c.args.now x over) in
     let stays : c.fire.new.self ≡ c.self.inside.under_way = c.fire.ensures.fired ∙ (λ i. record c.self.inside.under_way { exchanges = record t { items = same i } }) in

@@ -23,13 +23,17 @@ waiter g c =
 pub on_exchange-requires-clause-due : goal.on_exchange-requires-clause-due
 on_exchange-requires-clause-due g c =
     let k = (goal.at.on_exchange-requires-clause-due g c).In-Some-OfExchange in
-    due-at c.args.self.now c.args.timing.now c.in-Some-OfExchange.at c.in-Some-OfExchange.number c.requires.ready.can.exchanges (exchange g k) c.if-at-timing.true
+    due-at c.args.self.now c.args.timing.now c.in-Some-OfExchange.at c.in-Some-OfExchange.number c.requires.can.ready.can.exchanges (exchange g k) c.if-at-timing.true
 
-pub on_exchange-requires-clause-fits : goal.on_exchange-requires-clause-fits
-on_exchange-requires-clause-fits g c =
-    let k = (goal.at.on_exchange-requires-clause-fits g c).In-Some-OfExchange in
-    subst (λ (s : Step). length s.bytes ≤ c.args.out.now.room)
-    (of-exchange c.args.self.now c.args.timing c.in-Some-OfExchange.at c.in-Some-OfExchange.number (exchange g k) c.if-at-timing.true) c.requires.fits
+pub on_exchange-requires-clause-can : goal.on_exchange-requires-clause-can
+on_exchange-requires-clause-can g c =
+    let k = (goal.at.on_exchange-requires-clause-can g c).In-Some-OfExchange in
+    record {
+      ready = c.requires.can.ready;
+      room = c.requires.can.room;
+      fits = subst (λ (s : Step). length s.bytes ≤ c.args.out.now.room)
+          (of-exchange c.args.self.now c.args.timing c.in-Some-OfExchange.at c.in-Some-OfExchange.number (exchange g k) c.if-at-timing.true) c.requires.can.fits;
+    }
 
 pub returns-in-Some-OfExchange-clause-done : goal.returns-in-Some-OfExchange-clause-done
 returns-in-Some-OfExchange-clause-done g c =
@@ -41,11 +45,15 @@ returns-in-Some-OfExchange-clause-done g c =
       kept = search rules;
     }
 
-pub on_waiter-requires-clause-fits : goal.on_waiter-requires-clause-fits
-on_waiter-requires-clause-fits g c =
-    let k = (goal.at.on_waiter-requires-clause-fits g c).In-Some-OfWaiter in
-    subst (λ (s : Step). length s.bytes ≤ c.args.out.now.room)
-    (of-waiter c.args.self.now c.args.timing c.in-Some-OfWaiter.at c.in-Some-OfWaiter.number (waiter g k) c.if-at-timing-2.true) c.requires.fits
+pub on_waiter-requires-clause-can : goal.on_waiter-requires-clause-can
+on_waiter-requires-clause-can g c =
+    let k = (goal.at.on_waiter-requires-clause-can g c).In-Some-OfWaiter in
+    record {
+      ready = c.requires.can.ready;
+      room = c.requires.can.room;
+      fits = subst (λ (s : Step). length s.bytes ≤ c.args.out.now.room)
+          (of-waiter c.args.self.now c.args.timing c.in-Some-OfWaiter.at c.in-Some-OfWaiter.number (waiter g k) c.if-at-timing-2.true) c.requires.can.fits;
+    }
 
 -- the step is that of the client
 step : (g : Over) (c : In-Some-OfWaiter g) → c.in-Some-OfWaiter.at ≤ c.args.timing.now → waiter_at c.args.self.now c.args.timing c.in-Some-OfWaiter.number ≡ on_tick c.args.self.now c.args.timing.now c.args.timing.draw
@@ -54,7 +62,7 @@ step g c due = sym (of-waiter c.args.self.now c.args.timing c.in-Some-OfWaiter.a
 pub on_waiter-requires-clause-due : goal.on_waiter-requires-clause-due
 on_waiter-requires-clause-due g c =
     let k = (goal.at.on_waiter-requires-clause-due g c).In-Some-OfWaiter in
-    client-due-at c.args.self.now c.args.timing.now c.in-Some-OfWaiter.at c.in-Some-OfWaiter.number c.requires.ready.can.waiters (waiter g k) c.if-at-timing-2.true
+    client-due-at c.args.self.now c.args.timing.now c.in-Some-OfWaiter.at c.in-Some-OfWaiter.number c.requires.can.ready.can.waiters (waiter g k) c.if-at-timing-2.true
 
 pub returns-in-Some-OfWaiter-clause-done : goal.returns-in-Some-OfWaiter-clause-done
 returns-in-Some-OfWaiter-clause-done g c =

@@ -17,7 +17,7 @@ take_id-id-requires g c =
     let x = c.requires.queued.item in
     let found = c.requires.queued.found in
     let queued = c.requires.queued.holds.0 in
-    id-for-queued c.args.self.now c.args.timing.now c.args.due.number x c.requires.ready.can c.requires.ready.onward found queued
+    id-for-queued c.args.self.now c.args.timing.now c.args.due.number x c.requires.can.ready.can c.requires.can.ready.onward found queued
 
 pub put_form-requires-clause-there : goal.put_form-requires-clause-there
 put_form-requires-clause-there g c =
@@ -34,7 +34,7 @@ put_form-requires-clause-fits g c =
     let items : c.self-2.inside.under_way.exchanges.items ≡ w.exchanges = ap (λ (v : State). v.exchanges) (c.self-2.view_is ∙ c.take_id-id.ensures.given) in
     let s : Sending = record { asked = c.self.inside.events; id = c.take_id-id.result; timer = c.start-timer.result } in
     let form : form_at c.args.due.number (changed_at c.args.due.number (sent s) w.exchanges) ≡ (sending_at w c.args.timing c.args.due.number).bytes = sent-form w c.args.timing c.args.due.number s x found c.take_id-id.ensures.id in
-    rw (c.send.ensures.sent, items) (subst (λ (b : List ℕ). length b ≤ c.args.out.now.room) (sym form) c.requires.fits)
+    rw (c.send.ensures.sent, items) (subst (λ (b : List ℕ). length b ≤ c.args.out.now.room) (sym form) c.requires.can.fits)
 
 pub returns : goal.returns
 returns g c =
