@@ -1,5 +1,5 @@
 //! A store as an LRU map.
-ghost use Rattle.std.specs.Prelude.{◌≡◌, ◌<◌, ◌≤◌, ◌^◌, ◌-◌, ◌∷◌, None, true, is_ok, is_some, IsTrue, OnOk, OnErr, length, drop, take, map, nat_lt, ◌||◌, ◌&&◌, count_by, if◌then◌else◌};
+ghost use Rattle.std.specs.Prelude.{◌≡◌, min, ◌<◌, ◌≤◌, ◌^◌, ◌-◌, ◌∷◌, None, true, is_ok, is_some, IsTrue, OnOk, OnErr, length, drop, take, map, nat_lt, ◌||◌, ◌&&◌, count_by, if◌then◌else◌};
 ghost use Rattle.std.specs.HashSet.{contains};
 ghost use Rattle.std.specs.List.{IsDistinct};
 ghost use Rattle.lru.specs.LruCache.{lru_cache};
@@ -90,7 +90,8 @@ impl<H: BuildHasher + Copy> Store for LruStore<H> {
     }
 
     fn put(&mut self, key: CacheKey, stored: Stored) -> Put {
-        if bytes_of(&key, &stored) > self.most_bytes {
+        let size = bytes_of(&key, &stored);
+        if size > self.most_bytes {
             self.forget(&key);
             return Put::TooLarge;
         }
@@ -99,13 +100,8 @@ impl<H: BuildHasher + Copy> Store for LruStore<H> {
             entries: self.most_entries,
             now: stored.got,
         };
-        match put_first(
-            &mut self.recent,
-            &mut self.total,
-            &mut self.index,
-            key,
-            stored,
-        ) {
+        let entry = Measured { key, stored, size };
+        match put_first(&mut self.recent, &mut self.total, &mut self.index, entry) {
             Ok(()) => {
                 let more = cut_to(&mut self.recent, &mut self.total, &mut self.index, room);
                 self.evicted.add(more);
@@ -146,6 +142,15 @@ struct Room {
     bytes: u64,
     entries: usize,
     now: Moment,
+}
+
+/// An entry, and the number of bytes that it counts for.
+#[derive(Drop)]
+struct Measured {
+    key: CacheKey,
+    stored: Stored,
+    size: u64,
+    ghost measured: { size ≡ min (size_of key stored) (2 ^ 64 - 1) },
 }
 
 /// Whether the entry with a key is the most recently used one, which is found without hashing the
@@ -190,25 +195,24 @@ fn put_first<H: BuildHasher + Copy>(
     recent: &mut LruCache<CacheKey, Stored, H>,
     total: &mut u64,
     index: &mut TargetIndex<H>,
-    key: CacheKey,
-    stored: Stored,
+    entry: Measured,
 ) -> Result<(), OutOfMemory>
     requires those { AreThoseOf recent.old.entries total.old
         (is_indexed index.old.secret index.old.groups) }
     requires few { total.old < 2 ^ 63 }
-    requires small { size_of key stored < 2 ^ 63 }
+    requires small { size_of entry.key entry.stored < 2 ^ 63 }
     requires unlimited { recent.old.cap ≡ 2 ^ 64 - 1 }
     ensures ok { OnOk result
         (recent.new
-        ≡ lru_cache ((key, stored) ∷ others entry_key key recent.old.entries) recent.old.cap) }
+        ≡ lru_cache ((entry.key, entry.stored) ∷ others entry_key entry.key recent.old.entries) recent.old.cap) }
     ensures err { OnErr result (recent.new ≡ recent.old) }
     ensures err_total { OnErr result (total.new ≡ total.old) }
-    ensures err_new { OnErr result (of_key entry_key key recent.old.entries ≡ None) }
+    ensures err_new { OnErr result (of_key entry_key entry.key recent.old.entries ≡ None) }
     ensures those { AreThoseOf recent.new.entries total.new
         (is_indexed index.new.secret index.new.groups) }
 {
     let _laws = recent.len();
-    let size = bytes_of(&key, &stored);
+    let Measured { key, stored, size } = entry;
     match recent.push(key, stored)? {
         Some((of, former)) => {
             let former = bytes_of(&of, &former);
