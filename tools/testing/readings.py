@@ -15,7 +15,7 @@ from testing.coap import BLOCK2, CON, ETAG, GET, MAX_AGE, URI_PATH, URI_QUERY, m
 from testing.drawn import LADDER, MAP, ODD, limits, rows_of, written
 from testing.network import RESULT, expect
 # The front of a recording.
-HEAD = "# coap-proxyd 0.2.0 --replay"
+HEAD = "# coap-proxyd 0.3.0 --replay"
 
 
 def heads_old_and_new_are_read(program):

@@ -9,8 +9,8 @@ use Rattle.coap_model.specs.Events.{Event, IsEvent}
 use Rattle.coap_model.specs.Step.{step_of}
 use Rattle.coap_dedup.specs.declared.record.Record.{Record}
 use Rattle.coap_dedup.specs.Lists.{AreUpTo}
-use Rattle.coap_model.specs.History.{Entry, Deed, last_of, grown_of}
-use Rattle.coap_model.specs.Runs.{entry_of}
+use Rattle.coap_model.specs.History.{Observation, Action, last_of, grown_of}
+use Rattle.coap_model.specs.Runs.{observation_of}
 use Rattle.coap_limits.specs.Limits.{AreLimits}
 use Rattle.coap_model.specs.Carries.{Carries}
 use Rattle.coap_model.specs.Ranges.{AreInRange}
@@ -19,18 +19,18 @@ use Rattle.coap_model.proofs.Bounding.{next-bounded}
 use Rattle.coap_model.proofs.Carrying.{keeps_step}
 use Rattle.coap_model.proofs.Frames.{opened-few, admitted-few}
 use Rattle.coap_model.proofs.Running.{setting_stays}
-use Rattle.coap_core.specs.Steps.{Does, CanGoOn, entry_told}
+use Rattle.coap_core.specs.Steps.{Does, CanGoOn, observation_told}
 
 -- what is remembered came at the last moment, or before
-until : (w : State) (deeds : List Deed) → w.last ≡ last_of deeds → (rs : List Record) → AreUpTo (last_of deeds) rs → AreUpTo w.last rs
-until w deeds last rs all = subst (λ (n : ℕ). AreUpTo n rs) (sym last) all
+until : (w : State) (actions : List Action) → w.last ≡ last_of actions → (rs : List Record) → AreUpTo (last_of actions) rs → AreUpTo w.last rs
+until w actions last rs all = subst (λ (n : ℕ). AreUpTo n rs) (sym last) all
 
 -- what is carried is what a step needs
-pub can_go_on : (history : List Entry) (w : State) → Carries history w → w.events < 2 ^ 63 → CanGoOn w
+pub can_go_on : (history : List Observation) (w : State) → Carries history w → w.events < 2 ^ 63 → CanGoOn w
 can_go_on history w c few =
     let b = c.bears in
-    let opened = opened-few c.deeds in
-    let admitted = admitted-few c.deeds in
+    let opened = opened-few c.actions in
+    let admitted = admitted-few c.actions in
     let events = b.clock.events in
     record {
       routes = b.routes;
@@ -41,9 +41,9 @@ can_go_on history w c few =
       admitted = omega (arith, admitted, b.numbers.admitted);
       ids = b.within.ids;
       con_records = b.con_records.are;
-      con_until = until w c.deeds b.clock.last w.con_records.items b.con_records.until;
+      con_until = until w c.actions b.clock.last w.con_records.items b.con_records.until;
       non_records = b.non_records.are;
-      non_until = until w c.deeds b.clock.last w.non_records.items b.non_records.until;
+      non_until = until w c.actions b.clock.last w.non_records.items b.non_records.until;
     }
 
 -- ---- what the step in code leaves
@@ -51,26 +51,26 @@ can_go_on history w c few =
 -- the setting is the same, and some history is carried, within the ranges
 pub record IsLeft (w v : State) : Type 0 where
   pub setting : v.setting ≡ w.setting
-  pub history : List Entry
+  pub history : List Observation
   pub carries : Carries history v
   pub in_range : AreInRange history
 
 -- what a step leaves: the setting, the limits, and a history that is carried
-pub is-left : (w : State) (now draw : ℕ) (event : Event) (history : List Entry) → Carries history w → AreInRange history → now ≤ 2 ^ 62 → draw ≤ 1000 → w.last ≤ now → IsEvent event → (r : Result Report OutOfMemory) (old new : Datagram) (v : State)
+pub is-left : (w : State) (now draw : ℕ) (event : Event) (history : List Observation) → Carries history w → AreInRange history → now ≤ 2 ^ 62 → draw ≤ 1000 → w.last ≤ now → IsEvent event → (r : Result Report OutOfMemory) (old new : Datagram) (v : State)
     → IfOk r (λ report. Does (step_of w now draw (grown_of report.outcome) event) report old new v) → OnErr r (v ≡ w) → IsLeft w v
 is-left w now draw event history c ranges moment drawn onward fits (Ok report) old new v does same =
     let grown = grown_of report.outcome in
     let stays = setting_stays w now draw grown event fits in
     record {
       setting = rw does.2 stays;
-      history = entry_of now draw event (step_of w now draw grown event) ∷ history;
+      history = observation_of now draw event (step_of w now draw grown event) ∷ history;
       carries = rw does.2 (keeps_step w history now draw grown event c onward fits);
       in_range = ((moment, drawn), ranges);
     }
 is-left w now draw event history c ranges moment drawn onward fits (Err e) old new v does same = record { setting = rw same refl; history = history; carries = rw same c; in_range = ranges }
 
 -- what is due next isn't far ahead
-pub is-bounded : (w : State) (history : List Entry) → AreLimits w.setting.limits → Carries history w → AreInRange history → (due : Option ℕ) → due ≡ next_due w → IfSome due (λ at. at ≤ 2 ^ 62 + 600000)
+pub is-bounded : (w : State) (history : List Observation) → AreLimits w.setting.limits → Carries history w → AreInRange history → (due : Option ℕ) → due ≡ next_due w → IfSome due (λ at. at ≤ 2 ^ 62 + 600000)
 is-bounded w history limits c ranges None is = tt
 is-bounded w history limits c ranges (Some at) is = next-bounded w history at c ranges limits (sym is)
 
@@ -79,13 +79,13 @@ pub is-short : (r : Result Report OutOfMemory) (s : Bool → Step) (old new : Da
 is-short (Ok report) s old new v most short does none = omega (arith, short (grown_of report.outcome), ap (λ (d : Datagram). length d.bytes) does.1)
 is-short (Err e) s old new v most short does none = omega (arith, ap (λ (d : Datagram). length d.bytes) none)
 
--- what holds of whatever is carried holds with the entry of a step in front
-pub holds-on : (P : List Entry → State → Type 0) → ((history : List Entry) (w : State) → Carries history w → P history w) → (w : State) (now draw : ℕ) (event : Event) → w.last ≤ now → IsEvent event → (r : Result Report OutOfMemory) (old new : Datagram) (v : State) → IfOk r (λ report. Does (step_of w now draw (grown_of report.outcome) event) report old new v)
-    → IfOk r (λ report. (history : List Entry) → Carries history w → P (entry_told now draw event report new.bytes ∷ history) v)
+-- what holds of whatever is carried holds with the observation of a step in front
+pub holds-on : (P : List Observation → State → Type 0) → ((history : List Observation) (w : State) → Carries history w → P history w) → (w : State) (now draw : ℕ) (event : Event) → w.last ≤ now → IsEvent event → (r : Result Report OutOfMemory) (old new : Datagram) (v : State) → IfOk r (λ report. Does (step_of w now draw (grown_of report.outcome) event) report old new v)
+    → IfOk r (λ report. (history : List Observation) → Carries history w → P (observation_told now draw event report new.bytes ∷ history) v)
 holds-on P holds w now draw event onward fits (Ok report) old new v does = λ history c.
     let s = step_of w now draw (grown_of report.outcome) event in
     let bytes : new.bytes ≡ s.bytes = ap (λ (d : Datagram). d.bytes) does.1 in
-    let told : entry_told now draw event report new.bytes ≡ entry_of now draw event s = λ i. entry_told now draw event (does.0 i) (bytes i) in
+    let told : observation_told now draw event report new.bytes ≡ observation_of now draw event s = λ i. observation_told now draw event (does.0 i) (bytes i) in
     let on = keeps_step w history now draw (grown_of report.outcome) event c onward fits in
-    subst (λ (e : Entry). P (e ∷ history) v) (sym told) (subst (λ (x : State). P (entry_of now draw event s ∷ history) x) (sym does.2) (holds (entry_of now draw event s ∷ history) s.state on))
+    subst (λ (e : Observation). P (e ∷ history) v) (sym told) (subst (λ (x : State). P (observation_of now draw event s ∷ history) x) (sym does.2) (holds (observation_of now draw event s ∷ history) s.state on))
 holds-on P holds w now draw event onward fits (Err e) old new v does = tt

@@ -28,12 +28,12 @@ use Rattle.coap_model.specs.declared.report.Storing.TheVariants.{Kept, TooLarge,
 use Rattle.coap_model.specs.History.{grown_of}
 use Rattle.coap_model.specs.Memory.{takes_memory}
 use Rattle.coap_model.specs.Answers.{Arrived, answer_for, entry_made, may_store, tainted_all, with_changed, keeps, keeps_if, stores, answers_so, answers_with, answers}
-use Rattle.coap_model.specs.State.{State, Step, later, silent, says, takes_up, has_record_room, remembers, with_record}
+use Rattle.coap_model.specs.State.{State, Step, later, silent, says, accepts, has_record_room, remembers, with_record}
 use Rattle.coap_model.specs.Empties.{on_exchange}
 use Rattle.coap_model.specs.Responses.{awaiting, on_awaited, on_separate}
 use Rattle.coap_core.proofs.Awaiting.{awaited}
 use Rattle.coap_core.specs.Steps.{Does, IsOpenAt, resets, wants_memory}
-use Rattle.coap_core.specs.Storing.{IsKept, IsPut, answering, answering_at, awaited_step, separate_step, if_storable, taken_up, taken_up_bytes, taken_up_to}
+use Rattle.coap_core.specs.Storing.{IsKept, IsPut, answering, answering_at, awaited_step, separate_step, if_storable, accepted, accepted_bytes, accepted_to}
 
 -- the choice of a test that is known
 pick-true : {A : Type 0} (b : Bool) (x y : A) → b ≡ true → cond b x y ≡ x
@@ -45,7 +45,7 @@ pick-false b x y e = rw e refl
 -- ---- what a response changes
 
 -- what is remembered stands beside what is changed
-changes-taken : (changed : List Target) (now : ℕ) (source : Endpoint) (m : Message) (w : State) → with_changed changed (taken_up now source m w) ≡ taken_up now source m (with_changed changed w)
+changes-taken : (changed : List Target) (now : ℕ) (source : Endpoint) (m : Message) (w : State) → with_changed changed (accepted now source m w) ≡ accepted now source m (with_changed changed w)
 changes-taken changed now source m w = go (is_con m.kind)
   where
     go : (b : Bool) → with_changed changed (cond b (with_record now source m (spelling (acknowledgement m.id)) w) w) ≡ cond b (with_record now source m (spelling (acknowledgement m.id)) (with_changed changed w)) (with_changed changed w)
@@ -87,7 +87,7 @@ module _ (w v : State) (now : ℕ) (a : Arrived) where
   made = entry_made w now a.exchange.1 a.answer
 
   abbrev left : Storing → Step
-  left storing = takes_up (Answered storing) a.source a.message (answered_in v now a.exchange.0 a.answer)
+  left storing = accepts (Answered storing) a.source a.message (answered_in v now a.exchange.0 a.answer)
 
   -- memory for one more isn't asked for where it is there
   keeps-grown : (o : Option Entry) → keeps_if w now true a o ≡ keeps w now a
@@ -146,8 +146,8 @@ module _ (w v : State) (now : ℕ) (source : Endpoint) (m : Message) (x : Number
   abbrev step_left : Step
   step_left =
       record {
-        report = record { send = taken_up_to source m; outcome = Answered storing };
-        bytes = taken_up_bytes m;
+        report = record { send = accepted_to source m; outcome = Answered storing };
+        bytes = accepted_bytes m;
         state = answered_in v now x.0 a;
       }
 
@@ -162,14 +162,14 @@ module _ (w v : State) (now : ℕ) (source : Endpoint) (m : Message) (x : Number
       let is = kept-is u (record u { store = v.store }) now arrived storing parts.0 in
       ap (remembers now source m) is ∙ said parts.1
     where
-      said : v ≡ with_record now source m (spelling (acknowledgement m.id)) (record u { store = v.store }) → remembers now source m (takes_up (Answered storing) source m (answered_in (record u { store = v.store }) now x.0 a)) ≡ step_left
+      said : v ≡ with_record now source m (spelling (acknowledgement m.id)) (record u { store = v.store }) → remembers now source m (accepts (Answered storing) source m (answered_in (record u { store = v.store }) now x.0 a)) ≡ step_left
       said e =
           let states : with_record now source m (spelling (acknowledgement m.id)) (answered_in (record u { store = v.store }) now x.0 a) ≡ answered_in v now x.0 a = sym (ap (λ (z : State). answered_in z now x.0 a) e) in
           let turned = rw con at states in
           rw con (λ i. record { report = record { send = Some source; outcome = Answered storing }; bytes = spelling (acknowledgement m.id); state = turned i })
 
   -- either
-  pub answering-is : IsKept (taken_up now source m u) (if_storable w now x.1 a) storing v → answering w now (grown_of (Answered storing)) source m x ≡ step_left
+  pub answering-is : IsKept (accepted now source m u) (if_storable w now x.1 a) storing v → answering w now (grown_of (Answered storing)) source m x ≡ step_left
   answering-is k = go (is_con m.kind) refl k
     where
       go : (b : Bool) → is_con m.kind ≡ b → IsKept (cond b (with_record now source m (spelling (acknowledgement m.id)) u) u) (if_storable w now x.1 a) storing v
@@ -187,9 +187,9 @@ store-alone w v (Some entry) TooLarge k = rw k.0 refl
 store-alone w v (Some entry) NoMemory k = rw k.0 refl
 store-alone w v (Some entry) NotStored k = absurd k
 
-module _ (w v : State) (now number : ℕ) (source : Endpoint) (m : Message) (changed : List Target) (entry : Option Entry) (storing : Storing) (kept : IsKept (with_changed changed (taken_up now source m w)) entry storing v) where
-  beside : v ≡ record (taken_up now source m (with_changed changed w)) { store = v.store }
-  beside = subst (λ (u : State). v ≡ record u { store = v.store }) (changes-taken changed now source m w) (store-alone (with_changed changed (taken_up now source m w)) v entry storing kept)
+module _ (w v : State) (now number : ℕ) (source : Endpoint) (m : Message) (changed : List Target) (entry : Option Entry) (storing : Storing) (kept : IsKept (with_changed changed (accepted now source m w)) entry storing v) where
+  beside : v ≡ record (accepted now source m (with_changed changed w)) { store = v.store }
+  beside = subst (λ (u : State). v ≡ record u { store = v.store }) (changes-taken changed now source m w) (store-alone (with_changed changed (accepted now source m w)) v entry storing kept)
 
   exchanges-taken : (b : Bool) → (cond b (with_record now source m (spelling (acknowledgement m.id)) (with_changed changed w)) (with_changed changed w)).exchanges ≡ tainted_all changed w.exchanges
   exchanges-taken true = refl
@@ -212,8 +212,8 @@ pub answer-does : (w v : State) (now number : ℕ) (source : Endpoint) (m : Mess
     → Some a ≡ option_map (answer_for w now m) (item_at number w.exchanges)
     → IfSome (item_at number w.exchanges) (λ x. entry ≡ if_storable w now x a)
     → IfSome (item_at number w.exchanges) (λ x. changed ≡ changed_by x.key.target m)
-    → IsKept (with_changed changed (taken_up now source m w)) entry storing v
-    → report ≡ record { send = taken_up_to source m; outcome = Answered storing } → new ≡ holding old (taken_up_bytes m) → after ≡ answered_in v now number a
+    → IsKept (with_changed changed (accepted now source m w)) entry storing v
+    → report ≡ record { send = accepted_to source m; outcome = Answered storing } → new ≡ holding old (accepted_bytes m) → after ≡ answered_in v now number a
     → IfSome (answering_at w now (grown_of report.outcome) source m number) (λ step. Does step report old new after)
 answer-does w v now number source m entry changed storing report old new after a is made marked kept told said left = go (item_at number w.exchanges) is made marked
   where
@@ -223,7 +223,7 @@ answer-does w v now number source m entry changed storing report old new after a
     go (Some x) i e t =
         let same : a ≡ answer_for w now m x = same_Some a (answer_for w now m x) i in
         let beside = subst (λ (u : State). IsKept u entry storing v) (changes-taken changed now source m w) kept in
-        let k : IsKept (taken_up now source m (with_changed (changed_by x.key.target m) w)) (if_storable w now x (answer_for w now m x)) storing v = rw (t, e, same) at beside in
+        let k : IsKept (accepted now source m (with_changed (changed_by x.key.target m) w)) (if_storable w now x (answer_for w now m x)) storing v = rw (t, e, same) at beside in
         let step = answering-is w v now source m (number, x) storing k in
         rw (told, step) (refl, said, left ∙ ap (answered_in v now number) same)
 
@@ -247,7 +247,7 @@ module _ (w : State) (now : ℕ) (grown : Bool) (source : Endpoint) (m : Message
 -- ---- memory
 
 -- whether it is acknowledged or not, what is taken up wants memory where its outcome does
-pub taken-takes : (outcome : Outcome) (source : Endpoint) (m : Message) (w : State) → ((bytes : List ℕ) → takes_memory outcome bytes ≡ true) → wants_memory (takes_up outcome source m w) ≡ true
+pub taken-takes : (outcome : Outcome) (source : Endpoint) (m : Message) (w : State) → ((bytes : List ℕ) → takes_memory outcome bytes ≡ true) → wants_memory (accepts outcome source m w) ≡ true
 taken-takes outcome source m w takes = go (is_con m.kind)
   where
     go : (b : Bool) → wants_memory (cond b (says outcome source (acknowledgement m.id) w) (silent outcome w)) ≡ true
@@ -345,7 +345,7 @@ reset-step w now grown source m number x found sent bare other =
 -- ---- what is taken up
 
 -- what goes out at once is short
-pub taken-fits : (m : Message) (room : ℕ) → 128 ≤ room → length (taken_up_bytes m) ≤ room
+pub taken-fits : (m : Message) (room : ℕ) → 128 ≤ room → length (accepted_bytes m) ≤ room
 taken-fits m room wide = go (is_con m.kind)
   where
     go : (b : Bool) → length (cond b (spelling (acknowledgement m.id)) []) ≤ room

@@ -18,13 +18,13 @@ use Rattle.coap_forward.specs.Messages.{is_con}
 use Rattle.coap_model.specs.History.{is_con_datagram}
 use Rattle.coap_model.specs.Ticks.{abandons, redelivers, on_delivery_timeout}
 use Rattle.coap_model.specs.State.{State}
-use Rattle.coap_core.specs.Steps.{answer_in_state, unheard, unheard_at}
+use Rattle.coap_core.specs.Steps.{answer_in_state, unheard, delivery_timeout_at}
 
 -- ---- what is done where the timeout has ended
 
 module _ (w : State) (now number : ℕ) (v : Waiter) (found : item_at number w.waiters ≡ Some v) where
   -- the answer is sent again
-  pub again-step : Again ≡ fire_of_state now v.state → unheard_at w now number ≡ redelivers w now number v (answer_in_state v.state)
+  pub again-step : Again ≡ fire_of_state now v.state → delivery_timeout_at w now number ≡ redelivers w now number v (answer_in_state v.state)
   again-step again = rw found (go v.state again)
     where
       go : (s : WaiterState) → Again ≡ fire_of_state now s → unheard w now number v s ≡ redelivers w now number v (answer_in_state s)
@@ -32,7 +32,7 @@ module _ (w : State) (now number : ℕ) (v : Waiter) (found : item_at number w.w
       go (Delivering bytes id timer) e = ap (on_delivery_timeout w now number v bytes) (sym e)
 
   -- the client is given up
-  pub over-step : IsDue now v → GiveUp ≡ fire_of_state now v.state → unheard_at w now number ≡ abandons w now number
+  pub over-step : IsDue now v → GiveUp ≡ fire_of_state now v.state → delivery_timeout_at w now number ≡ abandons w now number
   over-step due over = rw found (go v.state due over)
     where
       go : (s : WaiterState) → IsDue now (record v { state = s }) → GiveUp ≡ fire_of_state now s → unheard w now number v s ≡ abandons w now number

@@ -22,7 +22,7 @@ use Rattle.coap_model.specs.declared.due.DueItem.TheVariants.{OfExchange, OfWait
 use Rattle.coap_model.specs.State.{State, later, next_id}
 use Rattle.coap_model.specs.Ticks.{exchange_due, waiter_due, first_item, item_due, if_due, sends, resends, gives_up, on_request_timeout, on_item, on_tick}
 use Rattle.coap_model.proofs.FirstDue.{first_due-holds}
-use Rattle.coap_core.specs.Steps.{HasCome, IsClientDue, IsExchangeDue, IsFound, exchange_at, waiter_at, sending_at, firing_at, form_at}
+use Rattle.coap_core.specs.Steps.{HasCome, IsClientDue, IsExchangeDue, IsFound, exchange_at, waiter_at, sending_at, request_timeout_at, form_at}
 use Rattle.coap_core.specs.declared.timing.Timing.{Timing}
 
 -- ---- items of a table
@@ -188,7 +188,7 @@ module _ (w : State) (t : Timing) (number : ℕ) (x : Exchange) (found : item_at
   pub queued-step : nat_le (deadline w.setting.limits.exchange_ms x) t.now ≡ false → x.state ≡ Queued → exchange_at w t number ≡ sending_at w t number
   queued-step early state = rw (found, early, state) refl
 
-  pub sent-step : nat_le (deadline w.setting.limits.exchange_ms x) t.now ≡ false → x.state ≡ Sent → exchange_at w t number ≡ firing_at w t.now number
+  pub sent-step : nat_le (deadline w.setting.limits.exchange_ms x) t.now ≡ false → x.state ≡ Sent → exchange_at w t number ≡ request_timeout_at w t.now number
   sent-step early state = rw (found, early, state) refl
 
 -- ---- the bytes that are sent
@@ -200,11 +200,11 @@ sent-form w t number s x found id = rw (changed-found number (sent s) w.exchange
 -- ---- what is done where a timeout has ended
 
 -- the request is sent again
-pub again-step : (w : State) (now number : ℕ) (x : Exchange) → item_at number w.exchanges ≡ Some x → Again ≡ fire_of_sending now x.sending → firing_at w now number ≡ resends w now number x
+pub again-step : (w : State) (now number : ℕ) (x : Exchange) → item_at number w.exchanges ≡ Some x → Again ≡ fire_of_sending now x.sending → request_timeout_at w now number ≡ resends w now number x
 again-step w now number x found again = rw found (ap (on_request_timeout w now number x) (sym again))
 
 -- it is given up
-pub over-step : (w : State) (now number : ℕ) (x : Exchange) → item_at number w.exchanges ≡ Some x → GiveUp ≡ fire_of_sending now x.sending → firing_at w now number ≡ gives_up w now number
+pub over-step : (w : State) (now number : ℕ) (x : Exchange) → item_at number w.exchanges ≡ Some x → GiveUp ≡ fire_of_sending now x.sending → request_timeout_at w now number ≡ gives_up w now number
 over-step w now number x found over = rw found (ap (on_request_timeout w now number x) (sym over))
 
 -- ---- the tables after a request was sent

@@ -50,14 +50,14 @@ answering_at w now grown source m number =
     option_map (λ x. answering w now grown source m (number, x)) (item_at number w.exchanges)
 
 -- what is sent at once for a response that is accepted, to whom, and the tables then
-abbrev pub taken_up_bytes : Message → List ℕ
-taken_up_bytes m = if is_con m.kind then spelling (acknowledgement m.id) else []
+abbrev pub accepted_bytes : Message → List ℕ
+accepted_bytes m = if is_con m.kind then spelling (acknowledgement m.id) else []
 
-abbrev pub taken_up_to : Endpoint → Message → Option Endpoint
-taken_up_to source m = if is_con m.kind then Some source else None
+abbrev pub accepted_to : Endpoint → Message → Option Endpoint
+accepted_to source m = if is_con m.kind then Some source else None
 
-abbrev pub taken_up : ℕ → Endpoint → Message → State → State
-taken_up now source m w =
+abbrev pub accepted : ℕ → Endpoint → Message → State → State
+accepted now source m w =
     if is_con m.kind then with_record now source m (spelling (acknowledgement m.id)) w else w
 
 -- the steps of a response that isn't Confirmable, of one that is, and of a new one that is

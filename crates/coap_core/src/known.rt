@@ -9,7 +9,7 @@ ghost use Rattle.coap_model.specs.State.{next_id, records_of, has_record_room, c
 ghost use Rattle.coap_model.specs.Requests.{replied};
 ghost use Rattle.coap_core.specs.Arrivals.{of_arrival};
 ghost use Rattle.coap_core.specs.Steps.{CanGoOn, CanRemember, CanReplyTo, CanStep, Does, IsSaid, repetition_of};
-ghost use Rattle.coap_core.specs.Storing.{taken_up_bytes, taken_up_to};
+ghost use Rattle.coap_core.specs.Storing.{accepted_bytes, accepted_to};
 
 use crate::arrival::Arrival;
 use crate::state::{State, silent};
@@ -50,9 +50,9 @@ pub(crate) fn put_acceptance(
     message: &MessageRef<'_>,
     out: &mut Datagram,
 ) -> Option<Endpoint>
-    requires fits { length (taken_up_bytes message.now) ≤ out.old.room }
-    ensures send { result ≡ taken_up_to to message.now }
-    ensures said { out.new ≡ holding out.old (taken_up_bytes message.now) }
+    requires fits { length (accepted_bytes message.now) ≤ out.old.room }
+    ensures send { result ≡ accepted_to to message.now }
+    ensures said { out.new ≡ holding out.old (accepted_bytes message.now) }
 {
     match message.kind() {
         Kind::Con => {

@@ -10,7 +10,7 @@ ghost use Rattle.coap_model.specs.History.{grown_of};
 ghost use Rattle.coap_model.specs.Step.{step_of};
 ghost use Rattle.coap_model.specs.Carries.{Carries};
 ghost use Rattle.coap_core.specs.Events.{IsUnread, seen};
-ghost use Rattle.coap_core.specs.Steps.{CarriesOn, Does, GivesConfirmable, KeepsWordOn, LeavesRoomOn, PromisesOn, entry_told, wants_memory};
+ghost use Rattle.coap_core.specs.Steps.{CarriesOn, Does, GivesConfirmable, KeepsWordOn, LeavesRoomOn, PromisesOn, observation_told, wants_memory};
 ghost use Rattle.coap_core.specs.Within.{AreWithinLimits};
 
 use crate::event::Event;
@@ -46,7 +46,7 @@ impl<S: Store + Drop> Drop for Core<S> {
 impl<S: Store> Model for Core<S> {
     ghost use Rattle.std.specs.Prelude.{◌≡◌, List};
     ghost use Rattle.coap_model.specs.State.{State};
-    ghost use Rattle.coap_model.specs.History.{Entry};
+    ghost use Rattle.coap_model.specs.History.{Observation};
     ghost use Rattle.coap_model.specs.Carries.{Carries};
     ghost use Rattle.coap_model.specs.Ranges.{AreInRange};
     ghost use Rattle.coap_model.specs.Ticks.{item_due};
@@ -60,7 +60,7 @@ impl<S: Store> Model for Core<S> {
     // first.
     ghost invariant = { λ c.
         AreLimits c.state.setting.limits
-        × ((history : List Entry) × Carries history c.state × AreInRange history)
+        × ((history : List Observation) × Carries history c.state × AreInRange history)
         × (c.due ≡ item_due c.state) };
 }
 
@@ -133,26 +133,27 @@ impl<S: Store + Drop> Core<S> {
 
         // A core that carries a history then carries it with the step's entry in front.
         ensures carries { IfOk result (λ report.
-            CarriesOn self.old (entry_told now draw (seen event.entry) report out.new.bytes)
+            CarriesOn self.old (observation_told now draw (seen event.entry) report out.new.bytes)
             self.new) }
 
         // So what it promises of earlier steps it promises of this one.
         ensures promised { IfOk result (λ report.
-            PromisesOn self.old (entry_told now draw (seen event.entry) report out.new.bytes)
+            PromisesOn self.old (observation_told now draw (seen event.entry) report out.new.bytes)
             self.new) }
 
         // In short: at each event the limits hold; each reply from the cache was received for an
         // equal key, is fresh, and its target is unchanged; and each duplicate gets the reply that
         // was kept.
         ensures word { IfOk result (λ report.
-            KeepsWordOn self.old (entry_told now draw (seen event.entry) report out.new.bytes)
+            KeepsWordOn self.old (observation_told now draw (seen event.entry) report out.new.bytes)
             self.new) }
 
         // One client leaves room for the others: below its own limits a client is turned away only
         // if a shared limit is reached or Message IDs are short, and if few enough endpoints have
         // sent anything, only if Message IDs are short.
         ensures shares { IfOk result (λ report.
-            LeavesRoomOn self.old (entry_told now draw (seen event.entry) report out.new.bytes)
+            LeavesRoomOn self.old
+            (observation_told now draw (seen event.entry) report out.new.bytes)
             self.new) }
 
         // The settings don't change, and the tables stay within the limits and within the bound on

@@ -13,11 +13,11 @@ ghost use Rattle.coap_model.specs.Verdicts.{verdict_of};
 ghost use Rattle.coap_store.specs.Entries.{has_usable};
 ghost use Rattle.coap_message.specs.Datagram.{holding};
 ghost use Rattle.coap_model.specs.Requests.{lacks_id, refuses, overloads, next_token, copy_of, tag_carried, joins, on_key, on_new, on_request};
-ghost use Rattle.coap_model.specs.State.{can_reply, has_room_to_join, has_room_to_open, later, takes_up};
+ghost use Rattle.coap_model.specs.State.{can_reply, has_room_to_join, has_room_to_open, later, accepts};
 ghost use Rattle.coap_core.specs.Arrivals.{of_arrival};
 ghost use Rattle.coap_core.specs.Forms.{seen};
 ghost use Rattle.coap_core.specs.Steps.{CanAsk, CanDo, CanGoOn, CanRemember, CanReplyTo, IsAsked, IsDone, IsDoneFor, IsForwardable, IsMissed, held_for, joinable_step, missed_step, needing_step, opening_step, verdict_seen, wants_memory};
-ghost use Rattle.coap_core.specs.Storing.{taken_up_bytes};
+ghost use Rattle.coap_core.specs.Storing.{accepted_bytes};
 ghost use Rattle.coap_core.specs.declared.requests.Verdict.TheVariants as verdicts;
 
 use crate::arrival::Arrival;
@@ -126,7 +126,8 @@ impl<S: Store + Drop> State<S> {
         arrival: Arrival<'_, '_>,
         out: &mut Datagram,
     ) -> Result<Report, OutOfMemory>
-        requires can { CanDo (of_arrival (on_request self.old) arrival) arrival.now self.old out.old }
+        requires can { CanDo (of_arrival (on_request self.old) arrival)
+            arrival.now self.old out.old }
         ensures done { IsDone
             (of_arrival (on_request self.old) arrival.entry)
             result out.old out.new self.old self.new }
@@ -151,7 +152,9 @@ impl<S: Store + Drop> State<S> {
     ) -> Result<Report, OutOfMemory>
         requires new { CanRemember arrival.now arrival.from arrival.message.now self.old }
         requires can { CanDo (of_arrival (on_new self.old) arrival) arrival.now self.old out.old }
-        ensures { IsDoneFor arrival.entry (of_arrival (on_new self.old) arrival.entry) result out.old out.new self.old self.new }
+        ensures { IsDoneFor arrival.entry
+            (of_arrival (on_new self.old) arrival.entry)
+            result out.old out.new self.old self.new }
     {
         if !self.can_reply(arrival.now, arrival.message.kind()) {
             return self.lack_id(arrival, out);
@@ -172,7 +175,9 @@ impl<S: Store + Drop> State<S> {
     ) -> Result<Report, OutOfMemory>
         requires reply { CanReplyTo arrival self.old }
         requires can { CanDo (of_arrival (on_new self.old) arrival) arrival.now self.old out.old }
-        ensures { IsDoneFor arrival.entry (of_arrival (on_new self.old) arrival.entry) result out.old out.new self.old self.new }
+        ensures { IsDoneFor arrival.entry
+            (of_arrival (on_new self.old) arrival.entry)
+            result out.old out.new self.old self.new }
     {
         match self.verdict_of(arrival.message, asked)? {
             Verdict::RefusedWith(code) => self.refuse(arrival, code, out),
@@ -222,8 +227,11 @@ impl<S: Store + Drop> State<S> {
     ) -> Result<Report, OutOfMemory>
         requires reply { CanReplyTo arrival self.old }
         requires asked { IsAsked self.old arrival.message.now asked.now }
-        requires can { CanDo (of_arrival (on_key self.old) arrival asked.now.key) arrival.now self.old out.old }
-        ensures { IsDoneFor arrival.entry (of_arrival (on_key self.old) arrival.entry asked.now.key) result out.old out.new self.old self.new }
+        requires can { CanDo (of_arrival (on_key self.old) arrival asked.now.key)
+            arrival.now self.old out.old }
+        ensures { IsDoneFor arrival.entry
+            (of_arrival (on_key self.old) arrival.entry asked.now.key)
+            result out.old out.new self.old self.new }
     {
         if !is_get(arrival.message.code()) {
             let missed = Missed::new(&asked.key, Miss::Nothing);
@@ -292,8 +300,11 @@ impl<S: Store + Drop> State<S> {
         out: &mut Datagram,
     ) -> Result<Report, OutOfMemory>
         requires ask { CanAsk arrival asked.now missed self.old }
-        requires can { CanDo (of_arrival (missed_step self.old) arrival asked.now.key) arrival.now self.old out.old }
-        ensures { IsDoneFor arrival.entry (of_arrival (missed_step self.old) arrival.entry asked.now.key) result out.old out.new self.old self.new }
+        requires can { CanDo (of_arrival (missed_step self.old) arrival asked.now.key)
+            arrival.now self.old out.old }
+        ensures { IsDoneFor arrival.entry
+            (of_arrival (missed_step self.old) arrival.entry asked.now.key)
+            result out.old out.new self.old self.new }
     {
         let exchanges = self.under_way.exchanges();
         match exchanges.joinable_as(&missed.key) {
@@ -314,7 +325,9 @@ impl<S: Store + Drop> State<S> {
         requires tags { asked.now.tags ≡ tags_of arrival.message.now }
         requires fits { length (of_arrival (joinable_step self.old) arrival exchange).bytes
             ≤ out.old.room }
-        ensures { IsDoneFor arrival.entry (of_arrival (joinable_step self.old) arrival.entry exchange) result out.old out.new self.old self.new }
+        ensures { IsDoneFor arrival.entry
+            (of_arrival (joinable_step self.old) arrival.entry exchange)
+            result out.old out.new self.old self.new }
     {
         if !self.has_room_to_join(arrival.now, arrival.from) {
             return self.overload(arrival, out);
@@ -334,8 +347,11 @@ impl<S: Store + Drop> State<S> {
         out: &mut Datagram,
     ) -> Result<Report, OutOfMemory>
         requires ask { CanAsk arrival asked.now missed self.old }
-        requires can { CanDo (of_arrival (needing_step self.old) arrival asked.now.key) arrival.now self.old out.old }
-        ensures { IsDoneFor arrival.entry (of_arrival (needing_step self.old) arrival.entry asked.now.key) result out.old out.new self.old self.new }
+        requires can { CanDo (of_arrival (needing_step self.old) arrival asked.now.key)
+            arrival.now self.old out.old }
+        ensures { IsDoneFor arrival.entry
+            (of_arrival (needing_step self.old) arrival.entry asked.now.key)
+            result out.old out.new self.old self.new }
     {
         let target = &asked.key.target;
         if self
@@ -476,7 +492,9 @@ impl<S: Store + Drop> State<S> {
     ) -> Result<Report, OutOfMemory>
         requires reply { CanReplyTo arrival self.old }
         requires fits { length (of_arrival (refuses self.old) arrival code).bytes ≤ out.old.room }
-        ensures { IsDoneFor arrival.entry (of_arrival (refuses self.old) arrival.entry code) result out.old out.new self.old self.new }
+        ensures { IsDoneFor arrival.entry
+            (of_arrival (refuses self.old) arrival.entry code)
+            result out.old out.new self.old self.new }
     {
         let head = self.reply_head(arrival.message, code);
         let token = Token::new(arrival.message.token());
@@ -492,7 +510,9 @@ impl<S: Store + Drop> State<S> {
     ) -> Result<Report, OutOfMemory>
         requires reply { CanReplyTo arrival self.old }
         requires fits { length (of_arrival (overloads self.old) arrival).bytes ≤ out.old.room }
-        ensures { IsDoneFor arrival.entry (of_arrival (overloads self.old) arrival.entry) result out.old out.new self.old self.new }
+        ensures { IsDoneFor arrival.entry
+            (of_arrival (overloads self.old) arrival.entry)
+            result out.old out.new self.old self.new }
     {
         let head = self.reply_head(arrival.message, Code::SERVICE_UNAVAILABLE);
         let token = Token::new(arrival.message.token());
@@ -508,7 +528,9 @@ impl<S: Store + Drop> State<S> {
     ) -> Result<Report, OutOfMemory>
         requires can { CanGoOn self.old }
         requires new { CanRemember arrival.now arrival.from arrival.message.now self.old }
-        ensures { IsDoneFor arrival.entry (lacks_id self.old arrival.entry.now) result out.old out.new self.old self.new }
+        ensures { IsDoneFor arrival.entry
+            (lacks_id self.old arrival.entry.now)
+            result out.old out.new self.old self.new }
     {
         out.clear();
         self.remember(arrival, &[])?;
@@ -526,8 +548,11 @@ impl<S: Store + Drop> State<S> {
     ) -> Result<Report, OutOfMemory>
         requires events { self.old.events < 2 ^ 63 }
         requires new { CanRemember arrival.now arrival.from arrival.message.now self.old }
-        requires fits { length (taken_up_bytes arrival.message.now) ≤ out.old.room }
-        ensures { IsDoneFor arrival.entry (takes_up outcome arrival.entry.from arrival.entry.message.now (later self.old arrival.entry.now)) result out.old out.new self.old self.new }
+        requires fits { length (accepted_bytes arrival.message.now) ≤ out.old.room }
+        ensures { IsDoneFor arrival.entry
+            (accepts outcome arrival.entry.from arrival.entry.message.now
+            (later self.old arrival.entry.now))
+            result out.old out.new self.old self.new }
     {
         let send = put_acceptance(arrival.from, arrival.message, out);
         self.remember(arrival, out.bytes())?;
@@ -557,7 +582,9 @@ impl<S: Store + Drop> State<S> {
         requires fits { length
             (of_arrival (opening_step self.old) arrival exchange.key).bytes
             ≤ out.old.room }
-        ensures { IsDoneFor arrival.entry (of_arrival (opening_step self.old) arrival.entry exchange.entry.key) result out.old out.new self.old self.new }
+        ensures { IsDoneFor arrival.entry
+            (of_arrival (opening_step self.old) arrival.entry exchange.entry.key)
+            result out.old out.new self.old self.new }
     {
         let NewExchange { key, tags, copy } = exchange;
         let form = Seq::from_slice(self.alloc, out.bytes())?;
@@ -595,7 +622,9 @@ impl<S: Store + Drop> State<S> {
         requires tags { tags ≡ tags_of arrival.message.now }
         requires fits { length (of_arrival (joins self.old) arrival exchange).bytes
             ≤ out.old.room }
-        ensures { IsDoneFor arrival.entry (of_arrival (joins self.old) arrival.entry exchange) result out.old out.new self.old self.new }
+        ensures { IsDoneFor arrival.entry
+            (of_arrival (joins self.old) arrival.entry exchange)
+            result out.old out.new self.old self.new }
     {
         self.under_way.join(joining_of(arrival, tags, exchange))?;
         let done = self.accept_request(arrival, Outcome::Joined, out);

@@ -10,7 +10,7 @@ ghost use Rattle.coap_pending.specs.Exchanges.{is_in_flight};
 ghost use Rattle.coap_model.specs.Responses.{has_id, awaiting, on_response};
 ghost use Rattle.coap_model.specs.History.{grown_of};
 ghost use Rattle.coap_core.specs.Arrivals.{of_arrival, of_grown};
-ghost use Rattle.coap_core.specs.Storing.{IsKept, answering_at, awaited_step, confirmable_step, separate_step, if_storable, targets_in, taken_up, taken_up_bytes, taken_up_to};
+ghost use Rattle.coap_core.specs.Storing.{IsKept, answering_at, awaited_step, confirmable_step, separate_step, if_storable, targets_in, accepted, accepted_bytes, accepted_to};
 ghost use Rattle.coap_core.specs.Steps.{CanDo, CanGoOn, CanRemember, Does, IsDoneBy, IsNew, IsOpenAt, wants_memory};
 
 use crate::arrival::Arrival;
@@ -96,7 +96,8 @@ impl<S: Store + Drop> State<S> {
         arrival: Arrival<'_, '_>,
         out: &mut Datagram,
     ) -> Result<Report, OutOfMemory>
-        requires can { CanDo (of_grown (on_response self.old) arrival true) arrival.now self.old out.old }
+        requires can { CanDo (of_grown (on_response self.old) arrival true)
+            arrival.now self.old out.old }
         ensures done { IsDoneBy (of_grown (on_response self.old) arrival.entry)
             result out.old out.new self.old self.new }
         ensures memory { OnErr result
@@ -135,7 +136,8 @@ impl<S: Store + Drop> State<S> {
         out: &mut Datagram,
     ) -> Result<Report, OutOfMemory>
         requires con { is_con arrival.message.now.kind ≡ true }
-        requires can { CanDo (of_grown (confirmable_step self.old) arrival true) arrival.now self.old out.old }
+        requires can { CanDo (of_grown (confirmable_step self.old) arrival true)
+            arrival.now self.old out.old }
         ensures done { IsDoneBy (of_grown (confirmable_step self.old) arrival.entry)
             result out.old out.new self.old self.new }
         ensures memory { OnErr result
@@ -244,10 +246,10 @@ impl<S: Store + Drop> State<S> {
             → CanRemember arrival.now arrival.from arrival.message.now self.old }
         requires room { 128 ≤ out.old.room }
         ensures send { IfOk result (λ send.
-            send ≡ taken_up_to arrival.entry.from arrival.entry.message.now) }
+            send ≡ accepted_to arrival.entry.from arrival.entry.message.now) }
         ensures said { OnOk result
-            (out.new ≡ holding out.old (taken_up_bytes arrival.entry.message.now)) }
-        ensures done { OnOk result (self.new ≡ of_arrival taken_up arrival.entry self.old) }
+            (out.new ≡ holding out.old (accepted_bytes arrival.entry.message.now)) }
+        ensures done { OnOk result (self.new ≡ of_arrival accepted arrival.entry self.old) }
         ensures err { OnErr result (self.new ≡ self.old) }
         ensures kept { out.new.room ≡ out.old.room }
     {

@@ -32,7 +32,8 @@ impl<S: Store + Drop> State<S> {
         out: &mut Datagram,
     ) -> Result<Report, OutOfMemory>
         requires due { due ≡ item_due self.old }
-        requires can { CanDo (step_of self.old timing.now timing.draw true (seen event)) timing.now self.old out.old }
+        requires can { CanDo (step_of self.old timing.now timing.draw true (seen event))
+            timing.now self.old out.old }
         ensures exact { IfOk result (λ report.
             Does
             (step_of self.old timing.now timing.draw (grown_of report.outcome) (seen event.entry))
@@ -103,7 +104,8 @@ impl<S: Store + Drop> State<S> {
         arrival: Arrival<'_, '_>,
         out: &mut Datagram,
     ) -> Result<Report, OutOfMemory>
-        requires can { CanDo (of_grown (on_message self.old) arrival true) arrival.now self.old out.old }
+        requires can { CanDo (of_grown (on_message self.old) arrival true)
+            arrival.now self.old out.old }
         ensures done { IsDoneBy (of_grown (on_message self.old) arrival.entry)
             result out.old out.new self.old self.new }
         ensures memory { OnErr result

@@ -8,7 +8,7 @@ ghost use Rattle.coap_model.specs.History.{is_con_datagram};
 ghost use Rattle.coap_model.specs.Ticks.{abandons, item_due, moment_of, gives_up, idles, on_tick, without_idle};
 ghost use Rattle.coap_pending.specs.Waiters as waiters;
 ghost use Rattle.coap_pending.specs.Waiters.{is_waiting};
-ghost use Rattle.coap_core.specs.Steps.{CanDo, CanGoOn, CanStep, Does, GivesConfirmable, HasAnswer, IsClientDue, IsDone, IsExchangeDue, IsFound, IsServed, answer_at, delivery_at, exchange_at, firing_at, form_at, given_at, sending_at, told_in, unheard_at, waiter_at};
+ghost use Rattle.coap_core.specs.Steps.{CanDo, CanGoOn, CanStep, Does, GivesConfirmable, HasAnswer, IsClientDue, IsDone, IsExchangeDue, IsFound, IsServed, answer_at, delivery_at, exchange_at, request_timeout_at, form_at, given_at, sending_at, told_in, delivery_timeout_at, waiter_at};
 
 use crate::laws;
 use crate::state::{State, silent};
@@ -167,8 +167,9 @@ impl<S: Store + Drop> State<S> {
     fn on_request_timeout(&mut self, now: Moment, due: Due, out: &mut Datagram) -> Report
         requires ended { IsFound (λ x. IsDue now x × (due.to ≡ x.key.target.at)) due.number
             self.old.exchanges }
-        requires can { CanDo (firing_at self.old now due.number) now self.old out.old }
-        ensures { Does (firing_at self.old now due.number) result out.old out.new self.new }
+        requires can { CanDo (request_timeout_at self.old now due.number) now self.old out.old }
+        ensures { Does (request_timeout_at self.old now due.number) result out.old out.new
+            self.new }
     {
         match self.under_way.fire(due.number, now) {
             Fire::Again => {
@@ -349,8 +350,9 @@ impl<S: Store + Drop> State<S> {
     fn on_delivery_timeout(&mut self, now: Moment, due: Due, out: &mut Datagram) -> Report
         requires ended { IsFound (λ v. waiters.IsDue now v × (due.to ≡ v.client)) due.number
             self.old.waiters }
-        requires can { CanDo (unheard_at self.old now due.number) now self.old out.old }
-        ensures { Does (unheard_at self.old now due.number) result out.old out.new self.new }
+        requires can { CanDo (delivery_timeout_at self.old now due.number) now self.old out.old }
+        ensures { Does (delivery_timeout_at self.old now due.number) result out.old out.new
+            self.new }
     {
         match self.under_way.fire_waiter(due.number, now) {
             Fire::GiveUp => self.abandon(now, due.number, out),

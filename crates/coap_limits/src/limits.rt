@@ -177,7 +177,7 @@ impl Default for LimitValues {
 impl LimitValues {
     /// The limits of a configuration of version 2 that has no others: one client may use a part of
     /// what clients share.
-    pub fn per_client() -> LimitValues
+    pub fn version_2() -> LimitValues
         ensures exact { result ≡ limits_per_client }
     {
         LimitValues {

@@ -30,12 +30,12 @@ use Rattle.coap_model.specs.Standing.{Stage, Open, queued, sent, stage_of, Stand
 use Rattle.coap_model.specs.Schedules.{sends_by, next_send}
 use Rattle.coap_model.specs.Due.{IsToSend, IsToRepeat, IsToEnd, IsExchangeDue, to_send, to_repeat, to_end, IsToServe, IsToServeAgain, IsClientDue, to_serve, to_serve_again, IsDueAt, ComesBefore, IsSooner, IsNextDue}
 use Rattle.coap_model.specs.Justified.{IsActing, verdict_on}
-use Rattle.coap_model.specs.History.{Entry, Act, no_item, admits, moves, serves, Deed, Place, Never, Ends, Serves}
+use Rattle.coap_model.specs.History.{Observation, Act, no_item, admits, moves, serves, Action, Position, Never, Ends, Serves}
 use Rattle.coap_model.specs.Carries.{HasNumber, HasExchange, stage_at, service_in, IsTimer, IsState, IsExchangeOf, IsWaiterIn, IsWaiterOf, Bears}
 use Rattle.coap_model.proofs.FirstDue.{Due, NotBefore, IsNotBefore, first_due-holds, first_due-none, first_due-least}
 use Rattle.coap_model.proofs.Lists.{Has, Has-holds, All-there}
 use Rattle.coap_model.proofs.Once.{ended-once}
-use Rattle.coap_model.proofs.Places.{Never-at, one-opened, one-admitted}
+use Rattle.coap_model.proofs.Positions.{Never-at, one-opened, one-admitted}
 use Rattle.coap_model.proofs.Room.{sent-count}
 use Rattle.coap_model.proofs.Seen.{stage-found, found-stage, service-found, found-service}
 use Rattle.coap_model.proofs.Tables.{Has-item, Has-number, at-number, item-holds, one-item}
@@ -52,7 +52,7 @@ due_of w = due_among w.setting.limits.nstart w.setting.limits.exchange_ms w.exch
 -- ---- small facts
 
 -- a running timeout ends when the message is due to be retransmitted
-pub timer-due : (t : Timer) (es : List Entry) → IsTimer t es → t.due ≡ next_send es
+pub timer-due : (t : Timer) (es : List Observation) → IsTimer t es → t.due ≡ next_send es
 timer-due t [] h = absurd h
 timer-due t (e ∷ es) h = h.3 ∙ ap (λ (n : ℕ). e.now + n) h.2
 
@@ -67,25 +67,25 @@ one_key e = cc
 -- ---- the stage of an exchange
 
 -- each exchange of the tables has its stage in the history
-pub stage-is : (w : State) (history : List Deed) → Bears history w → (x : Numbered Exchange) → Has x w.exchanges → stage_of x.0 history ≡ Some (stage_at x.1.key.target.at x.1.state)
+pub stage-is : (w : State) (history : List Action) → Bears history w → (x : Numbered Exchange) → Has x w.exchanges → stage_of x.0 history ≡ Some (stage_at x.1.key.target.at x.1.state)
 stage-is w history c x there = ap (λ (os : List Open). option_map (λ (o : Open). o.stage) (find (λ (o : Open). o.number == x.0) os)) (sym c.whole.exchanges) ∙ stage-found x.0 w.exchanges x.1 (Has-item 0 w.exchanges x c.whole.rising there)
 
 -- if the history has a stage for an exchange, the exchange is in the table
-pub staged-there : (w : State) (history : List Deed) → Bears history w → (n : ℕ) (stage : Stage) → stage_of n history ≡ Some stage → HasNumber n w.exchanges
+pub staged-there : (w : State) (history : List Action) → Bears history w → (n : ℕ) (stage : Stage) → stage_of n history ≡ Some stage → HasNumber n w.exchanges
 staged-there w history c n stage is = found-stage n w.exchanges (λ none. let e = sym none ∙ ap (λ (os : List Open). option_map (λ (o : Open). o.stage) (find (λ (o : Open). o.number == n) os)) c.whole.exchanges ∙ is in cc)
 
 -- each client of the tables has its stage in the history
-pub service-is : (w : State) (history : List Deed) → Bears history w → (v : Numbered Waiter) → Has v w.waiters → service_of v.0 history ≡ Some (service_in v.1.state)
+pub service-is : (w : State) (history : List Action) → Bears history w → (v : Numbered Waiter) → Has v w.waiters → service_of v.0 history ≡ Some (service_in v.1.state)
 service-is w history c v there = ap (λ (ss : List Standing). option_map (λ (s : Standing). s.service) (find (λ (s : Standing). s.number == v.0) ss)) (sym c.whole.waiters) ∙ service-found v.0 w.waiters v.1 (Has-item 0 w.waiters v c.whole.waiters_rise there)
 
 -- if the history has a stage for a client, the client is in the table
-pub served-there : (w : State) (history : List Deed) → Bears history w → (n : ℕ) (service : Service) → service_of n history ≡ Some service → HasNumber n w.waiters
+pub served-there : (w : State) (history : List Action) → Bears history w → (n : ℕ) (service : Service) → service_of n history ≡ Some service → HasNumber n w.waiters
 served-there w history c n service is = found-service n w.waiters (λ none. let e = sym none ∙ ap (λ (ss : List Standing). option_map (λ (s : Standing). s.service) (find (λ (s : Standing). s.number == n) ss)) c.whole.waiters ∙ is in cc)
 
 -- ---- what is due according to the tables is due according to the history
 
 -- an exchange that is due is due to be sent, to be retransmitted, or to end
-pub exchange-due : (w : State) (history : List Deed) → Bears history w → (x : Numbered Exchange) → Has x w.exchanges → IsExchangeOf w.setting history x → (at : ℕ) → due_of w x.1 ≡ Some at → IsDueAt w.setting history (moves x.0) at
+pub exchange-due : (w : State) (history : List Action) → Bears history w → (x : Numbered Exchange) → Has x w.exchanges → IsExchangeOf w.setting history x → (at : ℕ) → due_of w x.1 ≡ Some at → IsDueAt w.setting history (moves x.0) at
 exchange-due w history c x there f at due = go x.1.state refl f.state due
   where
     last : ℕ
@@ -138,7 +138,7 @@ answer-of P n xs a all e = go (item_at n xs) refl e
     go (Some x) is f = (x, item-holds P n xs x all is, state x x.state refl f, is)
 
 -- a client that is due is due to be served, or to be served again
-pub client-due : (w : State) (history : List Deed) → Bears history w → (v : Numbered Waiter) → Has v w.waiters → IsWaiterOf w.setting history v → (at : ℕ) → due_after w.exchanges v.1 ≡ Some at → IsDueAt w.setting history (serves v.0) at
+pub client-due : (w : State) (history : List Action) → Bears history w → (v : Numbered Waiter) → Has v w.waiters → IsWaiterOf w.setting history v → (at : ℕ) → due_after w.exchanges v.1 ≡ Some at → IsDueAt w.setting history (serves v.0) at
 client-due w history c v there f at due = go v.1.state refl f due
   where
     moment : (exchange : ℕ) → IsWaiterIn w.setting history v (Waiting exchange) → (o : Option Answer) → answer_in exchange w.exchanges ≡ o → moment_of o ≡ Some at → IsToServe w.setting history v.0 at
@@ -166,17 +166,17 @@ pub data IsListed (w : State) (a : Act) (m : ℕ) : Type 0 where
   of_client : (v : Numbered Waiter) (k : ℕ) → Has v w.waiters → serves v.0 ≡ a → due_after w.exchanges v.1 ≡ Some k → k ≤ m → IsListed w a m
 
 -- an exchange of the history is in the table, with its stage
-record IsThere (w : State) (history : List Deed) (x : ℕ) : Type 0 where
+record IsThere (w : State) (history : List Action) (x : ℕ) : Type 0 where
   pub y : Numbered Exchange
   pub number : x ≡ y.0
   pub is : IsExchangeOf w.setting history y
   pub there : Has y w.exchanges
 
-is-there : (w : State) (history : List Deed) → Bears history w → (x : ℕ) → HasNumber x w.exchanges → IsThere w history x
+is-there : (w : State) (history : List Action) → Bears history w → (x : ℕ) → HasNumber x w.exchanges → IsThere w history x
 is-there w history c x has = let f = at-number (IsExchangeOf w.setting history) x w.exchanges has c.exchanges in record { y = f.0; number = f.1; is = f.2; there = f.3 }
 
 -- a request that is due to be sent is due according to the tables
-send-listed : (w : State) (history : List Deed) → Bears history w → (x at : ℕ) → IsToSend w.setting history x at → IsListed w (moves x) at
+send-listed : (w : State) (history : List Action) → Bears history w → (x at : ℕ) → IsToSend w.setting history x at → IsListed w (moves x) at
 send-listed w history c x at d = go y.1.state refl
   where
     t : IsThere w history x
@@ -206,7 +206,7 @@ send-listed w history c x at d = go y.1.state refl
             go false e = refl
 
     moment : y.1.admitted ≡ at
-    moment = t.is.admitted ∙ ap (λ (p : Place). p.deed.entry.now) (sym (one-opened t.number d.opened t.is.opened).0) ∙ sym d.at_is
+    moment = t.is.admitted ∙ ap (λ (p : Position). p.action.observation.now) (sym (one-opened t.number d.opened t.is.opened).0) ∙ sym d.at_is
 
     go : (s : ExchangeState) → y.1.state ≡ s → IsListed w (moves x) at
     go Queued is = of_exchange y y.1.admitted t.there (ap moves (sym t.number)) (ap (λ (s : ExchangeState). due_in s (is_blocked w.setting.limits.nstart w.exchanges y.1) w.setting.limits.exchange_ms y.1) is ∙ rw free refl) (let e = moment in omega (arith, e))
@@ -215,11 +215,11 @@ send-listed w history c x at d = go y.1.state refl
     go (Done a) is = absurd (let e = ap (λ (s : ExchangeState). Some (stage_at y.1.key.target.at s)) (sym is) ∙ stage in cc)
 
 -- when an exchange that was sent is due: at the end of its running timeout, or at its deadline
-sent-due : (w : State) (history : List Deed) (y : Numbered Exchange) → y.1.state ≡ Sent → (s : Sending) → y.1.sending ≡ Some s → due_of w y.1 ≡ Some (min s.timer.due (deadline w.setting.limits.exchange_ms y.1))
+sent-due : (w : State) (history : List Action) (y : Numbered Exchange) → y.1.state ≡ Sent → (s : Sending) → y.1.sending ≡ Some s → due_of w y.1 ≡ Some (min s.timer.due (deadline w.setting.limits.exchange_ms y.1))
 sent-due w history y is s sending = ap (λ (t : ExchangeState). due_in t (is_blocked w.setting.limits.nstart w.exchanges y.1) w.setting.limits.exchange_ms y.1) is ∙ ap (λ (o : Option Sending). Some (timer_or (deadline w.setting.limits.exchange_ms y.1) o)) sending
 
 -- a request that is due to be retransmitted is due according to the tables
-repeat-listed : (w : State) (history : List Deed) → Bears history w → (x at : ℕ) → IsToRepeat w.setting history x at → IsListed w (moves x) at
+repeat-listed : (w : State) (history : List Action) → Bears history w → (x at : ℕ) → IsToRepeat w.setting history x at → IsListed w (moves x) at
 repeat-listed w history c x at d = go y.1.state refl t.is.state
   where
     t : IsThere w history x
@@ -240,17 +240,17 @@ repeat-listed w history c x at d = go y.1.state refl t.is.state
     go (Done a) is state = absurd (let e = ap (λ (s : ExchangeState). Some (stage_at y.1.key.target.at s)) (sym is) ∙ stage in cc)
 
 -- and so is an exchange that is due to end
-end-listed : (w : State) (history : List Deed) → Bears history w → (x at : ℕ) → IsToEnd w.setting history x at → IsListed w (moves x) at
+end-listed : (w : State) (history : List Action) → Bears history w → (x at : ℕ) → IsToEnd w.setting history x at → IsListed w (moves x) at
 end-listed w history c x at d = go y.1.state refl t.is.state
   where
     t : IsThere w history x
-    t = is-there w history c x (c.whole.unended x (record { place = d.opened.opening; is_there = d.opened.was_opened; holds = d.opened.opens }) d.unended)
+    t = is-there w history c x (c.whole.unended x (record { position = d.opened.opening; is_there = d.opened.was_opened; holds = d.opened.opens }) d.unended)
 
     y : Numbered Exchange
     y = t.y
 
     last : deadline w.setting.limits.exchange_ms y.1 ≡ at
-    last = ap (λ (n : ℕ). n + w.setting.limits.exchange_ms) (t.is.admitted ∙ ap (λ (p : Place). p.deed.entry.now) (sym (one-opened t.number d.opened t.is.opened).0)) ∙ sym d.at_is
+    last = ap (λ (n : ℕ). n + w.setting.limits.exchange_ms) (t.is.admitted ∙ ap (λ (p : Position). p.action.observation.now) (sym (one-opened t.number d.opened t.is.opened).0)) ∙ sym d.at_is
 
     blocked : y.1.state ≡ Queued → (b : Bool) → is_blocked w.setting.limits.nstart w.exchanges y.1 ≡ b → IsListed w (moves x) at
     blocked is true e = of_exchange y (deadline w.setting.limits.exchange_ms y.1) t.there (ap moves (sym t.number)) (ap (λ (s : ExchangeState). due_in s (is_blocked w.setting.limits.nstart w.exchanges y.1) w.setting.limits.exchange_ms y.1) is ∙ rw e refl) (let l = last in omega (arith, l))
@@ -263,11 +263,11 @@ end-listed w history c x at d = go y.1.state refl t.is.state
     go (Done a) is state = absurd (Never-at (Ends x) history state.ending d.unended state.was_ended (subst (λ (n : ℕ). Ends n state.ending) (sym t.number) state.ends))
 
 -- a client that is due to be served is due according to the tables
-serve-listed : (w : State) (history : List Deed) → Bears history w → (v at : ℕ) → IsToServe w.setting history v at → IsListed w (serves v) at
+serve-listed : (w : State) (history : List Action) → Bears history w → (v at : ℕ) → IsToServe w.setting history v at → IsListed w (serves v) at
 serve-listed w history c v at d = go u.1.state refl t.2
   where
     t : (u : Numbered Waiter) × (v ≡ u.0) × IsWaiterOf w.setting history u × Has u w.waiters
-    t = at-number (IsWaiterOf w.setting history) v w.waiters (c.whole.unserved v d.admitted.exchange (record { place = d.admitted.admission; is_there = d.admitted.was_admitted; holds = d.admitted.admits }) d.unserved) c.waiters
+    t = at-number (IsWaiterOf w.setting history) v w.waiters (c.whole.unserved v d.admitted.exchange (record { position = d.admitted.admission; is_there = d.admitted.was_admitted; holds = d.admitted.admits }) d.unserved) c.waiters
 
     u : Numbered Waiter
     u = t.0
@@ -292,9 +292,9 @@ serve-listed w history c v at d = go u.1.state refl t.2
         by_state Sent is state = absurd (Never-at (Ends y.0) history d.ending state.unended d.was_ended ends)
         by_state Acked is state = absurd (Never-at (Ends y.0) history d.ending state.unended d.was_ended ends)
         by_state (Done a) is state =
-            let place = ended-once w.setting history y.0 state.ending d.ending c.past state.was_ended d.was_ended state.ends ends in
+            let position = ended-once w.setting history y.0 state.ending d.ending c.past state.was_ended d.was_ended state.ends ends in
             let answer : answer_in exchange w.exchanges ≡ Some a = ap answer_of found ∙ ap answer_in_state is in
-            let moment : a.got ≡ at = state.got ∙ ap (λ (p : Place). p.deed.entry.now) place ∙ sym d.at_is in
+            let moment : a.got ≡ at = state.got ∙ ap (λ (p : Position). p.action.observation.now) position ∙ sym d.at_is in
             of_client u a.got t.3 (ap serves (sym t.1)) (ap (λ (s : WaiterState). waiters.due_in s w.exchanges) waits ∙ ap moment_of answer) (omega (arith, moment))
 
     go : (s : WaiterState) → u.1.state ≡ s → IsWaiterIn w.setting history u s → IsListed w (serves v) at
@@ -305,7 +305,7 @@ serve-listed w history c v at d = go u.1.state refl t.2
     go (Delivering bytes id timer) is g = absurd (Never-at (Serves v) history g.serving d.unserved g.was_served (subst (λ (n : ℕ). Serves n g.serving) (sym t.1) g.is_serving))
 
 -- a client that is due to be served again is due according to the tables
-serve-again-listed : (w : State) (history : List Deed) → Bears history w → (v at : ℕ) → IsToServeAgain history v at → IsListed w (serves v) at
+serve-again-listed : (w : State) (history : List Action) → Bears history w → (v at : ℕ) → IsToServeAgain history v at → IsListed w (serves v) at
 serve-again-listed w history c v at d = go u.1.state refl t.2
   where
     t : (u : Numbered Waiter) × (v ≡ u.0) × IsWaiterOf w.setting history u × Has u w.waiters
@@ -324,7 +324,7 @@ serve-again-listed w history c v at d = go u.1.state refl t.2
         of_client u timer.due t.3 (ap serves (sym t.1)) (ap (λ (s : WaiterState). waiters.due_in s w.exchanges) is) (omega (arith, moment))
 
 -- everything that is due according to the history is due according to the tables
-pub listed : (w : State) (history : List Deed) → Bears history w → (a : Act) (at : ℕ) → IsDueAt w.setting history a at → IsListed w a at
+pub listed : (w : State) (history : List Action) → Bears history w → (a : Act) (at : ℕ) → IsDueAt w.setting history a at → IsListed w a at
 listed w history c no_item at d = absurd d
 listed w history c (admits v x) at d = absurd d
 listed w history c (moves x) at (to_send d) = send-listed w history c x at d
@@ -357,7 +357,7 @@ exchange_parts a b m n e = let p : a ≡ b = cc in let q : m ≡ n = cc in λ i.
 client_parts : (a b m n : ℕ) → OfWaiter a m ≡ OfWaiter b n → ◌≡◌ {A = Due} (b, n) (a, m)
 client_parts a b m n e = let p : a ≡ b = cc in let q : m ≡ n = cc in λ i. (sym p i, sym q i)
 
-module _ (w : State) (history : List Deed) (c : Bears history w) where
+module _ (w : State) (history : List Action) (c : Bears history w) where
   -- the exchange that is due first is due according to the history
   exchange-first : (d : Due) → exchange_due w ≡ Some d → IsDueAt w.setting history (moves d.1) d.0
   exchange-first d e =
@@ -488,7 +488,7 @@ module _ (w : State) (history : List Deed) (c : Bears history w) where
       go (Some j) is f = let h = test j (leb (ticks.moment_of j) now) refl f in (is ∙ ap (λ (k : DueItem). Some k) h.0, h.1)
 
   -- a tick that acts on an item does what is due first
-  abbrev pub acting : (now : ℕ) (i : DueItem) → if_due now (item_due w) ≡ Some i → (d : Deed) → d.act ≡ act_of i → d.entry.event ≡ tick → d.entry.now ≡ now → IsActing w.setting history d
+  abbrev pub acting : (now : ℕ) (i : DueItem) → if_due now (item_due w) ≡ Some i → (d : Action) → d.act ≡ act_of i → d.observation.event ≡ tick → d.observation.now ≡ now → IsActing w.setting history d
   acting now i due d act ticked moment =
       let first = turn-is now i due in
       record {
@@ -534,5 +534,5 @@ module _ (w : State) (history : List Deed) (c : Bears history w) where
       go (Some i) is f = absurd cc
 
 -- the moment at which something is due first is unique
-pub one-next : (setting : Setting) (past : List Deed) (a b : ℕ) → IsNextDue setting past a → IsNextDue setting past b → a ≡ b
+pub one-next : (setting : Setting) (past : List Action) (a b : ℕ) → IsNextDue setting past a → IsNextDue setting past b → a ≡ b
 one-next setting past a b p q = let below = p.least q.act b q.due in let above = q.least p.act a p.due in omega (arith, below, above)

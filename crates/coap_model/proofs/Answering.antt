@@ -18,13 +18,13 @@ use Rattle.coap_forward.specs.Messages.{is_con, is_ack, acknowledgement}
 use Rattle.coap_store.specs.Entries.{Entry}
 use Rattle.coap_model.specs.declared.report.Outcome.TheVariants.{Answered}
 use Rattle.coap_model.specs.declared.report.Storing.{Storing}
-use Rattle.coap_model.specs.Justified.{TakesUp, IsNew, Acknowledges, to_acknowledge, to_reset, a_request, IsAnswer, got}
+use Rattle.coap_model.specs.Justified.{Accepts, IsNew, Acknowledges, to_acknowledge, to_reset, a_request, IsAnswer, got}
 use Rattle.coap_model.specs.State.{State, silent, says, known_of, has_record_room, remembers}
 use Rattle.coap_model.specs.Step.{message_in}
 use Rattle.coap_model.specs.Empties.{acknowledges}
-use Rattle.coap_model.specs.History.{moves, Deed, Brings, last_of}
+use Rattle.coap_model.specs.History.{moves, Action, Brings, last_of}
 use Rattle.coap_model.specs.Standing as stage
-use Rattle.coap_model.specs.Runs.{entry_of}
+use Rattle.coap_model.specs.Runs.{observation_of}
 use Rattle.coap_model.specs.Carries.{AreRemembered, Bears}
 use Rattle.coap_model.proofs.Awaiting.{awaited-by, ack-is, empty-is, answer-here, about-here, sent-unsettled, from-here}
 use Rattle.coap_model.proofs.Frames.{is_flying, asked_frame, sent_frame, sends-quiet, schedules_frame}
@@ -39,7 +39,7 @@ use Rattle.coap_forward.specs.Changes.{changed_by, concerns}
 use Rattle.coap_store.specs.declared.key.CacheKey.{CacheKey}
 use Rattle.coap_model.specs.MessageIds.{IdsDiffer}
 use Rattle.coap_model.proofs.OneMeant.{one-meant}
-use Rattle.coap_model.proofs.Places.{here, doing, opened-later, one-brought}
+use Rattle.coap_model.proofs.Positions.{here, doing, opened-later, one-brought}
 use Rattle.coap_model.proofs.Quiet.{remembered-still, room-still}
 use Rattle.coap_model.proofs.Remembering.{remembered-on, record-new, now-remembered, answer-leaves}
 use Rattle.coap_model.proofs.Repeating.{ended-seen, ended-room, ended-pace}
@@ -47,38 +47,38 @@ use Rattle.coap_model.proofs.Rules.{Recorded, IsAbout, IsAnswerFor, recorded-kin
 use Rattle.coap_model.proofs.Seen.{staged-seen}
 use Rattle.coap_model.proofs.Sendings.{was-sent}
 use Rattle.coap_model.proofs.Spelled.{message_in-is, acknowledgement-is, acknowledgement-short}
-use Rattle.coap_model.proofs.TakingUp.{silent-up, told-up}
+use Rattle.coap_model.proofs.Accepting.{silent-up, told-up}
 use Rattle.coap_model.proofs.Stores.{store-otherwise}
 
 -- ---- one request
 
 -- Message IDs aren't reused too soon
-pub differ : (w : State) (history : List Deed) → Bears history w → IdsDiffer history
+pub differ : (w : State) (history : List Action) → Bears history w → IdsDiffer history
 differ w history c = ids-differ w.setting.first_id history c.ids.are_ids c.ids.windows c.clock.in_order
 
 -- the last moment isn't later than now
-pub last-now : (w : State) (history : List Deed) → Bears history w → (now : ℕ) → w.last ≤ now → last_of history ≤ now
+pub last-now : (w : State) (history : List Action) → Bears history w → (now : ℕ) → w.last ≤ now → last_of history ≤ now
 last-now w history c now onward = let h = c.clock.last in omega (arith, h, onward)
 
 -- ---- the answer
 
 -- an answer that arrives preserves what is carried, whatever is sent immediately and remembered
-module _ (w : State) (history : List Deed) (c : Bears history w) (now draw : ℕ) (source : Endpoint) (bytes : List ℕ) (grown : Bool) (m : Message) (x : Numbered Exchange) (storing : Storing) (store : List Entry) (send : Option Endpoint) (told : List ℕ) (con non : Records) where
-  abbrev answer_deed : Deed
-  answer_deed = doing (moves x.0) (record { now = now; draw = draw; event = arrival source bytes; report = record { send = send; outcome = Answered storing }; bytes = told })
+module _ (w : State) (history : List Action) (c : Bears history w) (now draw : ℕ) (source : Endpoint) (bytes : List ℕ) (grown : Bool) (m : Message) (x : Numbered Exchange) (storing : Storing) (store : List Entry) (send : Option Endpoint) (told : List ℕ) (con non : Records) where
+  abbrev answer_action : Action
+  answer_action = doing (moves x.0) (record { now = now; draw = draw; event = arrival source bytes; report = record { send = send; outcome = Answered storing }; bytes = told })
 
   -- the exchanges, after the answer's changes are tainted
   abbrev others : List (Numbered Exchange)
   others = tainted_all (changed_by x.1.key.target m) w.exchanges
 
   keeps-answer : w.last ≤ now → IsBytes bytes → message_in w.setting.limits.datagram bytes ≡ Some m → IsAnswerFor w now source m x → IsStoring (changed_state w m x) now grown x (answer_for w now m x.1) storing store
-      → TakesUp m.kind source m.id answer_deed.entry
+      → Accepts m.kind source m.id answer_action.observation
       → (m.kind ≡ Con → IsNew w.setting history now source m)
-      → AreRemembered w.setting (answer_deed ∷ history) Con con × AreRemembered w.setting (answer_deed ∷ history) Non non
-      → Bears (answer_deed ∷ history) (moved_state w now others x.0 (answered (answer_for w now m x.1)) w.ids store con non)
+      → AreRemembered w.setting (answer_action ∷ history) Con con × AreRemembered w.setting (answer_action ∷ history) Non non
+      → Bears (answer_action ∷ history) (moved_state w now others x.0 (answered (answer_for w now m x.1)) w.ids store con non)
   keeps-answer onward fits read for stored taken new remembered =
       let result = answer_for w now m x.1 in
-      let e = answer_deed in
+      let e = answer_action in
       let a = answer-here w history c now source m x for in
       let h = a.0 in
       let f = h.exchange in
@@ -86,7 +86,7 @@ module _ (w : State) (history : List Deed) (c : Bears history w) (now draw : ℕ
       let was = flight.asked in
       let came = message_in-is w.setting.limits.datagram bytes m fits read in
       let from = from-here w history c now source m x h in
-      let brings : Brings w.setting.limits.datagram was.asks.sends.to m e.entry.event = record { bytes = bytes; came = ap (λ (to : Endpoint). arrival to bytes) from; spells = came.0; short = came.1 } in
+      let brings : Brings w.setting.limits.datagram was.asks.sends.to m e.observation.event = record { bytes = bytes; came = ap (λ (to : Endpoint). arrival to bytes) from; spells = came.0; short = came.1 } in
       let g = gets w history c now m x e refl flight refl refl brings a.1 fits in
       let is = result-is w history c now m x e refl flight refl refl brings a.1 fits in
       let answer : IsAnswer w.setting history e = record {
@@ -96,7 +96,7 @@ module _ (w : State) (history : List Deed) (c : Bears history w) (now draw : ℕ
         unsettled = a.2;
         only = λ reset other also. one-meant w.setting history now (arrival source bytes) other (moves x.0) (differ w history c) c.clock.in_order (last-now w history c now onward) also (to_reset x.0 (awaited-by w history c now source m x bytes fits read for) refl (sym (ap (λ (k : Message). k.kind) (one-brought brings (awaited-by w history c now source m x bytes fits read for).meets.brings).1) ∙ reset));
         new = λ con. subst (λ (to : Endpoint). IsNew w.setting history now to m) from (new con);
-        takes_up = subst (λ (to : Endpoint). TakesUp m.kind to m.id e.entry) from taken;
+        accepts = subst (λ (to : Endpoint). Accepts m.kind to m.id e.observation) from taken;
       } in
       let changed = subst (λ (k : CacheKey). AreOthers w history e x.0 (tainted_all (changed_by k.target m) w.exchanges)) was.asked_key (others-changed w history c e x.0 g) in
       let taint = x.1.tainted || (is_flying x.1.state && concerns (changed_by x.1.key.target m) x.1.key.target) in
@@ -133,37 +133,37 @@ module _ (w : State) (history : List Deed) (c : Bears history w) (now draw : ℕ
       (answered-so w history c now m x e refl flight refl refl brings a.1 fits grown storing store answer stored, c.past)
 
 -- a message that isn't Confirmable and gives an answer preserves what is carried
-pub keeps_answering : (w : State) (history : List Deed) (c : Bears history w) → (now draw : ℕ) (source : Endpoint) (bytes : List ℕ) (grown : Bool) (m : Message) (x : Numbered Exchange) (storing : Storing) (store : List Entry) → w.last ≤ now → IsBytes bytes → message_in w.setting.limits.datagram bytes ≡ Some m → IsAnswerFor w now source m x → is_con m.kind ≡ false → IsStoring (changed_state w m x) now grown x (answer_for w now m x.1) storing store
-    → Bears (doing (moves x.0) (entry_of now draw (arrival source bytes) (silent (Answered storing) (answered_state (changed_state w m x) now x.0 (answer_for w now m x.1) store))) ∷ history) (answered_state (changed_state w m x) now x.0 (answer_for w now m x.1) store)
+pub keeps_answering : (w : State) (history : List Action) (c : Bears history w) → (now draw : ℕ) (source : Endpoint) (bytes : List ℕ) (grown : Bool) (m : Message) (x : Numbered Exchange) (storing : Storing) (store : List Entry) → w.last ≤ now → IsBytes bytes → message_in w.setting.limits.datagram bytes ≡ Some m → IsAnswerFor w now source m x → is_con m.kind ≡ false → IsStoring (changed_state w m x) now grown x (answer_for w now m x.1) storing store
+    → Bears (doing (moves x.0) (observation_of now draw (arrival source bytes) (silent (Answered storing) (answered_state (changed_state w m x) now x.0 (answer_for w now m x.1) store))) ∷ history) (answered_state (changed_state w m x) now x.0 (answer_for w now m x.1) store)
 keeps_answering w history c now draw source bytes grown m x storing store onward fits read for other stored =
-    let e = doing (moves x.0) (entry_of now draw (arrival source bytes) (silent (Answered storing) (answered_state (changed_state w m x) now x.0 (answer_for w now m x.1) store))) in
+    let e = doing (moves x.0) (observation_of now draw (arrival source bytes) (silent (Answered storing) (answered_state (changed_state w m x) now x.0 (answer_for w now m x.1) store))) in
     let since = last-now w history c now onward in
     keeps-answer w history c now draw source bytes grown m x storing store None [] w.con_records w.non_records onward fits read for stored
-    (silent-up m.kind source m.id e.entry other (record { sent = refl; bytes = refl }))
+    (silent-up m.kind source m.id e.observation other (record { sent = refl; bytes = refl }))
     (λ con. absurd (let both = sym other ∙ ap is_con con in cc)) (
       remembered-on e since (answer-leaves w bytes m Con e source storing fits read other refl refl) c.con_records,
       remembered-on e since (answer-leaves w bytes m Non e source storing fits read other refl refl) c.non_records,
     )
 
 -- and so does a Confirmable one, which is acknowledged and remembered
-pub keeps_answering_con : (w : State) (history : List Deed) (c : Bears history w) → (now draw : ℕ) (source : Endpoint) (bytes : List ℕ) (grown : Bool) (m : Message) (x : Numbered Exchange) (storing : Storing) (store : List Entry) → w.last ≤ now → IsBytes bytes → Recorded w bytes m → IsAnswerFor w now source m x → is_con m.kind ≡ true → known_of w now source m ≡ None → has_record_room w now source m.kind ≡ true → IsStoring (changed_state w m x) now grown x (answer_for w now m x.1) storing store
-    → Bears (doing (moves x.0) (entry_of now draw (arrival source bytes) (says (Answered storing) source (acknowledgement m.id) (answered_state (changed_state w m x) now x.0 (answer_for w now m x.1) store))) ∷ history) (remembers now source m (says (Answered storing) source (acknowledgement m.id) (answered_state (changed_state w m x) now x.0 (answer_for w now m x.1) store))).state
+pub keeps_answering_con : (w : State) (history : List Action) (c : Bears history w) → (now draw : ℕ) (source : Endpoint) (bytes : List ℕ) (grown : Bool) (m : Message) (x : Numbered Exchange) (storing : Storing) (store : List Entry) → w.last ≤ now → IsBytes bytes → Recorded w bytes m → IsAnswerFor w now source m x → is_con m.kind ≡ true → known_of w now source m ≡ None → has_record_room w now source m.kind ≡ true → IsStoring (changed_state w m x) now grown x (answer_for w now m x.1) storing store
+    → Bears (doing (moves x.0) (observation_of now draw (arrival source bytes) (says (Answered storing) source (acknowledgement m.id) (answered_state (changed_state w m x) now x.0 (answer_for w now m x.1) store))) ∷ history) (remembers now source m (says (Answered storing) source (acknowledgement m.id) (answered_state (changed_state w m x) now x.0 (answer_for w now m x.1) store))).state
 keeps_answering_con w history c now draw source bytes grown m x storing store onward fits recorded for con unknown room stored =
     let s = says (Answered storing) source (acknowledgement m.id) (answered_state (changed_state w m x) now x.0 (answer_for w now m x.1) store) in
-    let e = doing (moves x.0) (entry_of now draw (arrival source bytes) s) in
+    let e = doing (moves x.0) (observation_of now draw (arrival source bytes) s) in
     let kind = recorded-kind m recorded.recorded in
     keeps-answer w history c now draw source bytes grown m x storing store (Some source) (spelling (acknowledgement m.id)) _ _ onward fits recorded.read for stored
-    (told-up m.kind source m.id e.entry con (record { sent = refl; spells = spelled (acknowledgement m.id) (acknowledgement-is m.id) }))
+    (told-up m.kind source m.id e.observation con (record { sent = refl; spells = spelled (acknowledgement m.id) (acknowledgement-is m.id) }))
     (λ is. record-new w history c now source bytes m onward kind unknown room)
     (now-remembered w history c now source bytes m onward draw (moves x.0) s fits recorded.read kind unknown room con (λ most wide long. omega (arith, wide, acknowledgement-short m.id)))
 
 -- ---- an acknowledgement
 
 -- acknowledging the request of an exchange preserves what is carried
-pub keeps_acknowledging : (w : State) (history : List Deed) (c : Bears history w) → (now draw : ℕ) (source : Endpoint) (bytes : List ℕ) (m : Message) (x : Numbered Exchange) → w.last ≤ now → IsBytes bytes → message_in w.setting.limits.datagram bytes ≡ Some m → IsAbout w now source m x → is_ack m.kind ≡ true
-    → Bears (doing (moves x.0) (entry_of now draw (arrival source bytes) (acknowledges w now x.0)) ∷ history) (acknowledges w now x.0).state
+pub keeps_acknowledging : (w : State) (history : List Action) (c : Bears history w) → (now draw : ℕ) (source : Endpoint) (bytes : List ℕ) (m : Message) (x : Numbered Exchange) → w.last ≤ now → IsBytes bytes → message_in w.setting.limits.datagram bytes ≡ Some m → IsAbout w now source m x → is_ack m.kind ≡ true
+    → Bears (doing (moves x.0) (observation_of now draw (arrival source bytes) (acknowledges w now x.0)) ∷ history) (acknowledges w now x.0).state
 keeps_acknowledging w history c now draw source bytes m x onward fits read about ack =
-    let e = doing (moves x.0) (entry_of now draw (arrival source bytes) (acknowledges w now x.0)) in
+    let e = doing (moves x.0) (observation_of now draw (arrival source bytes) (acknowledges w now x.0)) in
     let a = about-here w history c now source m x about in
     let h = a.here in
     let f = h.exchange in

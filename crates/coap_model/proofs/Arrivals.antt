@@ -12,7 +12,7 @@ use Rattle.std.specs.Option.{option_map_or}
 use Rattle.coap_model.specs.Setting.{Setting}
 use Rattle.coap_forward.specs.Messages.{is_con}
 use Rattle.coap_model.specs.History.{Brings, comes_con, IsRequestOf}
-use Rattle.coap_model.proofs.Places.{arrival-same}
+use Rattle.coap_model.proofs.Positions.{arrival-same}
 
 -- an arrival isn't a tick
 pub no_tick : {A : Type 0} {event : Event} {source : Endpoint} {bytes : List ℕ} → event ≡ arrival source bytes → event ≡ tick → A

@@ -41,7 +41,7 @@ use Rattle.coap_model.specs.Responses.{has_id, awaits, awaiting}
 use Rattle.coap_model.specs.Standing.{sent, stage_of, told, service_of}
 use Rattle.coap_dedup.specs.Lists.{record_of}
 use Rattle.coap_dedup.specs.Records.{living_at}
-use Rattle.coap_model.specs.History.{last_of, Deed, Place, IsPlaceOf, Never, Somewhere, Opens, Sends, Asks, Serves, Matches, in_acknowledgement, separate, by_reset, Brings, Meets, Ends}
+use Rattle.coap_model.specs.History.{last_of, Action, Position, IsPositionOf, Never, Somewhere, Opens, Sends, Asks, Serves, Matches, in_acknowledgement, separate, by_reset, Brings, Meets, Ends}
 use Rattle.coap_model.specs.Justified.{Comes, known_of, IsUnsettled, IsAwaited, Acknowledges, Closes, AllJustified}
 use Rattle.coap_model.specs.declared.report.Outcome.TheVariants.{SentRequest}
 use Rattle.coap_model.specs.Carries.{stage_at, service_in, IsState, IsInFlight, IsExchangeOf, HasNumber, IsDelivering, IsWaiterIn, IsWaiterOf, Bears}
@@ -51,23 +51,23 @@ use Rattle.coap_model.proofs.Sendings.{started-asking, asked-as, as-found}
 use Rattle.coap_model.proofs.Verdicts.{code-same}
 use Rattle.coap_model.proofs.Tables.{at-number, item-Has, item-holds, Has-item, one-item}
 use Rattle.coap_model.proofs.Spelled.{message_in-is, message_in-again}
-use Rattle.coap_model.proofs.Places.{first-once, same_moves, place-before, justified-at, Never-at, arrival-same}
+use Rattle.coap_model.proofs.Positions.{first-once, same_moves, position-before, justified-at, Never-at, arrival-same}
 use Rattle.coap_model.proofs.Rules as rules
 use Rattle.coap_model.proofs.Remembering.{known-is}
 use Rattle.coap_model.proofs.Rules.{IsAbout, IsOfAnswer, IsAnswerFor, IsNothing, recorded-kind, request-brings}
 
 -- an exchange whose request was sent was opened before
-pub asked-opened : (setting : Setting) (history : List Deed) → AllJustified setting history → (x : ℕ) (p : Place) → IsPlaceOf history p → Sends setting.salt x p → Somewhere (Opens x) history
+pub asked-opened : (setting : Setting) (history : List Action) → AllJustified setting history → (x : ℕ) (p : Position) → IsPositionOf history p → Sends setting.salt x p → Somewhere (Opens x) history
 asked-opened setting history all x p at s =
     let f = justified-at setting history p SentRequest all at s.outcome in
     let same = same_moves f.exchange x (sym f.act ∙ s.act) in
     let o = f.to_send.opened in
-    record { place = o.opening; is_there = place-before history p o.opening at o.was_opened; holds = subst (λ (n : ℕ). Opens n o.opening) same o.opens }
+    record { position = o.opening; is_there = position-before history p o.opening at o.was_opened; holds = subst (λ (n : ℕ). Opens n o.opening) same o.opens }
 
 -- ---- from the tables to the history
 
 -- what is known of an exchange whose request was sent, and that isn't answered
-pub record IsHere (w : State) (history : List Deed) (source : Endpoint) (x : Numbered Exchange) : Type 0 where
+pub record IsHere (w : State) (history : List Action) (source : Endpoint) (x : Numbered Exchange) : Type 0 where
   pub exchange : IsExchangeOf w.setting history x
   pub there : Has x w.exchanges
   pub found : item_at x.0 w.exchanges ≡ Some x.1
@@ -76,7 +76,7 @@ pub record IsHere (w : State) (history : List Deed) (source : Endpoint) (x : Num
   pub source_is : x.1.key.target.at ≡ source
 
 -- an exchange that passes this test is in flight
-in-flight : (setting : Setting) (history : List Deed) (x : Numbered Exchange) (s : ExchangeState) → IsState setting history x s → (is_sent_state s || is_acked_state s) ≡ true → IsInFlight setting history x
+in-flight : (setting : Setting) (history : List Action) (x : Numbered Exchange) (s : ExchangeState) → IsState setting history x s → (is_sent_state s || is_acked_state s) ≡ true → IsInFlight setting history x
 in-flight setting history x Queued state e = absurd cc
 in-flight setting history x Sent state e = state
 in-flight setting history x Acked state e = state
@@ -119,7 +119,7 @@ rst-brings Rst is e = absurd cc
 pub empty-is : (m : Message) → is_bare m ≡ true → m.code ≡ EMPTY
 empty-is m bare = code-same m.code EMPTY (eqb-true m.code.0 0 (and_parts (is_empty m.code) (is_ack m.kind || is_rst m.kind) bare).0)
 
-module _ (w : State) (history : List Deed) (c : Bears history w) (now : ℕ) (source : Endpoint) (m : Message) (x : Numbered Exchange) where
+module _ (w : State) (history : List Action) (c : Bears history w) (now : ℕ) (source : Endpoint) (m : Message) (x : Numbered Exchange) where
   -- the exchange that the search for a response finds awaits it
   response-here : awaiting w source m ≡ Some x → IsHere w history source x × (has_id m x.1.sending ≡ true) × (m.token ≡ token_of w.setting.salt x.0)
   response-here found =
@@ -151,13 +151,13 @@ first-passes test xs least x rising first there = go (find (λ (y : Numbered Exc
         subst (λ (b : Exchange). test b ≡ true) one f.1
 
 -- what is known of the exchange whose request an Empty message refers to
-pub record IsSentAs (w : State) (history : List Deed) (now : ℕ) (source : Endpoint) (m : Message) (x : Numbered Exchange) : Type 0 where
+pub record IsSentAs (w : State) (history : List Action) (now : ℕ) (source : Endpoint) (m : Message) (x : Numbered Exchange) : Type 0 where
   pub here : IsHere w history source x
   pub state_is : x.1.state ≡ Sent
   pub id_is : here.flight.sending.id ≡ m.id
   pub soon : now - here.flight.sending.timer.started < 247000
 
-module _ (w : State) (history : List Deed) (c : Bears history w) (now : ℕ) (source : Endpoint) (m : Message) (x : Numbered Exchange) where
+module _ (w : State) (history : List Action) (c : Bears history w) (now : ℕ) (source : Endpoint) (m : Message) (x : Numbered Exchange) where
   -- the exchange that an Empty message refers to is there, and was sent with its id
   pub about-here : IsAbout w now source m x → IsSentAs w history now source m x
   about-here a =
@@ -255,14 +255,14 @@ has-id-so m o s is id = go (is_ack m.kind) refl
     go true ack = ap (was_sent_with m.id) is ∙ eq-eqb s.id m.id (id ack)
     go false other = refl
 
--- equal places have the same endpoint and the same id
-same-sending : (salt x y : ℕ) (p q : Place) → p ≡ q → (f : Sends salt x p) (g : Sends salt y q) → (f.to ≡ g.to) × (f.message.id ≡ g.message.id)
+-- equal positions have the same endpoint and the same id
+same-sending : (salt x y : ℕ) (p q : Position) → p ≡ q → (f : Sends salt x p) (g : Sends salt y q) → (f.to ≡ g.to) × (f.message.id ≡ g.message.id)
 same-sending salt x y p q e f g =
-    let sent : Some f.to ≡ Some g.to = sym f.sent ∙ ap (λ (r : Place). r.deed.entry.report.send) e ∙ g.sent in
-    let spells = subst (λ (r : Place). Spells r.deed.entry.bytes f.message) e f.spells in
-    (cc, ap (λ (m : Message). m.id) (one_message q.deed.entry.bytes f.message g.message spells g.spells))
+    let sent : Some f.to ≡ Some g.to = sym f.sent ∙ ap (λ (r : Position). r.action.observation.report.send) e ∙ g.sent in
+    let spells = subst (λ (r : Position). Spells r.action.observation.bytes f.message) e f.spells in
+    (cc, ap (λ (m : Message). m.id) (one_message q.action.observation.bytes f.message g.message spells g.spells))
 
-found-asked : (setting : Setting) (history : List Deed) (y : Numbered Exchange) (m : Place) (s : ExchangeState) → IsPlaceOf history m → Asks setting.salt y.0 m → Never (Ends y.0) history → IsState setting history y s → ((is_sent_state s || is_acked_state s) ≡ true) × ((flight : IsInFlight setting history y) × (flight.asked.asking ≡ m))
+found-asked : (setting : Setting) (history : List Action) (y : Numbered Exchange) (m : Position) (s : ExchangeState) → IsPositionOf history m → Asks setting.salt y.0 m → Never (Ends y.0) history → IsState setting history y s → ((is_sent_state s || is_acked_state s) ≡ true) × ((flight : IsInFlight setting history y) × (flight.asked.asking ≡ m))
 found-asked setting history y m Queued was asks unended state = absurd (Never-at (Sends setting.salt y.0) history m state.never_sent was asks.sends)
 found-asked setting history y m (Done answer) was asks unended state = absurd (Never-at (Ends y.0) history state.ending unended state.was_ended state.ends)
 found-asked setting history y m Sent was asks unended state = (refl, (state, first-once (Sends setting.salt y.0) history state.asked.asking m state.asked.was_asked was state.asked.asks.sends asks.sends state.asked.asks.first asks.first))
@@ -275,7 +275,7 @@ sent-stage at to Sent e = refl
 sent-stage at to Acked e = absurd cc
 sent-stage at to (Done a) e = absurd cc
 
-module _ (w : State) (history : List Deed) (c : Bears history w) (now : ℕ) (source : Endpoint) (bytes : List ℕ) (onward : w.last ≤ now) (none : IsNothing w now source bytes) where
+module _ (w : State) (history : List Action) (c : Bears history w) (now : ℕ) (source : Endpoint) (bytes : List ℕ) (onward : w.last ≤ now) (none : IsNothing w now source bytes) where
   -- the message that an event brings is the one that is read
   read-here : {to : Endpoint} {m : Message} → (b : Brings w.setting.limits.datagram to m (arrival source bytes)) → (source ≡ to) × (message_in w.setting.limits.datagram bytes ≡ Some m)
   read-here {to} {m} b =
@@ -290,7 +290,7 @@ module _ (w : State) (history : List Deed) (c : Bears history w) (now : ℕ) (so
       ap (record_of other m.id) (sym (known-is w history c now other bytes m onward m.kind (recorded-kind m comes.recorded))) ∙ ap (λ (e : Endpoint). record_of e m.id (living_at now (records_of m.kind w))) (sym read.0) ∙ unknown
 
   -- an Empty message that is ignored doesn't refer to a request that waits for its acknowledgement
-  not-about : (x : ℕ) (asking : Place) → IsPlaceOf history asking → (asks : Asks w.setting.salt x asking) → IsUnsettled history now x asking → (m : Message) → Brings w.setting.limits.datagram asks.sends.to m (arrival source bytes) → is_bare m ≡ true → m.id ≡ asks.sends.message.id → ⊥
+  not-about : (x : ℕ) (asking : Position) → IsPositionOf history asking → (asks : Asks w.setting.salt x asking) → IsUnsettled history now x asking → (m : Message) → Brings w.setting.limits.datagram asks.sends.to m (arrival source bytes) → is_bare m ≡ true → m.id ≡ asks.sends.message.id → ⊥
   not-about x asking was asks u m brings bare id = in_table (staged-there w history c x (sent u.to) u.stage)
     where
       read : (source ≡ asks.sends.to) × (message_in w.setting.limits.datagram bytes ≡ Some m)
@@ -368,7 +368,7 @@ module _ (w : State) (history : List Deed) (c : Bears history w) (now : ℕ) (so
 -- ---- the answers to clients
 
 -- a client was sent its answer in these bytes, with this id, by this timer
-pub record WasDelivered (setting : Setting) (history : List Deed) (v : Numbered Waiter) : Type 0 where
+pub record WasDelivered (setting : Setting) (history : List Action) (v : Numbered Waiter) : Type 0 where
   pub bytes : List ℕ
   pub id : ℕ
   pub timer : Timer
@@ -376,7 +376,7 @@ pub record WasDelivered (setting : Setting) (history : List Deed) (v : Numbered 
   pub delivering : IsDelivering setting history v bytes id timer
 
 -- so was a client that hasn't acknowledged its answer yet
-pub told-delivered : (setting : Setting) (history : List Deed) (v : Numbered Waiter) → IsWaiterOf setting history v → service_in v.1.state ≡ told → WasDelivered setting history v
+pub told-delivered : (setting : Setting) (history : List Action) (v : Numbered Waiter) → IsWaiterOf setting history v → service_in v.1.state ≡ told → WasDelivered setting history v
 told-delivered setting history v f e = go v.1.state refl e f
   where
     go : (s : WaiterState) → v.1.state ≡ s → service_in s ≡ told → IsWaiterIn setting history v s → WasDelivered setting history v
@@ -384,7 +384,7 @@ told-delivered setting history v f e = go v.1.state refl e f
     go (Delivering bytes id timer) is e g = record { bytes = bytes; id = id; timer = timer; state_is = is; delivering = g }
 
 -- and so was a client whose answer was sent with an id
-sent-delivered : (setting : Setting) (history : List Deed) (v : Numbered Waiter) (id now : ℕ) → IsWaiterOf setting history v → is_delivered_as id now v.1.state ≡ true → WasDelivered setting history v
+sent-delivered : (setting : Setting) (history : List Action) (v : Numbered Waiter) (id now : ℕ) → IsWaiterOf setting history v → is_delivered_as id now v.1.state ≡ true → WasDelivered setting history v
 sent-delivered setting history v id now f e = go v.1.state refl e f
   where
     go : (s : WaiterState) → v.1.state ≡ s → is_delivered_as id now s ≡ true → IsWaiterIn setting history v s → WasDelivered setting history v
@@ -400,7 +400,7 @@ bare-kind Non e = absurd cc
 bare-kind Ack e = inl refl
 bare-kind Rst e = inr refl
 
-module _ (w : State) (history : List Deed) (c : Bears history w) (now : ℕ) (source : Endpoint) (bytes : List ℕ) where
+module _ (w : State) (history : List Action) (c : Bears history w) (now : ℕ) (source : Endpoint) (bytes : List ℕ) where
   -- an Empty message closes the client that was sent its answer with this id at its source
   closes-one : (m : Message) (v : Numbered Waiter) → IsBytes bytes → message_in w.setting.limits.datagram bytes ≡ Some m → is_bare m ≡ true → IsWaiterOf w.setting history v → Has v w.waiters → waiters.was_sent_as source m.id now v.1 ≡ true → Closes w.setting history now v.0 (arrival source bytes)
   closes-one m v fits read bare f there passes =
@@ -459,12 +459,12 @@ module _ (w : State) (history : List Deed) (c : Bears history w) (now : ℕ) (so
       let e = sym (service-is w history c v there) ∙ ap (λ (u : ℕ). service_of u history) (sym number) ∙ k.service in
       let was = told-delivered w.setting history v f (same_Some (service_in v.1.state) told e) in
       let d = was.delivering in
-      let place = d.only k.serving k.was_served (subst (λ (u : ℕ). Serves u k.serving) number k.serves) in
-      let to : v.1.client ≡ k.to = same_Some v.1.client k.to (sym d.sent ∙ ap (λ (p : Place). p.deed.entry.report.send) (sym place) ∙ k.sent) in
-      let answer = one_message d.serving.deed.entry.bytes k.answer d.answer (subst (λ (p : Place). Spells p.deed.entry.bytes k.answer) place k.spells) d.spells in
+      let position = d.only k.serving k.was_served (subst (λ (u : ℕ). Serves u k.serving) number k.serves) in
+      let to : v.1.client ≡ k.to = same_Some v.1.client k.to (sym d.sent ∙ ap (λ (p : Position). p.action.observation.report.send) (sym position) ∙ k.sent) in
+      let answer = one_message d.serving.action.observation.bytes k.answer d.answer (subst (λ (p : Position). Spells p.action.observation.bytes k.answer) position k.spells) d.spells in
       let id : was.id ≡ k.message.id = d.id_is ∙ ap (λ (m : Message). m.id) (sym answer) ∙ sym k.id_is in
       let began = d.started in
-      let moment = ap (λ (p : Place). p.deed.entry.now) place in
+      let moment = ap (λ (p : Position). p.action.observation.now) position in
       let soon = k.soon in
       let test : is_delivered_as k.message.id now (Delivering was.bytes was.id was.timer) ≡ true = and_from (was.id == k.message.id) (nat_lt (now - was.timer.started) 247000) (eq-eqb was.id k.message.id id) (lt-ltb (now - was.timer.started) 247000 (omega (arith, soon, began, moment))) in
       and_from (same_endpoint v.1.client source) (is_delivered_as k.message.id now v.1.state) ((Tells-both same_endpoint Tells-endpoint v.1.client source).1 (to ∙ sym (closing-read k).0)) (ap (is_delivered_as k.message.id now) was.state_is ∙ test)

@@ -6,7 +6,7 @@ use Rattle.coap_limits.specs.Limits.{AreLimits}
 use Rattle.coap_limits.specs.declared.limits.Limit.TheVariants.{ExchangeMs}
 use Rattle.coap_model.specs.Setting.{Setting}
 use Rattle.coap_model.specs.State.{State}
-use Rattle.coap_model.specs.History.{Entry, Act, no_item, admits, moves, serves, Deed, told_by, Place, IsPlaceOf}
+use Rattle.coap_model.specs.History.{Observation, Act, no_item, admits, moves, serves, Action, told_by, Position, IsPositionOf}
 use Rattle.coap_model.specs.Schedules.{next_send, oldest, sends_by, sends_for}
 use Rattle.coap_model.specs.Due.{IsDueAt, to_send, to_repeat, to_end, to_serve, to_serve_again}
 use Rattle.coap_model.specs.Carries.{AreSchedules, Carries}
@@ -14,26 +14,26 @@ use Rattle.coap_model.specs.Ranges.{AreInRange, IsInRange}
 use Rattle.coap_model.specs.Ticks.{next_due}
 use Rattle.coap_model.proofs.Acting.{next-is}
 
--- the moment of each place is within the range
-at-place : (deeds : List Deed) (p : Place) → AreInRange (told_by deeds) → IsPlaceOf deeds p → p.deed.entry.now ≤ 2 ^ 62
-at-place [] p r at = absurd at
-at-place (d ∷ past) p r at =
+-- the moment of each position is within the range
+at-position : (actions : List Action) (p : Position) → AreInRange (told_by actions) → IsPositionOf actions p → p.action.observation.now ≤ 2 ^ 62
+at-position [] p r at = absurd at
+at-position (d ∷ past) p r at =
     ⊎_elim
-    (λ (same : record { before = past; deed = d } ≡ p). let now = ap (λ (q : Place). q.deed.entry.now) same in omega (arith, now, r.0.0))
-    (λ (there : IsPlaceOf past p). at-place past p r.1 there)
+    (λ (same : record { before = past; action = d } ≡ p). let now = ap (λ (q : Position). q.action.observation.now) same in omega (arith, now, r.0.0))
+    (λ (there : IsPositionOf past p). at-position past p r.1 there)
     at
 
 -- the transmissions for an act are within the ranges
-sends-in : (act : Act) (deeds : List Deed) → AreInRange (told_by deeds) → AreInRange (sends_by act deeds)
+sends-in : (act : Act) (actions : List Action) → AreInRange (told_by actions) → AreInRange (sends_by act actions)
 sends-in act [] r = tt
-sends-in act (d ∷ deeds) r = go (sends_for act d) (sends-in act deeds r.1)
+sends-in act (d ∷ actions) r = go (sends_for act d) (sends-in act actions r.1)
   where
-    go : (b : Bool) → AreInRange (sends_by act deeds) → AreInRange (told_by (cond b (d ∷ filter (sends_for act) deeds) (filter (sends_for act) deeds)))
+    go : (b : Bool) → AreInRange (sends_by act actions) → AreInRange (told_by (cond b (d ∷ filter (sends_for act) actions) (filter (sends_for act) actions)))
     go true rest = (r.0, rest)
     go false rest = rest
 
 -- so is the draw of the first transmission
-oldest-in : (e : Entry) (es : List Entry) → IsInRange e → AreInRange es → (oldest e es).draw ≤ 1000
+oldest-in : (e : Observation) (es : List Observation) → IsInRange e → AreInRange es → (oldest e es).draw ≤ 1000
 oldest-in e [] i r = i.1
 oldest-in e (before ∷ es) i r = oldest-in before es r.0 r.1
 
@@ -47,7 +47,7 @@ doubled (suc (suc (suc (suc zero)))) le = omega arith
 doubled (suc (suc (suc (suc (suc n))))) le = absurd (omega (arith, le))
 
 -- the next transmission is due within ten minutes after the greatest moment
-next-in : (es : List Entry) → length es ≤ 5 → AreInRange es → next_send es ≤ 2 ^ 62 + 600000
+next-in : (es : List Observation) → length es ≤ 5 → AreInRange es → next_send es ≤ 2 ^ 62 + 600000
 next-in [] few r = omega arith
 next-in (e ∷ es) few r =
     let draw = oldest-in e es r.0 r.1 in
@@ -56,17 +56,17 @@ next-in (e ∷ es) few r =
     omega (arith, timeout, r.0.0)
 
 -- everything that is due is due by then
-due-in : (setting : Setting) (deeds : List Deed) → AreSchedules deeds → AreInRange (told_by deeds) → setting.limits.exchange_ms ≤ 600000 → (act : Act) (at : ℕ) → IsDueAt setting deeds act at → at ≤ 2 ^ 62 + 600000
-due-in setting deeds schedules r most no_item at due = absurd due
-due-in setting deeds schedules r most (admits v x) at due = absurd due
-due-in setting deeds schedules r most (moves x) at (to_send due) = omega (arith, due.at_is, at-place deeds due.opened.opening r due.opened.was_opened)
-due-in setting deeds schedules r most (moves x) at (to_repeat due) = omega (arith, due.at_is, next-in (sends_by (moves x) deeds) (schedules (moves x)).few (sends-in (moves x) deeds r))
-due-in setting deeds schedules r most (moves x) at (to_end due) = omega (arith, due.at_is, most, at-place deeds due.opened.opening r due.opened.was_opened)
-due-in setting deeds schedules r most (serves v) at (to_serve due) = omega (arith, due.at_is, at-place deeds due.ending r due.was_ended)
-due-in setting deeds schedules r most (serves v) at (to_serve_again due) = omega (arith, due.at_is, next-in (sends_by (serves v) deeds) (schedules (serves v)).few (sends-in (serves v) deeds r))
+due-in : (setting : Setting) (actions : List Action) → AreSchedules actions → AreInRange (told_by actions) → setting.limits.exchange_ms ≤ 600000 → (act : Act) (at : ℕ) → IsDueAt setting actions act at → at ≤ 2 ^ 62 + 600000
+due-in setting actions schedules r most no_item at due = absurd due
+due-in setting actions schedules r most (admits v x) at due = absurd due
+due-in setting actions schedules r most (moves x) at (to_send due) = omega (arith, due.at_is, at-position actions due.opened.opening r due.opened.was_opened)
+due-in setting actions schedules r most (moves x) at (to_repeat due) = omega (arith, due.at_is, next-in (sends_by (moves x) actions) (schedules (moves x)).few (sends-in (moves x) actions r))
+due-in setting actions schedules r most (moves x) at (to_end due) = omega (arith, due.at_is, most, at-position actions due.opened.opening r due.opened.was_opened)
+due-in setting actions schedules r most (serves v) at (to_serve due) = omega (arith, due.at_is, at-position actions due.ending r due.was_ended)
+due-in setting actions schedules r most (serves v) at (to_serve_again due) = omega (arith, due.at_is, next-in (sends_by (serves v) actions) (schedules (serves v)).few (sends-in (serves v) actions r))
 
 -- so is the next moment at which something is due
-pub next-bounded : (w : State) (history : List Entry) (at : ℕ) → Carries history w → AreInRange history → AreLimits w.setting.limits → next_due w ≡ Some at → at ≤ 2 ^ 62 + 600000
+pub next-bounded : (w : State) (history : List Observation) (at : ℕ) → Carries history w → AreInRange history → AreLimits w.setting.limits → next_due w ≡ Some at → at ≤ 2 ^ 62 + 600000
 next-bounded w history at c r limits next =
-    let is = next-is w c.deeds c.bears at next in
-    due-in w.setting c.deeds c.bears.schedules (subst AreInRange (sym c.told) r) (limits ExchangeMs).1 is.act at is.due
+    let is = next-is w c.actions c.bears at next in
+    due-in w.setting c.actions c.bears.schedules (subst AreInRange (sym c.told) r) (limits ExchangeMs).1 is.act at is.due

@@ -26,12 +26,12 @@ use Rattle.coap_forward.specs.Answers.{answer_of}
 use Rattle.coap_model.specs.Examples.{origin, client, get_t, get_temp}
 use Rattle.coap_model.specs.LimitExamples as limited
 use Rattle.coap_model.specs.OptionExamples.{key_of_temp}
-use Rattle.coap_model.specs.History.{Deed, Place, IsPlaceOf, Never, Sends, Asks, Gets, in_acknowledgement}
+use Rattle.coap_model.specs.History.{Action, Position, IsPositionOf, Never, Sends, Asks, Gets, in_acknowledgement}
 use Rattle.coap_model.specs.Forged as forged
 use Rattle.coap_model.specs.Forged.{setting, opened, asked}
 use Rattle.coap_model.specs.Cached.{IsCacheOf, empty, kept, too_large, hit, otherwise}
 use Rattle.coap_model.specs.CacheExamples.{content_for, get_for, answered, kept_past, hits, hit_past, opens_again, opened_past, asks_again, asked_past, first_entry, second_entry}
-use Rattle.coap_model.proofs.Places.{here, same_moves}
+use Rattle.coap_model.proofs.Positions.{here, same_moves}
 
 -- numbers below 256 are bytes
 pub are-bytes : (bytes : List ℕ) → list_all (λ b. nat_lt b 256) bytes ≡ true → IsBytes bytes
@@ -41,8 +41,8 @@ are-bytes (b ∷ bytes) all (suc i) = are-bytes bytes (and_parts (nat_lt b 256) 
 
 -- ---- the requests that were sent
 
--- an entry without a sent request sends nothing
-pub unsent : (x : ℕ) (before : List Deed) (d : Deed) → d.entry.report.outcome ≢ SentRequest → ¬ Sends 0 x (here before d)
+-- an observation without a sent request sends nothing
+pub unsent : (x : ℕ) (before : List Action) (d : Action) → d.observation.report.outcome ≢ SentRequest → ¬ Sends 0 x (here before d)
 unsent x before d not s = not s.outcome
 
 -- the first datagram encodes the request of the first exchange
@@ -92,7 +92,7 @@ unfolding read_message body_at options_within option_at extended token_of
 second_got = read_is (limited.got 3 2) (content_for 3 2) (are-bytes (limited.got 3 2) refl) refl
 
 -- so the answer to a request arrives there, whether it is stored or not
-abbrev pub content_gets : (past : List Deed) (now id x : ℕ) (storing : Storing) (asking : Place) → IsPlaceOf past asking → (asks : Asks 0 x asking) → asks.sends.to ≡ origin → asks.sends.message ≡ get_for id x → IsBytes (limited.got id x) → Spells (limited.got id x) (content_for id x)
+abbrev pub content_gets : (past : List Action) (now id x : ℕ) (storing : Storing) (asking : Position) → IsPositionOf past asking → (asks : Asks 0 x asking) → asks.sends.to ≡ origin → asks.sends.message ≡ get_for id x → IsBytes (limited.got id x) → Spells (limited.got id x) (content_for id x)
     → length (limited.got id x) ≤ 1500 → Gets setting x (here past (answered now id x (Answered storing)))
 content_gets past now id x storing asking was_asked asks to message bytes spells short = record {
   act = refl;

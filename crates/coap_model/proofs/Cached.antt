@@ -17,12 +17,12 @@ use Rattle.coap_model.specs.declared.report.Outcome.TheVariants.{Answered}
 use Rattle.coap_model.specs.declared.report.Storing.TheVariants.{Kept}
 use Rattle.coap_model.specs.Setting.{Setting}
 use Rattle.coap_model.specs.Keys.{request_key}
-use Rattle.coap_model.specs.History.{Deed, Place, IsPlaceOf, Opens, Brings, Gets}
+use Rattle.coap_model.specs.History.{Action, Position, IsPositionOf, Opens, Brings, Gets}
 use Rattle.coap_model.specs.Changed.{key_asked}
 use Rattle.coap_model.specs.Cached.{Cached, cached_key, cached_size, cached_with, cached_here, copied, entry_got, leaves, IsCacheOf, empty, kept, too_large, hit, otherwise, WasCacheAt}
 use Rattle.coap_model.proofs.Changing.{one-getting}
 use Rattle.coap_model.proofs.Lists.{find-holds, All-filter}
-use Rattle.coap_model.proofs.Places.{here, Opens-unique, one-brought}
+use Rattle.coap_model.proofs.Positions.{here, Opens-unique, one-brought}
 
 -- ---- the cache is unique
 
@@ -30,7 +30,7 @@ use Rattle.coap_model.proofs.Places.{here, Opens-unique, one-brought}
 pub clash : (o p : Outcome) → o ≡ p → leaves p ≡ false → leaves o ≡ true → ⊥
 clash o p same no_leave leaving = let e : true ≡ false = sym leaving ∙ ap leaves same ∙ no_leave in cc
 
--- an entry doesn't have two different outcomes
+-- an observation doesn't have two different outcomes
 pub apart : (o p q : Outcome) → p ≢ q → o ≡ p → o ≡ q → ⊥
 apart o p q differ is also = differ (sym is ∙ also)
 
@@ -39,26 +39,26 @@ same_Ok : (a b : Target) → ◌≡◌ {A = Result Target TargetError} (Ok a) (O
 same_Ok a b e = cc
 
 -- the request of an event has only one key
-one-key : (setting : Setting) (d : Deed) (a b : Endpoint) (r s : Message) (t u : Target) → Brings setting.limits.datagram a r d.entry.event → Brings setting.limits.datagram b s d.entry.event → request_target setting.routes r ≡ Ok t → request_target setting.routes s ≡ Ok u → request_key t r ≡ request_key u s
+one-key : (setting : Setting) (d : Action) (a b : Endpoint) (r s : Message) (t u : Target) → Brings setting.limits.datagram a r d.observation.event → Brings setting.limits.datagram b s d.observation.event → request_target setting.routes r ≡ Ok t → request_target setting.routes s ≡ Ok u → request_key t r ≡ request_key u s
 one-key setting d a b r s t u p q e f =
     let request = (one-brought p q).1 in
     let target = same_Ok t u (sym e ∙ ap (request_target setting.routes) request ∙ f) in
     rw (request, target) refl
 
 -- so the entry for an answer is unique
-pub same-entry : {setting : Setting} {x y : ℕ} {past : List Deed} {d : Deed} (g : Gets setting x (here past d)) (h : Gets setting y (here past d)) (a b : List Cached) → a ≡ b → entry_got a g ≡ entry_got b h
+pub same-entry : {setting : Setting} {x y : ℕ} {past : List Action} {d : Action} (g : Gets setting x (here past d)) (h : Gets setting y (here past d)) (a b : List Cached) → a ≡ b → entry_got a g ≡ entry_got b h
 same-entry {setting = setting} {past = past} {d = d} g h a b former =
     let one = one-getting g h in
-    λ i. cached_here (one.key i) (answer_of setting.limits.datagram (is_get (one.asked i).code) (copied (tags_of (one.asked i)) (one.key i) (former i)) d.entry.now (one.message i)).message (one.asking i) past d
+    λ i. cached_here (one.key i) (answer_of setting.limits.datagram (is_get (one.asked i).code) (copied (tags_of (one.asked i)) (one.key i) (former i)) d.observation.now (one.message i)).message (one.asking i) past d
 
 -- a history has at most one cache
-pub cache-unique : (setting : Setting) (history : List Deed) (a b : List Cached) → IsCacheOf setting history a → IsCacheOf setting history b → a ≡ b
+pub cache-unique : (setting : Setting) (history : List Action) (a b : List Cached) → IsCacheOf setting history a → IsCacheOf setting history b → a ≡ b
 cache-unique setting _ _ _ empty empty = refl
 cache-unique setting _ _ _ (kept {past = past} {cached = xs} {former = old} d x g opening is was opens at c) (kept {cached = ys} {former = older} _ y h other also before begins from e) =
     let one = one-getting g h in
-    let there = subst (λ (p : Place). IsPlaceOf p.before opening) one.asking was in
-    let place = Opens-unique h.meets.asking.before opening other y there before (subst (λ (n : ℕ). Opens n opening) one.exchange opens) begins in
-    let former : old ≡ older = cache-unique setting opening.before old older at (subst (λ (p : Place). IsCacheOf setting p.before older) (sym place) from) in
+    let there = subst (λ (p : Position). IsPositionOf p.before opening) one.asking was in
+    let position = Opens-unique h.meets.asking.before opening other y there before (subst (λ (n : ℕ). Opens n opening) one.exchange opens) begins in
+    let former : old ≡ older = cache-unique setting opening.before old older at (subst (λ (p : Position). IsCacheOf setting p.before older) (sym position) from) in
     let rest = cache-unique setting past xs ys c e in
     λ i. cached_with setting (same-entry g h old older former i) (rest i)
 cache-unique setting _ _ _ (kept d x g opening is was opens at c) (too_large _ y h also e) = absurd (apart _ _ _ (λ f. cc) is also)
@@ -83,18 +83,18 @@ cache-unique setting _ _ _ (otherwise d leaving c) (too_large _ y h also e) = ab
 cache-unique setting _ _ _ (otherwise d leaving c) (hit _ client request target entry also came to found e) = absurd (clash _ _ also refl leaving)
 cache-unique setting _ _ _ (otherwise {past = past} {cached = xs} d leaving c) (otherwise {cached = ys} _ also e) = cache-unique setting past xs ys c e
 
--- a history that has a cache had one before its newest deed
-pub cache-before : {setting : Setting} {d : Deed} {past : List Deed} {cached : List Cached} → IsCacheOf setting (d ∷ past) cached → (former : List Cached) × IsCacheOf setting past former
+-- a history that has a cache had one before its newest action
+pub cache-before : {setting : Setting} {d : Action} {past : List Action} {cached : List Cached} → IsCacheOf setting (d ∷ past) cached → (former : List Cached) × IsCacheOf setting past former
 cache-before (kept d x gets opening is was opens at c) = (_, c)
 cache-before (too_large d x gets is c) = (_, c)
 cache-before (hit d client request target entry is came to found c) = (_, c)
 cache-before (otherwise d leaving c) = (_, c)
 
 -- the cache when an exchange was opened is unique
-pub former-once : {setting : Setting} {past : List Deed} {x : ℕ} {a b : List Cached} → WasCacheAt setting past x a → WasCacheAt setting past x b → a ≡ b
+pub former-once : {setting : Setting} {past : List Action} {x : ℕ} {a b : List Cached} → WasCacheAt setting past x a → WasCacheAt setting past x b → a ≡ b
 former-once {setting} {past} {x} {a} {b} p q =
-    let place = Opens-unique past p.opening q.opening x p.was_opened q.was_opened p.opens q.opens in
-    cache-unique setting q.opening.before a b (subst (λ (r : Place). IsCacheOf setting r.before a) place p.is_cache) q.is_cache
+    let position = Opens-unique past p.opening q.opening x p.was_opened q.was_opened p.opens q.opens in
+    cache-unique setting q.opening.before a b (subst (λ (r : Position). IsCacheOf setting r.before a) position p.is_cache) q.is_cache
 
 -- ---- what holds of each entry
 
@@ -117,10 +117,10 @@ All-used P k cs c found all = rw found ((find-holds P (has_key cached_key k) cs 
 
 -- If a property holds of the entry for each answer, provided that it held of the entries when the
 -- exchange was opened, and keeps holding, it holds of each entry of the cache.
-pub cache-holds : (setting : Setting) (P : List Deed → Cached → Type 0)
-    → ((past : List Deed) (d : Deed) (c : Cached) → P past c → P (d ∷ past) c)
-    → ((past : List Deed) (d : Deed) (x : ℕ) (gets : Gets setting x (here past d)) (former : List Cached) (was : WasCacheAt setting gets.meets.asking.before x former) → d.entry.report.outcome ≡ Answered Kept → AllByRecursion (P was.opening.before) former → P (d ∷ past) (entry_got former gets))
-    → (history : List Deed) (cached : List Cached) → IsCacheOf setting history cached → AllByRecursion (P history) cached
+pub cache-holds : (setting : Setting) (P : List Action → Cached → Type 0)
+    → ((past : List Action) (d : Action) (c : Cached) → P past c → P (d ∷ past) c)
+    → ((past : List Action) (d : Action) (x : ℕ) (gets : Gets setting x (here past d)) (former : List Cached) (was : WasCacheAt setting gets.meets.asking.before x former) → d.observation.report.outcome ≡ Answered Kept → AllByRecursion (P was.opening.before) former → P (d ∷ past) (entry_got former gets))
+    → (history : List Action) (cached : List Cached) → IsCacheOf setting history cached → AllByRecursion (P history) cached
 cache-holds setting P on new _ _ empty = tt
 cache-holds setting P on new _ _ (kept {past = past} {cached = cs} {former = former} d x gets opening is was opens at c) =
     let rest = All-weaken (P past) (P (d ∷ past)) cs (on past d) (cache-holds setting P on new past cs c) in

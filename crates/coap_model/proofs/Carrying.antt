@@ -1,5 +1,5 @@
 -- Each step of a proxy that carries a history leaves one that carries the history with the step's
--- entry in front.
+-- observation in front.
 use Rattle.std.proofs.Common.{◌≡◌, ℕ, Bool, true, false, cond, eqb, ◌+◌, ◌≤◌, List, [], ◌∷◌, refl, ap, arith}
 use Rattle.std.specs.Prelude.{◌/◌}
 use Rattle.coap_target.specs.Routes.{AreRoutes}
@@ -7,12 +7,12 @@ use Rattle.coap_model.specs.Setting.{Setting}
 use Rattle.coap_model.specs.Events.{Event, IsEvent}
 use Rattle.coap_model.specs.State.{State, Step, new_state}
 use Rattle.coap_model.specs.Step.{step_of}
-use Rattle.coap_model.specs.History.{Entry, Act, no_item, admits, moves, serves, Deed, opened_in, admitted_in}
-use Rattle.coap_model.specs.Runs.{entry_of}
+use Rattle.coap_model.specs.History.{Observation, Act, no_item, admits, moves, serves, Action, opened_in, admitted_in}
+use Rattle.coap_model.specs.Runs.{observation_of}
 use Rattle.coap_model.specs.Carries.{Ids, Bears, Carries}
 use Rattle.coap_model.proofs.Rules.{Rule, refusing, lacking, overloading, hitting, joining, opening, repeating, dropping, answering, answering_con, acknowledging, closing, rejecting, ignoring, forwarding, resending, giving_up, delivering, redelivering, abandoning, idling, stuck, rule_of}
 use Rattle.coap_model.proofs.Replying.{keeps_refusing, keeps_overloading, keeps_lacking, keeps_repeating, keeps_dropping, keeps_rejecting, keeps_ignoring}
-use Rattle.coap_model.proofs.Places.{doing}
+use Rattle.coap_model.proofs.Positions.{doing}
 use Rattle.coap_model.proofs.Idling.{keeps_idling, not-stuck}
 use Rattle.coap_model.proofs.Repeating.{keeps_resending, keeps_giving_up}
 use Rattle.coap_model.proofs.Opening.{keeps_joining, keeps_opening}
@@ -23,13 +23,13 @@ use Rattle.coap_model.proofs.Answering.{keeps_answering, keeps_answering_con, ke
 use Rattle.coap_model.proofs.Delivering.{keeps_delivering}
 use Rattle.coap_model.proofs.Clients.{keeps_closing, keeps_redelivering, keeps_abandoning}
 
--- the tables after an entry agree with its deed in front of the deeds before it
-pub record IsKept (history : List Deed) (e : Entry) (w : State) : Type 0 where
+-- the tables after an observation agree with its action in front of the actions before it
+pub record IsKept (history : List Action) (e : Observation) (w : State) : Type 0 where
   pub act : Act
   pub bears : Bears (doing act e ∷ history) w
 
 -- each case of a step preserves what is carried
-keeps_rule : {w : State} {now draw : ℕ} {grown : Bool} {event : Event} {s : Step} (history : List Deed) → Bears history w → w.last ≤ now → Rule w now draw grown event s → IsKept history (entry_of now draw event s) s.state
+keeps_rule : {w : State} {now draw : ℕ} {grown : Bool} {event : Event} {s : Step} (history : List Action) → Bears history w → w.last ≤ now → Rule w now draw grown event s → IsKept history (observation_of now draw event s) s.state
 keeps_rule {w = w} {now = now} {draw = draw} history c onward (refusing client bytes m code first denied free) = record { act = no_item; bears = keeps_refusing w history c now draw client bytes m onward first code denied free }
 keeps_rule {w = w} {now = now} {draw = draw} history c onward (lacking client bytes m first free) = record { act = no_item; bears = keeps_lacking w history c now draw client bytes m onward first free }
 keeps_rule {w = w} {now = now} {draw = draw} history c onward (overloading client bytes m key first verdict lacks free) = record { act = no_item; bears = keeps_overloading w history c now draw client bytes m onward first key verdict lacks free }
@@ -53,16 +53,16 @@ keeps_rule {w = w} {now = now} {draw = draw} history c onward (abandoning at num
 keeps_rule {w = w} {now = now} {draw = draw} history c onward (idling nothing) = record { act = no_item; bears = keeps_idling w history c now draw onward nothing }
 keeps_rule {w = w} {now = now} {draw = draw} history c onward (stuck s) = not-stuck w history c now s
 
--- a step continues the deeds before it
-pub keeps_deeds : (w : State) (history : List Deed) (now draw : ℕ) (grown : Bool) (event : Event) → Bears history w → w.last ≤ now → IsEvent event → IsKept history (entry_of now draw event (step_of w now draw grown event)) (step_of w now draw grown event).state
-keeps_deeds w history now draw grown event c onward fits = keeps_rule history c onward (rule_of w now draw grown event fits)
+-- a step continues the actions before it
+pub keeps_actions : (w : State) (history : List Action) (now draw : ℕ) (grown : Bool) (event : Event) → Bears history w → w.last ≤ now → IsEvent event → IsKept history (observation_of now draw event (step_of w now draw grown event)) (step_of w now draw grown event).state
+keeps_actions w history now draw grown event c onward fits = keeps_rule history c onward (rule_of w now draw grown event fits)
 
 -- so each step preserves what is carried
-pub keeps_step : (w : State) (history : List Entry) (now draw : ℕ) (grown : Bool) (event : Event) → Carries history w → w.last ≤ now → IsEvent event → Carries (entry_of now draw event (step_of w now draw grown event) ∷ history) (step_of w now draw grown event).state
+pub keeps_step : (w : State) (history : List Observation) (now draw : ℕ) (grown : Bool) (event : Event) → Carries history w → w.last ≤ now → IsEvent event → Carries (observation_of now draw event (step_of w now draw grown event) ∷ history) (step_of w now draw grown event).state
 keeps_step w history now draw grown event c onward fits =
-    let e = entry_of now draw event (step_of w now draw grown event) in
-    let k = keeps_deeds w c.deeds now draw grown event c.bears onward fits in
-    record { deeds = doing k.act e ∷ c.deeds; told = ap (λ (past : List Entry). e ∷ past) c.told; bears = k.bears }
+    let e = observation_of now draw event (step_of w now draw grown event) in
+    let k = keeps_actions w c.actions now draw grown event c.bears onward fits in
+    record { actions = doing k.act e ∷ c.actions; told = ap (λ (past : List Observation). e ∷ past) c.told; bears = k.bears }
 
 -- a new proxy has given out no ids
 new_ids-are : (setting : Setting) → Ids [] (new_state setting)
@@ -76,7 +76,7 @@ new_ids-are setting = record { following = omega arith; given = λ now later. no
 pub starts : (setting : Setting) → AreRoutes setting.routes → Carries [] (new_state setting)
 starts setting are =
     record {
-      deeds = [];
+      actions = [];
       told = refl;
       bears = record {
         routes = are;

@@ -15,15 +15,15 @@ use Rattle.coap_endpoint.specs.declared.target.Target.{Target}
 use Rattle.coap_forward.specs.Changes.{is_change, created_by, changed_by, concerns}
 use Rattle.coap_model.specs.Setting.{Setting}
 use Rattle.coap_model.specs.Keys.{key_sent}
-use Rattle.coap_model.specs.History.{Deed, Place, index, Never, takes, Sends, Gets}
+use Rattle.coap_model.specs.History.{Action, Position, index, Never, takes, Sends, Gets}
 use Rattle.coap_model.specs.Changed.{asked_of, key_asked, to_get, Changes, ChangesAfter, Unchanged, WasChanged, IsTold}
 use Rattle.coap_message.proofs.WholeMessages.{one_message}
-use Rattle.coap_model.proofs.Places.{here, index_below, same_moves, first-once, one-brought, never-from, Never-at}
+use Rattle.coap_model.proofs.Positions.{here, index_below, same_moves, first-once, one-brought, never-from, Never-at}
 
--- ---- the answer at a place is unique
+-- ---- the answer at a position is unique
 
--- two accounts of the answer of an exchange at a place agree
-pub record AreOneGetting {setting : Setting} {x y : ℕ} {p : Place} (g : Gets setting x p) (h : Gets setting y p) : Type 0 where
+-- two accounts of the answer of an exchange at a position agree
+pub record AreOneGetting {setting : Setting} {x y : ℕ} {p : Position} (g : Gets setting x p) (h : Gets setting y p) : Type 0 where
   pub exchange : x ≡ y
   pub asking : g.meets.asking ≡ h.meets.asking
   pub asked : asked_of g ≡ asked_of h
@@ -31,11 +31,11 @@ pub record AreOneGetting {setting : Setting} {x y : ℕ} {p : Place} (g : Gets s
   pub message : g.meets.message ≡ h.meets.message
 
 -- any two accounts agree
-pub one-getting : {setting : Setting} {x y : ℕ} {p : Place} (g : Gets setting x p) (h : Gets setting y p) → AreOneGetting g h
+pub one-getting : {setting : Setting} {x y : ℕ} {p : Position} (g : Gets setting x p) (h : Gets setting y p) → AreOneGetting g h
 one-getting {setting} {x} {y} {p} g h =
     record {
       exchange = number;
-      asking = place;
+      asking = position;
       asked = one;
       key = λ i. key_sent (to i) (one i);
       message = (one-brought g.meets.brings h.meets.brings).1;
@@ -44,38 +44,38 @@ one-getting {setting} {x} {y} {p} g h =
     number : x ≡ y
     number = same_moves x y (sym g.act ∙ h.act)
 
-    place : g.meets.asking ≡ h.meets.asking
-    place =
+    position : g.meets.asking ≡ h.meets.asking
+    position =
         let first : Never (Sends setting.salt y) g.meets.asking.before = subst (λ (n : ℕ). Never (Sends setting.salt n) g.meets.asking.before) number g.meets.asks.first in
         first-once (Sends setting.salt y) p.before g.meets.asking h.meets.asking g.meets.was_asked h.meets.was_asked (subst (λ (n : ℕ). Sends setting.salt n g.meets.asking) number g.meets.asks.sends) h.meets.asks.sends first h.meets.asks.first
 
     to : g.meets.asks.sends.to ≡ h.meets.asks.sends.to
-    to = let sent = sym g.meets.asks.sends.sent ∙ ap (λ (q : Place). q.deed.entry.report.send) place ∙ h.meets.asks.sends.sent in cc
+    to = let sent = sym g.meets.asks.sends.sent ∙ ap (λ (q : Position). q.action.observation.report.send) position ∙ h.meets.asks.sends.sent in cc
 
     one : g.meets.asks.sends.message ≡ h.meets.asks.sends.message
-    one = one_message h.meets.asking.deed.entry.bytes g.meets.asks.sends.message h.meets.asks.sends.message (subst (λ (q : Place). Spells q.deed.entry.bytes g.meets.asks.sends.message) place g.meets.asks.sends.spells) h.meets.asks.sends.spells
+    one = one_message h.meets.asking.action.observation.bytes g.meets.asks.sends.message h.meets.asks.sends.message (subst (λ (q : Position). Spells q.action.observation.bytes g.meets.asks.sends.message) position g.meets.asks.sends.spells) h.meets.asks.sends.spells
 
--- ---- entries that accept no answer
+-- ---- observations that accept no answer
 
--- an entry that accepts no answer changes nothing
-pub quiet-unchanged : {setting : Setting} {history : List Deed} {d : Deed} {target : Target} → takes d.entry.report.outcome ≡ false → Changes setting target (here history d) → ⊥
+-- an observation that accepts no answer changes nothing
+pub quiet-unchanged : {setting : Setting} {history : List Action} {d : Action} {target : Target} → takes d.observation.report.outcome ≡ false → Changes setting target (here history d) → ⊥
 quiet-unchanged none c = let e = sym none ∙ c.gets.outcome in absurd cc
 
 -- so what a mark says stays right
-pub told-stays : (told : Bool) (setting : Setting) (target : Target) (since : Place) (history : List Deed) (d : Deed) → takes d.entry.report.outcome ≡ false → IsTold told setting target since history → IsTold told setting target since (d ∷ history)
+pub told-stays : (told : Bool) (setting : Setting) (target : Target) (since : Position) (history : List Action) (d : Action) → takes d.observation.report.outcome ≡ false → IsTold told setting target since history → IsTold told setting target since (d ∷ history)
 told-stays false setting target since history d none t = ((λ c. quiet-unchanged none c.0), t)
-told-stays true setting target since history d none t = record { place = t.place; is_there = inr t.is_there; holds = t.holds }
+told-stays true setting target since history d none t = record { position = t.position; is_there = inr t.is_there; holds = t.holds }
 
--- ---- an entry that accepts an answer
+-- ---- an observation that accepts an answer
 
 -- a mark stays right after an answer: it stays set, or is set if the answer changes the target
-pub told-on : {setting : Setting} {x : ℕ} {history : List Deed} {d : Deed} (told : Bool) (target : Target) (since : Place) (gets : Gets setting x (here history d)) → index since < index (here history d) → IsTold told setting target since history
+pub told-on : {setting : Setting} {x : ℕ} {history : List Action} {d : Action} (told : Bool) (target : Target) (since : Position) (gets : Gets setting x (here history d)) → index since < index (here history d) → IsTold told setting target since history
     → IsTold (told || concerns (changed_by (key_asked gets).target gets.meets.message) target) setting target since (d ∷ history)
 told-on {setting} {x} {history} {d} told target since gets before t = go told (concerns (changed_by (key_asked gets).target gets.meets.message) target) refl t
   where
     go : (b c : Bool) → concerns (changed_by (key_asked gets).target gets.meets.message) target ≡ c → IsTold b setting target since history → IsTold (b || c) setting target since (d ∷ history)
-    go true c is u = record { place = u.place; is_there = inr u.is_there; holds = u.holds }
-    go false true is u = record { place = here history d; is_there = inl refl; holds = (record { exchange = x; gets = gets; concerned = is }, before) }
+    go true c is u = record { position = u.position; is_there = inr u.is_there; holds = u.holds }
+    go false true is u = record { position = here history d; is_there = inl refl; holds = (record { exchange = x; gets = gets; concerned = is }, before) }
     go false false is u = ((λ h. other h.0), u)
       where
         other : Changes setting target (here history d) → ⊥
@@ -88,11 +88,11 @@ told-on {setting} {x} {history} {d} told target since gets before t = go told (c
 -- ---- a target isn't both changed and unchanged
 
 -- a target that was changed isn't unchanged
-pub told-contrary : {setting : Setting} {target : Target} (since : Place) {history : List Deed} → Unchanged setting target since history → WasChanged setting target since history → ⊥
-told-contrary {setting} {target} since {history} never was = Never-at (ChangesAfter setting target since) history was.place never was.is_there was.holds
+pub told-contrary : {setting : Setting} {target : Target} (since : Position) {history : List Action} → Unchanged setting target since history → WasChanged setting target since history → ⊥
+told-contrary {setting} {target} since {history} never was = Never-at (ChangesAfter setting target since) history was.position never was.is_there was.holds
 
--- nothing was changed after the newest place
-pub newest-unchanged : (setting : Setting) (target : Target) (history : List Deed) (d : Deed) → takes d.entry.report.outcome ≡ false → Unchanged setting target (here history d) (d ∷ history)
+-- nothing was changed after the newest position
+pub newest-unchanged : (setting : Setting) (target : Target) (history : List Action) (d : Action) → takes d.observation.report.outcome ≡ false → Unchanged setting target (here history d) (d ∷ history)
 newest-unchanged setting target history d none = ((λ c. quiet-unchanged none c.0), never-from (ChangesAfter setting target (here history d)) history (λ p at c. let lower = index_below history p at in let above = c.1 in omega (arith, lower, above)))
 
 -- ---- an answer that may be stored changes nothing

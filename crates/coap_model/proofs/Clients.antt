@@ -27,8 +27,8 @@ use Rattle.coap_model.specs.State.{State, later}
 use Rattle.coap_model.specs.Ticks.{redelivers, abandons}
 use Rattle.coap_model.specs.Empties.{closes}
 use Rattle.coap_model.specs.Step.{message_in}
-use Rattle.coap_model.specs.Runs.{entry_of}
-use Rattle.coap_model.specs.History.{moves, serves, Deed, Place, IsPlaceOf, Somewhere, opens_one, admits_one, admitted_in, takes, gives_id, Serves}
+use Rattle.coap_model.specs.Runs.{observation_of}
+use Rattle.coap_model.specs.History.{moves, serves, Action, Position, IsPositionOf, Somewhere, opens_one, admits_one, admitted_in, takes, gives_id, Serves}
 use Rattle.coap_model.specs.Standing as stages
 use Rattle.coap_model.specs.Standing.{Standing, Open, open_by, standing_in, told, service_of}
 use Rattle.coap_model.specs.Schedules.{IsSchedule, sends_by}
@@ -45,7 +45,7 @@ use Rattle.coap_model.proofs.Giving.{ids-kept}
 use Rattle.coap_model.proofs.Idling.{client-there}
 use Rattle.coap_model.proofs.Lists.{Has, All-there, All-filter, All-map}
 use Rattle.coap_model.proofs.OneMeant.{one-meant}
-use Rattle.coap_model.proofs.Places.{here, doing, admitted-later, same_serves, Never-at, admitted-number}
+use Rattle.coap_model.proofs.Positions.{here, doing, admitted-later, same_serves, Never-at, admitted-number}
 use Rattle.coap_model.proofs.Quiet.{remembered-still, room-still}
 use Rattle.coap_model.proofs.Repeating.{goes, goes-again, goes-no_more, may-not}
 use Rattle.coap_model.proofs.Rules.{IsOfAnswer, IsTurnOfTold}
@@ -53,15 +53,15 @@ use Rattle.coap_model.proofs.Seen.{gone-seen, served-seen}
 use Rattle.coap_model.proofs.Stores.{store-otherwise}
 use Rattle.coap_model.proofs.Tables.{item-Has, item-holds, Has-item, at-number, one-item, without-fewer, HasNumber-without, HasNumber-changed, changed-cases}
 
--- what must hold of an entry that acts on the client with this number
-pub record IsService (n : ℕ) (e : Deed) : Type 0 where
+-- what must hold of an observation that acts on the client with this number
+pub record IsService (n : ℕ) (e : Action) : Type 0 where
   pub act : e.act ≡ serves n
-  pub opens : opens_one e.entry.report.outcome ≡ 0
-  pub admits : admits_one e.entry.report.outcome ≡ 0
-  pub gives : gives_id e.entry ≡ 0
-  pub takes : takes e.entry.report.outcome ≡ false
-  pub leaving : leaves e.entry.report.outcome ≡ true
-  pub leaves_open : (standing : List Standing) (xs : List Open) → open_by e.entry.report.outcome e.act e.entry.event e.entry.report.send standing xs ≡ xs
+  pub opens : opens_one e.observation.report.outcome ≡ 0
+  pub admits : admits_one e.observation.report.outcome ≡ 0
+  pub gives : gives_id e.observation ≡ 0
+  pub takes : takes e.observation.report.outcome ≡ false
+  pub leaving : leaves e.observation.report.outcome ≡ true
+  pub leaves_open : (standing : List Standing) (xs : List Open) → open_by e.observation.report.outcome e.act e.observation.event e.observation.report.send standing xs ≡ xs
 
 -- what is known of the remaining clients: as many wait for each exchange as before
 pub record AreLeft (w : State) (left : List (Numbered Waiter)) : Type 0 where
@@ -72,14 +72,14 @@ pub record AreLeft (w : State) (left : List (Numbered Waiter)) : Type 0 where
   pub awaited : AllByRecursion (λ v. HasExchange v.1.state w.exchanges) left
 
 -- such a step preserves what is carried
-pub keeps_service : (w : State) (history : List Deed) (c : Bears history w) (e : Deed) (n : ℕ) (left : List (Numbered Waiter)) → IsService n e → ((k : Kind) → is_remembered e.entry.report.outcome k ≡ false) → w.last ≤ e.entry.now → Somewhere (Serves n) history
+pub keeps_service : (w : State) (history : List Action) (c : Bears history w) (e : Action) (n : ℕ) (left : List (Numbered Waiter)) → IsService n e → ((k : Kind) → is_remembered e.observation.report.outcome k ≡ false) → w.last ≤ e.observation.now → Somewhere (Serves n) history
     → AreLeft w left
     → map standing_seen left ≡ standing_in (e ∷ history)
     → ((v : ℕ) → v ≢ n → HasNumber v w.waiters → HasNumber v left)
     → AllByRecursion (IsWaiterOf w.setting (e ∷ history)) left
     → n ≤ admitted_in history
     → AreSchedules (e ∷ history)
-    → AllJustified w.setting (e ∷ history) → Bears (e ∷ history) (record (later w e.entry.now) { waiters = left })
+    → AllJustified w.setting (e ∷ history) → Bears (e ∷ history) (record (later w e.observation.now) { waiters = left })
 keeps_service w history c e n left s none onward served are seen there each number schedules past =
     let unmoved : (x : ℕ) → e.act ≢ moves x = λ x same. let g = sym s.act ∙ same in cc in
     let opens = s.opens in
@@ -101,7 +101,7 @@ keeps_service w history c e n left s none onward served are seen there each numb
         awaited = are.awaited;
         waited = All-weaken (λ x. 0 < count (waits_for x.0) w.waiters) (λ x. 0 < count (waits_for x.0) left) w.exchanges (λ x some. let same = are.waits x.0 in omega arith) c.whole.waited;
         unended = λ x was never. c.whole.unended x (opened-before history e x s.opens was) never.1;
-        unserved = λ v x was never. there v (λ same. Never-at (Serves v) history served.place never.1 served.is_there (subst (λ (k : ℕ). Serves k served.place) (sym same) served.holds)) (c.whole.unserved v x (admitted-before history e v x s.admits was) never.1);
+        unserved = λ v x was never. there v (λ same. Never-at (Serves v) history served.position never.1 served.is_there (subst (λ (k : ℕ). Serves k served.position) (sym same) served.holds)) (c.whole.unserved v x (admitted-before history e v x s.admits was) never.1);
       };
       exchanges = exchanges_frame w.setting history e w.exchanges s.takes unmoved c.exchanges;
       waiters = each;
@@ -112,7 +112,7 @@ keeps_service w history c e n left s none onward served are seen there each numb
         exchanges = c.within.exchanges;
         waiters = let h = c.within.waiters in let few = are.fewer in omega arith;
         pace = c.within.pace;
-        ids = λ now after. let room = room-still w history c e.entry.now onward now after in omega arith;
+        ids = λ now after. let room = room-still w history c e.observation.now onward now after in omega arith;
       };
       past = past;
     }
@@ -120,11 +120,11 @@ keeps_service w history c e n left s none onward served are seen there each numb
 -- ---- what was sent to a client
 
 -- the client that is due was sent its answer
-pub told-is : (w : State) (history : List Deed) (c : Bears history w) (n id : ℕ) (v : Waiter) (bytes : List ℕ) (timer : Timer) → item_at n w.waiters ≡ Some v → v.state ≡ Delivering bytes id timer → IsDelivering w.setting history (n, v) bytes id timer
+pub told-is : (w : State) (history : List Action) (c : Bears history w) (n id : ℕ) (v : Waiter) (bytes : List ℕ) (timer : Timer) → item_at n w.waiters ≡ Some v → v.state ≡ Delivering bytes id timer → IsDelivering w.setting history (n, v) bytes id timer
 told-is w history c n id v bytes timer found state = subst (IsWaiterIn w.setting history (n, v)) state (item-holds (IsWaiterOf w.setting history) n w.waiters v c.waiters found)
 
 -- it is due to be sent it again when its timer is due
-pub to-serve-again : (w : State) (history : List Deed) (c : Bears history w) (now at n id : ℕ) (v : Waiter) (bytes : List ℕ) (timer : Timer) → IsTurnOfTold w now at n v bytes id timer → IsToServeAgain history n at × (timer.due ≡ at) × (at ≤ now)
+pub to-serve-again : (w : State) (history : List Action) (c : Bears history w) (now at n id : ℕ) (v : Waiter) (bytes : List ℕ) (timer : Timer) → IsTurnOfTold w now at n v bytes id timer → IsToServeAgain history n at × (timer.due ≡ at) × (at ≤ now)
 to-serve-again w history c now at n id v bytes timer turn =
     let g = told-is w history c n id v bytes timer turn.found turn.state in
     let there = item-Has n w.waiters v turn.found in
@@ -141,9 +141,9 @@ to-serve-again w history c now at n id v bytes timer turn =
 
 -- ---- the remaining clients
 
-module _ (w : State) (history : List Deed) (c : Bears history w) (n : ℕ) where
+module _ (w : State) (history : List Action) (c : Bears history w) (n : ℕ) where
   -- the others stay as they were
-  pub others-are : (e : Deed) → e.act ≡ serves n → AllByRecursion (IsWaiterOf w.setting (e ∷ history)) (without n w.waiters)
+  pub others-are : (e : Action) → e.act ≡ serves n → AllByRecursion (IsWaiterOf w.setting (e ∷ history)) (without n w.waiters)
   others-are e act =
       All-weaken (λ u. IsWaiterOf w.setting history u × (not (eqb u.0 n) ≡ true)) (IsWaiterOf w.setting (e ∷ history)) (without n w.waiters)
       (λ u f. waiter_frame w.setting history e u (λ same. other u.0 f.1 (same_serves u.0 n (sym same ∙ act))) f.0)
@@ -192,23 +192,23 @@ module _ (w : State) (history : List Deed) (c : Bears history w) (n : ℕ) where
 -- ---- the rules
 
 -- sending a client its answer again preserves what is carried
-pub keeps_redelivering : (w : State) (history : List Deed) (c : Bears history w) (now draw at n : ℕ) (v : Waiter) (bytes : List ℕ) (id : ℕ) (timer : Timer) → w.last ≤ now → IsTurnOfTold w now at n v bytes id timer → fire_of now timer ≡ Again
-    → Bears (doing (serves n) (entry_of now draw tick (redelivers w now n v bytes)) ∷ history) (redelivers w now n v bytes).state
+pub keeps_redelivering : (w : State) (history : List Action) (c : Bears history w) (now draw at n : ℕ) (v : Waiter) (bytes : List ℕ) (id : ℕ) (timer : Timer) → w.last ≤ now → IsTurnOfTold w now at n v bytes id timer → fire_of now timer ≡ Again
+    → Bears (doing (serves n) (observation_of now draw tick (redelivers w now n v bytes)) ∷ history) (redelivers w now n v bytes).state
 keeps_redelivering w history c now draw at n v bytes id timer onward turn fire =
-    let e = doing (serves n) (entry_of now draw tick (redelivers w now n v bytes)) in
+    let e = doing (serves n) (observation_of now draw tick (redelivers w now n v bytes)) in
     let g = told-is w history c n id v bytes timer turn.found turn.state in
     let t = to-serve-again w history c now at n id v bytes timer turn in
     let due = t.1 in
     let come = t.2 in
-    let a = goes now timer (sends_by (serves n) history) v.client bytes e.entry refl g.timer_is g.bytes_are (omega (arith, due, come)) (goes-again now timer fire) refl refl (c.schedules (serves n)) in
-    let grown : sends_by (serves n) (e ∷ history) ≡ e.entry ∷ sends_by (serves n) history = sends-grow (serves n) history e (same_act-client n) refl in
+    let a = goes now timer (sends_by (serves n) history) v.client bytes e.observation refl g.timer_is g.bytes_are (omega (arith, due, come)) (goes-again now timer fire) refl refl (c.schedules (serves n)) in
+    let grown : sends_by (serves n) (e ∷ history) ≡ e.observation ∷ sends_by (serves n) history = sends-grow (serves n) history e (same_act-client n) refl in
     let there = item-Has n w.waiters v turn.found in
     let new : IsDelivering w.setting (e ∷ history) (n, fired_waiter now v) bytes id (fired now timer) = record {
       admitted = admitted-later e g.admitted;
       serving = g.serving;
       was_served = inr g.was_served;
       is_serving = g.is_serving;
-      only = λ p was s. ⊎_elim (λ (same : here history e ≡ p). absurd (let o : Resent ≡ Delivered = ap (λ (q : Place). q.deed.entry.report.outcome) same ∙ s.outcome in cc)) (λ (before : IsPlaceOf history p). g.only p before s) was;
+      only = λ p was s. ⊎_elim (λ (same : here history e ≡ p). absurd (let o : Resent ≡ Delivered = ap (λ (q : Position). q.action.observation.report.outcome) same ∙ s.outcome in cc)) (λ (before : IsPositionOf history p). g.only p before s) was;
       sent = g.sent;
       answer = g.answer;
       spells = g.spells;
@@ -224,7 +224,7 @@ keeps_redelivering w history c now draw at n v bytes id timer onward turn fire =
     keeps_service w history c e n (changed_at n (fired_waiter now) w.waiters)
     (record { act = refl; opens = refl; admits = refl; gives = refl; takes = refl; leaving = refl; leaves_open = λ standing xs. refl })
     (λ k. refl) onward
-    (record { place = g.serving; is_there = g.was_served; holds = g.is_serving })
+    (record { position = g.serving; is_there = g.was_served; holds = g.is_serving })
     (left-fired w history c n now)
     (served-seen n (fired_waiter now) w.waiters (λ u. refl) (λ u. still-so u.state) ∙ c.whole.waiters)
     (λ u other has. HasNumber-changed n u (fired_waiter now) w.waiters has)
@@ -254,16 +254,16 @@ keeps_redelivering w history c now draw at n v bytes id timer onward turn fire =
     still-so (Delivering bytes id timer) = refl
 
 -- and so does giving up a client
-pub keeps_abandoning : (w : State) (history : List Deed) (c : Bears history w) (now draw at n : ℕ) (v : Waiter) (bytes : List ℕ) (id : ℕ) (timer : Timer) → w.last ≤ now → IsTurnOfTold w now at n v bytes id timer → fire_of now timer ≡ GiveUp
-    → Bears (doing (serves n) (entry_of now draw tick (abandons w now n)) ∷ history) (abandons w now n).state
+pub keeps_abandoning : (w : State) (history : List Action) (c : Bears history w) (now draw at n : ℕ) (v : Waiter) (bytes : List ℕ) (id : ℕ) (timer : Timer) → w.last ≤ now → IsTurnOfTold w now at n v bytes id timer → fire_of now timer ≡ GiveUp
+    → Bears (doing (serves n) (observation_of now draw tick (abandons w now n)) ∷ history) (abandons w now n).state
 keeps_abandoning w history c now draw at n v bytes id timer onward turn fire =
-    let e = doing (serves n) (entry_of now draw tick (abandons w now n)) in
+    let e = doing (serves n) (observation_of now draw tick (abandons w now n)) in
     let g = told-is w history c n id v bytes timer turn.found turn.state in
     let t = to-serve-again w history c now at n id v bytes timer turn in
     keeps_service w history c e n (without n w.waiters)
     (record { act = refl; opens = refl; admits = refl; gives = refl; takes = refl; leaving = refl; leaves_open = λ standing xs. refl })
     (λ k. refl) onward
-    (record { place = g.serving; is_there = g.was_served; holds = g.is_serving })
+    (record { position = g.serving; is_there = g.was_served; holds = g.is_serving })
     (left-gone w history c n v bytes id timer turn.found turn.state)
     (gone-seen n w.waiters ∙ ap (stages.others_than n) c.whole.waiters)
     (λ u other has. HasNumber-without n u w.waiters other has)
@@ -273,10 +273,10 @@ keeps_abandoning w history c now draw at n v bytes id timer onward turn fire =
     (unacknowledged n (acting w history c now (OfWaiter at n) turn.due e refl refl refl) refl t.0 (may-not now (sends_by (serves n) history) timer g.timer_is (goes-no_more now timer fire)) (record { sent = refl; bytes = refl }), c.past)
 
 -- and so does closing a client that acknowledged its answer
-pub keeps_closing : (w : State) (history : List Deed) (c : Bears history w) (now draw : ℕ) (source : Endpoint) (bytes : List ℕ) (m : Message) (n : ℕ) → w.last ≤ now → IsBytes bytes → message_in w.setting.limits.datagram bytes ≡ Some m → IsOfAnswer w now source m n
-    → Bears (doing (serves n) (entry_of now draw (arrival source bytes) (closes w now n)) ∷ history) (closes w now n).state
+pub keeps_closing : (w : State) (history : List Action) (c : Bears history w) (now draw : ℕ) (source : Endpoint) (bytes : List ℕ) (m : Message) (n : ℕ) → w.last ≤ now → IsBytes bytes → message_in w.setting.limits.datagram bytes ≡ Some m → IsOfAnswer w now source m n
+    → Bears (doing (serves n) (observation_of now draw (arrival source bytes) (closes w now n)) ∷ history) (closes w now n).state
 keeps_closing w history c now draw source bytes m n onward fits read about =
-    let e = doing (serves n) (entry_of now draw (arrival source bytes) (closes w now n)) in
+    let e = doing (serves n) (observation_of now draw (arrival source bytes) (closes w now n)) in
     let k = closes-here w history c now source bytes m n fits read about in
     let f = at-number (λ u. IsWaiterOf w.setting history u × Has u w.waiters) n w.waiters (served-there w history c n told k.service) (All-there (IsWaiterOf w.setting history) w.waiters c.waiters) in
     let v = f.0 in
@@ -288,7 +288,7 @@ keeps_closing w history c now draw source bytes m n onward fits read about =
     keeps_service w history c e n (without n w.waiters)
     (record { act = refl; opens = refl; admits = refl; gives = refl; takes = refl; leaving = refl; leaves_open = λ standing xs. refl })
     (λ kind. refl) onward
-    (record { place = k.serving; is_there = k.was_served; holds = k.serves })
+    (record { position = k.serving; is_there = k.was_served; holds = k.serves })
     (left-gone w history c n v.1 was.bytes was.id was.timer found was.state_is)
     (gone-seen n w.waiters ∙ ap (stages.others_than n) c.whole.waiters)
     (λ u other has. HasNumber-without n u w.waiters other has)

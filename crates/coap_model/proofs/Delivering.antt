@@ -38,12 +38,12 @@ use Rattle.coap_model.specs.Setting.{Setting}
 use Rattle.coap_model.specs.State.{State, next_id}
 use Rattle.coap_model.specs.Ticks.{item_due, if_due, without_idle, given_to, tells}
 use Rattle.coap_model.specs.Schedules.{IsSchedule, sends_by}
-use Rattle.coap_model.specs.History.{Entry, serves, moves, Deed, Place, IsPlaceOf, Never, admits_one, ends, Ends, Serves, is_con_datagram}
+use Rattle.coap_model.specs.History.{Observation, serves, moves, Action, Position, IsPositionOf, Never, admits_one, ends, Ends, Serves, is_con_datagram}
 use Rattle.coap_model.specs.Standing as stages
 use Rattle.coap_model.specs.Standing.{awaited, standing_in}
 use Rattle.coap_model.specs.Due.{IsToServe}
 use Rattle.coap_model.specs.Justified.{EndsWith, verdict_on}
-use Rattle.coap_model.specs.Runs.{entry_of}
+use Rattle.coap_model.specs.Runs.{observation_of}
 use Rattle.coap_model.specs.Carries.{HasNumber, HasExchange, stage_seen, standing_seen, IsTimer, AreOfBytes, IsDone, IsState, IsExchangeOf, IsWaiting, IsDelivering, IsWaiterIn, IsWaiterOf, Bears}
 use Rattle.coap_model.proofs.Clients.{others-are}
 use Rattle.coap_model.proofs.Rules.{IsTold, done_with, to_acknowledge}
@@ -53,7 +53,7 @@ use Rattle.std.proofs.lemmas.Option.{same_Some}
 use Rattle.coap_model.proofs.Frames.{clock_frame, numbers_frame, exchanges_frame, waiter_frame, unused_frame, same_act-client, sends-grow, schedules_with, opened-before, admitted-before}
 use Rattle.coap_model.proofs.Giving.{ids-given, room-called}
 use Rattle.coap_model.proofs.Lists.{Has, Has-holds, Has-all, All-there, All-filter, All-map}
-use Rattle.coap_model.proofs.Places.{here, in-order, doing, admitted-later, same_serves, Never-at, one-opened, admitted-number}
+use Rattle.coap_model.proofs.Positions.{here, in-order, doing, admitted-later, same_serves, Never-at, one-opened, admitted-number}
 use Rattle.coap_model.proofs.Quiet.{remembered-still}
 use Rattle.coap_model.proofs.Replying.{id-same}
 use Rattle.coap_model.proofs.Seen.{gone-seen, told-seen, kept-but, kept-all, who-waits}
@@ -65,7 +65,7 @@ use Rattle.coap_model.proofs.Tables.{item-Has, item-holds, one-item, without-few
 -- ---- what is served
 
 -- what is known of a client that is served with an answer
-pub record IsServed (w : State) (history : List Deed) (number exchange : ℕ) (v : Waiter) (x : Exchange) (a : Answer) : Type 0 where
+pub record IsServed (w : State) (history : List Action) (number exchange : ℕ) (v : Waiter) (x : Exchange) (a : Answer) : Type 0 where
   pub waits : IsWaiting w.setting history (number, v) exchange
   pub is : IsExchangeOf w.setting history (exchange, x)
   pub there : Has (exchange, x) w.exchanges
@@ -73,14 +73,14 @@ pub record IsServed (w : State) (history : List Deed) (number exchange : ℕ) (v
   pub short : length v.token ≤ 8
 
 -- an exchange with an answer is done
-done-by : (setting : Setting) (history : List Deed) (x : Numbered Exchange) (a : Answer) (s : ExchangeState) → answer_in_state s ≡ Some a → IsState setting history x s → IsDone setting history x a
+done-by : (setting : Setting) (history : List Action) (x : Numbered Exchange) (a : Answer) (s : ExchangeState) → answer_in_state s ≡ Some a → IsState setting history x s → IsDone setting history x a
 done-by setting history x a Queued e state = absurd cc
 done-by setting history x a Sent e state = absurd cc
 done-by setting history x a Acked e state = absurd cc
 done-by setting history x a (Done b) e state = subst (IsDone setting history x) (same_Some b a e) state
 
 -- a client whose exchange has its answer is served with it
-pub served : (w : State) (history : List Deed) (c : Bears history w) (number exchange : ℕ) (v : Waiter) (x : Exchange) (a : Answer) → item_at number w.waiters ≡ Some v → v.state ≡ Waiting exchange → item_at exchange w.exchanges ≡ Some x → answer_at x ≡ Some a → IsServed w history number exchange v x a
+pub served : (w : State) (history : List Action) (c : Bears history w) (number exchange : ℕ) (v : Waiter) (x : Exchange) (a : Answer) → item_at number w.waiters ≡ Some v → v.state ≡ Waiting exchange → item_at exchange w.exchanges ≡ Some x → answer_at x ≡ Some a → IsServed w history number exchange v x a
 served w history c number exchange v x a found waits there answer =
     let g : IsWaiting w.setting history (number, v) exchange = subst (IsWaiterIn w.setting history (number, v)) waits (item-holds (IsWaiterOf w.setting history) number w.waiters v c.waiters found) in
     let is = item-holds (IsExchangeOf w.setting history) exchange w.exchanges x c.exchanges there in
@@ -95,11 +95,11 @@ served w history c number exchange v x a found waits there answer =
 -- ---- what is sent
 
 -- the answer of an exchange is sent as a message
-pub ending-is : (w : State) (kind : Kind) (to_get : Bool) (now id x : ℕ) (key : CacheKey) (p : Place) (a : Answer) (token : List ℕ) (tags : List (List ℕ)) → EndsWith w.setting x key p a → length token ≤ 8 → IsMessage (shown_as kind to_get now a id token tags)
+pub ending-is : (w : State) (kind : Kind) (to_get : Bool) (now id x : ℕ) (key : CacheKey) (p : Position) (a : Answer) (token : List ℕ) (tags : List (List ℕ)) → EndsWith w.setting x key p a → length token ≤ 8 → IsMessage (shown_as kind to_get now a id token tags)
 ending-is w kind to_get now id x key p a token tags ending short = shown-is w.setting.limits.datagram kind to_get now a id token tags (ending-holdable w.setting x key p a ending) short
 
 -- and is no longer than the limit of datagrams, or than 128 bytes
-pub ending-fits : (w : State) (kind : Kind) (to_get : Bool) (now id x : ℕ) (key : CacheKey) (p : Place) (a : Answer) (token : List ℕ) (tags : List (List ℕ)) (most : ℕ) → EndsWith w.setting x key p a → length token ≤ 8 → 128 ≤ most → w.setting.limits.datagram ≤ most → length (spelling (shown_as kind to_get now a id token tags)) ≤ most
+pub ending-fits : (w : State) (kind : Kind) (to_get : Bool) (now id x : ℕ) (key : CacheKey) (p : Position) (a : Answer) (token : List ℕ) (tags : List (List ℕ)) (most : ℕ) → EndsWith w.setting x key p a → length token ≤ 8 → 128 ≤ most → w.setting.limits.datagram ≤ most → length (spelling (shown_as kind to_get now a id token tags)) ≤ most
 ending-fits w kind to_get now id x key p a token tags most ending short wide long = shown-fits w.setting.limits.datagram most kind to_get now a id token tags wide long (ending-holdable w.setting x key p a ending) short
 
 -- it is sent in a Confirmable message if the client's request was Confirmable
@@ -117,7 +117,7 @@ pub record IsServing (w : State) (number exchange : ℕ) (left : List (Numbered 
   pub awaited : AllByRecursion (λ u. HasExchange u.1.state w.exchanges) left
   pub numbers : (u : ℕ) → u ≢ number → HasNumber u w.waiters → HasNumber u left
 
-module _ (w : State) (history : List Deed) (c : Bears history w) (number exchange : ℕ) (v : Waiter) (found : item_at number w.waiters ≡ Some v) (waits : v.state ≡ Waiting exchange) where
+module _ (w : State) (history : List Action) (c : Bears history w) (number exchange : ℕ) (v : Waiter) (found : item_at number w.waiters ≡ Some v) (waits : v.state ≡ Waiting exchange) where
   -- it waited before
   waited_here : one_if (passes is_waiting (item_at number w.waiters)) ≡ 1
   waited_here = ap (λ (b : Bool). one_if b) (ap (passes is_waiting) found ∙ ap is_waiting_state waits)
@@ -160,7 +160,7 @@ module _ (w : State) (history : List Deed) (c : Bears history w) (number exchang
 
 -- ---- the remaining exchanges
 
-module _ (w : State) (history : List Deed) (c : Bears history w) (number exchange : ℕ) (left : List (Numbered Waiter)) (r : IsServing w number exchange left) where
+module _ (w : State) (history : List Action) (c : Bears history w) (number exchange : ℕ) (left : List (Numbered Waiter)) (r : IsServing w number exchange left) where
   -- as many wait for another exchange as before
   others-waited : (y : Numbered Exchange) → Has y w.exchanges → y.0 ≢ exchange → 0 < count (waits_for y.0) left
   others-waited y there other =
@@ -256,14 +256,14 @@ module _ (w : State) (history : List Deed) (c : Bears history w) (number exchang
           has
 
 -- it is due to be served since the end of its exchange
-served-at : (w : State) (history : List Deed) (c : Bears history w) (at number exchange : ℕ) (v : Waiter) (x : Exchange) (a : Answer) (f : IsServed w history number exchange v x a) → item_due w ≡ Some (OfWaiter at number) → item_at number w.waiters ≡ Some v → v.state ≡ Waiting exchange → item_at exchange w.exchanges ≡ Some x → answer_at x ≡ Some a → at ≡ f.done.ending.deed.entry.now
+served-at : (w : State) (history : List Action) (c : Bears history w) (at number exchange : ℕ) (v : Waiter) (x : Exchange) (a : Answer) (f : IsServed w history number exchange v x a) → item_due w ≡ Some (OfWaiter at number) → item_at number w.waiters ≡ Some v → v.state ≡ Waiting exchange → item_at exchange w.exchanges ≡ Some x → answer_at x ≡ Some a → at ≡ f.done.ending.action.observation.now
 served-at w history c at number exchange v x a f due found waits there answer =
     let d = first_due-holds (λ u. Has u w.waiters) (due_after w.exchanges) w.waiters (at, number) (Has-all w.waiters) (client-turn w history c at number due) in
     let here : due_after w.exchanges v ≡ Some at = subst (λ (u : Waiter). due_after w.exchanges u ≡ Some at) (one-item 0 w.waiters d.0 (number, v) c.whole.waiters_rise d.1 (item-Has number w.waiters v found) d.2) d.3 in
     let moment : Some a.got ≡ Some at = sym (ap (λ (s : WaiterState). due_in s w.exchanges) waits ∙ ap moment_of (ap answer_of there ∙ answer)) ∙ here in
     sym (same_Some a.got at moment) ∙ f.done.got
 
-abbrev to-serve : (w : State) (history : List Deed) (c : Bears history w) (at number exchange : ℕ) (v : Waiter) (x : Exchange) (a : Answer) (f : IsServed w history number exchange v x a) → at ≡ f.done.ending.deed.entry.now → IsToServe w.setting history number at
+abbrev to-serve : (w : State) (history : List Action) (c : Bears history w) (at number exchange : ℕ) (v : Waiter) (x : Exchange) (a : Answer) (f : IsServed w history number exchange v x a) → at ≡ f.done.ending.action.observation.now → IsToServe w.setting history number at
 to-serve w history c at number exchange v x a f moment =
     record {
       admitted = f.waits.admitted;
@@ -275,18 +275,18 @@ to-serve w history c at number exchange v x a f moment =
     }
 
 -- the exchange ended after the client was admitted
-ended-later : (w : State) (history : List Deed) (number exchange : ℕ) (v : Waiter) (x : Exchange) (a : Answer) (f : IsServed w history number exchange v x a) → IsPlaceOf f.done.ending.before f.waits.admitted.admission
+ended-later : (w : State) (history : List Action) (number exchange : ℕ) (v : Waiter) (x : Exchange) (a : Answer) (f : IsServed w history number exchange v x a) → IsPositionOf f.done.ending.before f.waits.admitted.admission
 ended-later w history number exchange v x a f =
     ⊎_elim
-    (λ (same : f.done.ending ≡ admission). absurd (no-both f.done.ending.deed.entry.report.outcome f.done.ends.outcome (ap (λ (p : Place). admits_one p.deed.entry.report.outcome) same ∙ f.waits.admitted.admits.outcome)))
-    (λ (other : IsPlaceOf f.done.ending.before admission ⊎ IsPlaceOf admission.before f.done.ending).
+    (λ (same : f.done.ending ≡ admission). absurd (no-both f.done.ending.action.observation.report.outcome f.done.ends.outcome (ap (λ (p : Position). admits_one p.action.observation.report.outcome) same ∙ f.waits.admitted.admits.outcome)))
+    (λ (other : IsPositionOf f.done.ending.before admission ⊎ IsPositionOf admission.before f.done.ending).
     ⊎_elim
-    (λ (later : IsPlaceOf f.done.ending.before admission). later)
-    (λ (earlier : IsPlaceOf admission.before f.done.ending). absurd (Never-at (Ends exchange) admission.before f.done.ending f.waits.unended earlier f.done.ends))
+    (λ (later : IsPositionOf f.done.ending.before admission). later)
+    (λ (earlier : IsPositionOf admission.before f.done.ending). absurd (Never-at (Ends exchange) admission.before f.done.ending f.waits.unended earlier f.done.ends))
     other)
     (in-order history f.done.ending admission f.done.was_ended f.waits.admitted.was_admitted)
   where
-    admission : Place
+    admission : Position
     admission = f.waits.admitted.admission
 
     no-both : (o : Outcome) → ends o ≡ true → admits_one o ≡ 1 → ⊥
@@ -298,29 +298,29 @@ ended-later w history number exchange v x a f =
 
 -- if it is finished, the others stay as they are; if it has to acknowledge its answer, it was sent
 -- it once
-module _ (w : State) (history : List Deed) (c : Bears history w) (now draw at number exchange : ℕ) (v : Waiter) (x : Exchange) (a : Answer) (found : item_at number w.waiters ≡ Some v) (waits : v.state ≡ Waiting exchange) (f : IsServed w history number exchange v x a) where
+module _ (w : State) (history : List Action) (c : Bears history w) (now draw at number exchange : ℕ) (v : Waiter) (x : Exchange) (a : Answer) (found : item_at number w.waiters ≡ Some v) (waits : v.state ≡ Waiting exchange) (f : IsServed w history number exchange v x a) where
   abbrev reply : Message
   reply = given_to w now v x.is_get a
 
   reply-spelled : Spells (spelling reply) reply
   reply-spelled = spelled reply (ending-is w v.kind x.is_get now (next_id w) exchange x.key f.done.ending a v.token v.tags f.done.with f.short)
 
-  abbrev served_deed : List (Numbered Waiter) → Deed
-  served_deed left = doing (serves number) (entry_of now draw tick (tells w now v exchange reply left))
+  abbrev served_action : List (Numbered Waiter) → Action
+  served_action left = doing (serves number) (observation_of now draw tick (tells w now v exchange reply left))
 
-  -- the timer starts with this entry
-  sends-first : (left : List (Numbered Waiter)) → sends_by (serves number) (served_deed left ∷ history) ≡ (served_deed left).entry ∷ []
-  sends-first left = sends-grow (serves number) history (served_deed left) (same_act-client number) refl ∙ ap (λ (es : List Entry). (served_deed left).entry ∷ es) f.waits.no_sends
+  -- the timer starts with this observation
+  sends-first : (left : List (Numbered Waiter)) → sends_by (serves number) (served_action left ∷ history) ≡ (served_action left).observation ∷ []
+  sends-first left = sends-grow (serves number) history (served_action left) (same_act-client number) refl ∙ ap (λ (es : List Observation). (served_action left).observation ∷ es) f.waits.no_sends
 
-  told-here : (left : List (Numbered Waiter)) → IsDelivering w.setting (served_deed left ∷ history) (number, delivered (spelling reply) (next_id w) (started now draw) v) (spelling reply) (next_id w) (started now draw)
+  told-here : (left : List (Numbered Waiter)) → IsDelivering w.setting (served_action left ∷ history) (number, delivered (spelling reply) (next_id w) (started now draw) v) (spelling reply) (next_id w) (started now draw)
   told-here left =
-      let e = served_deed left in
+      let e = served_action left in
       record {
         admitted = admitted-later e f.waits.admitted;
         serving = here history e;
         was_served = inl refl;
         is_serving = record { act = refl; outcome = refl };
-        only = λ p was s. ⊎_elim (λ (same : here history e ≡ p). sym same) (λ (before : IsPlaceOf history p). absurd (Never-at (Serves number) history p f.waits.unserved before s)) was;
+        only = λ p was s. ⊎_elim (λ (same : here history e ≡ p). sym same) (λ (before : IsPositionOf history p). absurd (Never-at (Serves number) history p f.waits.unserved before s)) was;
         sent = refl;
         answer = reply;
         spells = reply-spelled;
@@ -336,8 +336,8 @@ module _ (w : State) (history : List Deed) (c : Bears history w) (now draw at nu
   -- what is known of the remaining clients
   record AreServed (left : List (Numbered Waiter)) : Type 0 where
     pub serving : IsServing w number exchange left
-    pub seen : map standing_seen left ≡ standing_in (served_deed left ∷ history)
-    pub each : AllByRecursion (IsWaiterOf w.setting (served_deed left ∷ history)) left
+    pub seen : map standing_seen left ≡ standing_in (served_action left ∷ history)
+    pub each : AllByRecursion (IsWaiterOf w.setting (served_action left ∷ history)) left
 
   kind-told : is_con_datagram (spelling reply) ≡ is_con v.kind
   kind-told = con-told (spelling reply) reply reply-spelled
@@ -347,12 +347,12 @@ module _ (w : State) (history : List Deed) (c : Bears history w) (now draw at nu
       record {
         serving = serving-done w history c number exchange v found waits;
         seen = gone-seen number w.waiters ∙ ap (stages.others_than number) c.whole.waiters ∙ sym (ap (λ (b : Bool). cond b (map (stages.as_told number) (standing_in history)) (stages.others_than number (standing_in history))) (kind-told ∙ other));
-        each = others-are w history c number (served_deed (without number w.waiters)) refl;
+        each = others-are w history c number (served_action (without number w.waiters)) refl;
       }
   are-served _ (to_acknowledge con) =
       let change = delivered (spelling reply) (next_id w) (started now draw) in
       let left = changed_at number change w.waiters in
-      let e = served_deed left in
+      let e = served_action left in
       let there = item-Has number w.waiters v found in
       record {
         serving = serving-told w history c number exchange v found waits (spelling reply) (next_id w) (started now draw);
@@ -369,11 +369,11 @@ module _ (w : State) (history : List Deed) (c : Bears history w) (now draw at nu
 -- ---- the rule
 
 -- serving a client preserves what is carried
-pub keeps_delivering : (w : State) (history : List Deed) (c : Bears history w) (now draw at number exchange : ℕ) (v : Waiter) (x : Exchange) (a : Answer) (left : List (Numbered Waiter)) → w.last ≤ now → if_due now (item_due w) ≡ Some (OfWaiter at number) → item_at number w.waiters ≡ Some v → v.state ≡ Waiting exchange → item_at exchange w.exchanges ≡ Some x → answer_at x ≡ Some a → IsTold w now draw number (given_to w now v x.is_get a) left
-    → Bears (doing (serves number) (entry_of now draw tick (tells w now v exchange (given_to w now v x.is_get a) left)) ∷ history) (tells w now v exchange (given_to w now v x.is_get a) left).state
+pub keeps_delivering : (w : State) (history : List Action) (c : Bears history w) (now draw at number exchange : ℕ) (v : Waiter) (x : Exchange) (a : Answer) (left : List (Numbered Waiter)) → w.last ≤ now → if_due now (item_due w) ≡ Some (OfWaiter at number) → item_at number w.waiters ≡ Some v → v.state ≡ Waiting exchange → item_at exchange w.exchanges ≡ Some x → answer_at x ≡ Some a → IsTold w now draw number (given_to w now v x.is_get a) left
+    → Bears (doing (serves number) (observation_of now draw tick (tells w now v exchange (given_to w now v x.is_get a) left)) ∷ history) (tells w now v exchange (given_to w now v x.is_get a) left).state
 keeps_delivering w history c now draw at number exchange v x a left onward due found waits there answer told =
     let s = tells w now v exchange (given_to w now v x.is_get a) left in
-    let e = doing (serves number) (entry_of now draw tick s) in
+    let e = doing (serves number) (observation_of now draw tick s) in
     let f = served w history c number exchange v x a found waits there answer in
     let g = f.waits in
     let d = f.done in

@@ -7,7 +7,7 @@ use Rattle.coap_store.specs.declared.key.CacheKey.{CacheKey}
 use Rattle.coap_store.specs.declared.answer.Answer.{Answer}
 use Rattle.coap_store.specs.Lists.{of_key}
 use Rattle.coap_model.specs.Setting.{Setting}
-use Rattle.coap_model.specs.History.{Deed, Place, Gets}
+use Rattle.coap_model.specs.History.{Action, Position, Gets}
 use Rattle.coap_model.specs.Changed.{asked_of, key_asked, to_get}
 use Rattle.coap_model.specs.Cached.{Cached, cached_key, kept_for, copied, answer_got, IsCacheOf}
 use Rattle.coap_model.specs.Justified.{EndsWith, got, given_up}
@@ -28,20 +28,20 @@ copied-holdable setting [] key former all = tt
 copied-holdable setting (tag ∷ tags) key former all = kept-holdable setting key former all
 
 -- and the answer that arrives
-got-holdable : (setting : Setting) (x : ℕ) (p : Place) (gets : Gets setting x p) (former : List Cached) → AllByRecursion (λ c. IsHoldable setting.limits.datagram c.response) former → IsHoldable setting.limits.datagram (answer_got former gets).message
+got-holdable : (setting : Setting) (x : ℕ) (p : Position) (gets : Gets setting x p) (former : List Cached) → AllByRecursion (λ c. IsHoldable setting.limits.datagram c.response) former → IsHoldable setting.limits.datagram (answer_got former gets).message
 got-holdable setting x p gets former all =
     let m = gets.meets in
-    answer-holdable setting.limits.datagram p.deed.entry.now (to_get gets) (copied (tags_of (asked_of gets)) (key_asked gets) former) m.brings.bytes m.message gets.bytes m.brings.spells (matches-response m.matches) (copied-holdable setting (tags_of (asked_of gets)) (key_asked gets) former all)
+    answer-holdable setting.limits.datagram p.action.observation.now (to_get gets) (copied (tags_of (asked_of gets)) (key_asked gets) former) m.brings.bytes m.message gets.bytes m.brings.spells (matches-response m.matches) (copied-holdable setting (tags_of (asked_of gets)) (key_asked gets) former all)
 
 -- all responses of a cache can be sent
-pub cache-holdable : (setting : Setting) (history : List Deed) (cached : List Cached) → IsCacheOf setting history cached → AllByRecursion (λ c. IsHoldable setting.limits.datagram c.response) cached
+pub cache-holdable : (setting : Setting) (history : List Action) (cached : List Cached) → IsCacheOf setting history cached → AllByRecursion (λ c. IsHoldable setting.limits.datagram c.response) cached
 cache-holdable setting history cached is =
     cache-holds setting (λ past c. IsHoldable setting.limits.datagram c.response) (λ past d c holdable. holdable)
-    (λ past d x gets former was kept old. got-holdable setting x (record { before = past; deed = d }) gets former old)
+    (λ past d x gets former was kept old. got-holdable setting x (record { before = past; action = d }) gets former old)
     history cached is
 
 -- the answer with which an exchange ends can be sent
-pub ending-holdable : (setting : Setting) (x : ℕ) (key : CacheKey) (p : Place) (a : Answer) → EndsWith setting x key p a → IsHoldable setting.limits.datagram a.message
+pub ending-holdable : (setting : Setting) (x : ℕ) (key : CacheKey) (p : Position) (a : Answer) → EndsWith setting x key p a → IsHoldable setting.limits.datagram a.message
 ending-holdable setting x key p a (got gets former was asked is) =
     subst (λ (b : Answer). IsHoldable setting.limits.datagram b.message) (sym is) (got-holdable setting x p gets former (cache-holdable setting was.opening.before former was.is_cache))
 ending-holdable setting x key p a (given_up gives is) = subst (λ (b : Answer). IsHoldable setting.limits.datagram b.message) (sym is) (timeout-is setting.limits.datagram)

@@ -9,7 +9,7 @@ use Rattle.coap_model.specs.Events.{Event, IsEvent}
 use Rattle.coap_forward.specs.Messages.{reset}
 use Rattle.coap_model.specs.State.{State, Step, repeats, next_id, records_of}
 use Rattle.coap_model.specs.Step.{step_of}
-use Rattle.coap_model.specs.History.{Entry, Deed}
+use Rattle.coap_model.specs.History.{Observation, Action}
 use Rattle.coap_model.specs.Carries.{Bears, Carries}
 use Rattle.coap_model.proofs.Spelled.{acknowledgement-short}
 use Rattle.coap_model.proofs.Rules.{Rule, refusing, lacking, overloading, hitting, joining, opening, repeating, dropping, answering, answering_con, acknowledging, closing, rejecting, ignoring, forwarding, resending, giving_up, delivering, redelivering, abandoning, idling, stuck, rule_of}
@@ -17,7 +17,7 @@ use Rattle.coap_model.proofs.Turns.{turn-exchange}
 use Rattle.coap_model.proofs.Replying.{request-came}
 use Rattle.coap_model.proofs.Delivering.{served, ending-fits}
 use Rattle.coap_model.proofs.Clients.{told-is}
-use Rattle.coap_model.proofs.TakingUp.{taken-short}
+use Rattle.coap_model.proofs.Accepting.{taken-short}
 use Rattle.coap_model.proofs.OwnReplies.{own-short, busy-short}
 use Rattle.coap_model.proofs.Hitting.{hit-fits}
 use Rattle.coap_model.proofs.Lists.{find-holds, All-filter}
@@ -39,7 +39,7 @@ reset-short id = omega (arith, spelling-length (reset id))
 -- ---- each case
 
 -- in each case of a step, its datagram fits
-rule_fits : {w : State} {now draw : ℕ} {grown : Bool} {event : Event} {s : Step} (history : List Deed) → Bears history w → AreLimits w.setting.limits → Rule w now draw grown event s → length s.bytes ≤ w.setting.limits.datagram
+rule_fits : {w : State} {now draw : ℕ} {grown : Bool} {event : Event} {s : Step} (history : List Action) → Bears history w → AreLimits w.setting.limits → Rule w now draw grown event s → length s.bytes ≤ w.setting.limits.datagram
 rule_fits {w = w} history c are (refusing client bytes m code first denied free) = let came = request-came w client bytes m first.fits first.asked in omega (arith, (are Datagram).0, own-short m code (next_id w) m.token came.brings.spells.message.token)
 rule_fits {w = w} history c are (lacking client bytes m first free) = omega arith
 rule_fits {w = w} history c are (overloading client bytes m key first verdict lacks free) = let came = request-came w client bytes m first.fits first.asked in omega (arith, (are Datagram).0, busy-short m w.setting.limits.retry_s (next_id w) m.token came.brings.spells.message.token)
@@ -82,5 +82,5 @@ rule_fits {w = w} history c are (idling nothing) = omega arith
 rule_fits {w = w} history c are (stuck s) = omega arith
 
 -- so each datagram fits
-pub datagrams_fit : (w : State) (history : List Entry) (now draw : ℕ) (grown : Bool) (event : Event) → Carries history w → AreLimits w.setting.limits → IsEvent event → length (step_of w now draw grown event).bytes ≤ w.setting.limits.datagram
-datagrams_fit w history now draw grown event c are fits = rule_fits c.deeds c.bears are (rule_of w now draw grown event fits)
+pub datagrams_fit : (w : State) (history : List Observation) (now draw : ℕ) (grown : Bool) (event : Event) → Carries history w → AreLimits w.setting.limits → IsEvent event → length (step_of w now draw grown event).bytes ≤ w.setting.limits.datagram
+datagrams_fit w history now draw grown event c are fits = rule_fits c.actions c.bears are (rule_of w now draw grown event fits)

@@ -12,11 +12,11 @@ use Rattle.coap_message.proofs.WholeMessages.{one_message, read_is}
 use Rattle.coap_option.specs.declared.numbers.TheConstants.{MAX_AGE}
 use Rattle.coap_model.specs.declared.report.Outcome.TheVariants.{Delivered}
 use Rattle.coap_model.specs.Examples.{client, content_in}
-use Rattle.coap_model.specs.History.{Brings, Place, IsPlaceOf, Serves}
+use Rattle.coap_model.specs.History.{Brings, Position, IsPositionOf, Serves}
 use Rattle.coap_model.specs.Justified.{Closes}
 use Rattle.coap_model.specs.Forged.{setting, asked, answered, opened_con, past_con, in_con, acknowledged}
 use Rattle.coap_model.proofs.CacheExamples.{are-bytes}
-use Rattle.coap_model.proofs.Places.{here, one-brought}
+use Rattle.coap_model.proofs.Positions.{here, one-brought}
 
 -- an acknowledgement with nothing but an id
 abbrev empty_of : ℕ → Message
@@ -60,12 +60,12 @@ by_its_id = record {
   id_is = refl;
 }
 
--- the client was served at no other place
-not-served : (p q : Place) → p ≡ q → (p.deed.entry.report.outcome ≡ Delivered → ⊥) → Serves 1 q → ⊥
-not-served p q same none s = none (ap (λ (r : Place). r.deed.entry.report.outcome) same ∙ s.outcome)
+-- the client was served at no other position
+not-served : (p q : Position) → p ≡ q → (p.action.observation.report.outcome ≡ Delivered → ⊥) → Serves 1 q → ⊥
+not-served p q same none s = none (ap (λ (r : Position). r.action.observation.report.outcome) same ∙ s.outcome)
 
--- the client was served at one place
-served-there : (p : Place) → IsPlaceOf (in_con ∷ past_con) p → Serves 1 p → here past_con in_con ≡ p
+-- the client was served at one position
+served-there : (p : Position) → IsPositionOf (in_con ∷ past_con) p → Serves 1 p → here past_con in_con ≡ p
 served-there p (inl e) s = e
 served-there p (inr (inl e)) s = absurd (not-served (here (asked ∷ opened_con ∷ []) answered) p e (λ same. cc) s)
 served-there p (inr (inr (inl e))) s = absurd (not-served (here (opened_con ∷ []) asked) p e (λ same. cc) s)
@@ -78,7 +78,7 @@ by_another_id c =
     let three : Brings 1500 (client 1) (empty_of 3) (acknowledged (client 1) 3) = record { bytes = 0x60 ∷ 0 ∷ 0 ∷ 3 ∷ []; came = refl; spells = third_spelled; short = omega arith } in
     let one = one-brought c.brings three in
     let there = served-there c.serving c.was_served c.serves in
-    let spelled = subst (λ (p : Place). Spells p.deed.entry.bytes c.answer) (sym there) c.spells in
+    let spelled = subst (λ (p : Position). Spells p.action.observation.bytes c.answer) (sym there) c.spells in
     let answer : c.answer ≡ told_to_client = one_message (content_in 0x40 7) c.answer told_to_client spelled told_spelled in
     let same : 3 ≡ 2 = sym (ap (λ (m : Message). m.id) one.1) ∙ c.id_is ∙ ap (λ (m : Message). m.id) answer in
     omega (arith, same)
@@ -89,7 +89,7 @@ by_another_client c =
     let two : Brings 1500 (client 2) (empty_of 2) (acknowledged (client 2) 2) = record { bytes = 0x60 ∷ 0 ∷ 0 ∷ 2 ∷ []; came = refl; spells = second_spelled; short = omega arith } in
     let one = one-brought c.brings two in
     let there = served-there c.serving c.was_served c.serves in
-    let sent : Some (client 1) ≡ Some c.to = ap (λ (p : Place). p.deed.entry.report.send) there ∙ c.sent in
+    let sent : Some (client 1) ≡ Some c.to = ap (λ (p : Position). p.action.observation.report.send) there ∙ c.sent in
     let to : client 1 ≡ client 2 = same_Some (client 1) c.to sent ∙ one.0 in
     let port = ap (λ (e : Endpoint). e.port) to in
     omega (arith, port)

@@ -37,7 +37,7 @@ use Rattle.coap_model.specs.Keys.{target_sent, key_sent}
 use Rattle.coap_model.specs.Examples.{origin, client, get_t}
 use Rattle.coap_model.specs.LimitExamples as limited
 use Rattle.coap_model.specs.OptionExamples.{key_of_temp}
-use Rattle.coap_model.specs.History.{Entry, Deed, told_by, opened_in, Place, IsRequestOf, IsPlaceOf, Never, Sends, Asks, Gets, in_acknowledgement, takes}
+use Rattle.coap_model.specs.History.{Observation, Action, told_by, opened_in, Position, IsRequestOf, IsPositionOf, Never, Sends, Asks, Gets, in_acknowledgement, takes}
 use Rattle.coap_model.specs.Forged.{setting, opened, asked}
 use Rattle.coap_model.specs.Cached.{Cached, cached_key, entry_of_cached, IsCacheOf, otherwise, IsFetched, first_hand, validated, IsObtained, WasObtained}
 use Rattle.coap_model.specs.Changed.{key_asked, Changes, IsTold, Unchanged, WasChanged}
@@ -52,7 +52,7 @@ use Rattle.coap_model.specs.Verdicts.{may_ask, verdict_of}
 use Rattle.coap_model.proofs.Cached.{cache-unique}
 use Rattle.coap_model.proofs.CacheExamples.{are-bytes, unsent, second_sent, first_asks, second_asks, content_gets, first_gets, first_got, get_read, get_spelled, cache_asked_again}
 use Rattle.coap_model.proofs.Changing.{one-getting, told-stays, told-on, told-contrary, newest-unchanged}
-use Rattle.coap_model.proofs.Places.{here, same_moves, request-unique}
+use Rattle.coap_model.proofs.Positions.{here, same_moves, request-unique}
 
 -- ---- the change
 
@@ -62,7 +62,7 @@ unfolding read_message body_at options_within option_at extended token_of
 change_spelled = read_is change_told changed_message (are-bytes change_told refl) refl
 
 -- it arrives there
-abbrev change_gets : (past : List Deed) (asking : Place) → IsPlaceOf past asking → (asks : Asks 0 2 asking) → asks.sends.to ≡ origin → asks.sends.message ≡ get_for 3 2 → Gets setting 2 (here past change)
+abbrev change_gets : (past : List Action) (asking : Position) → IsPositionOf past asking → (asks : Asks 0 2 asking) → asks.sends.to ≡ origin → asks.sends.message ≡ get_for 3 2 → Gets setting 2 (here past change)
 change_gets past asking was_asked asks to message = record {
   act = refl;
   outcome = refl;
@@ -84,7 +84,7 @@ changed-there = record { exchange = 2; gets = change_gets asked_past (here opene
 
 -- so it was changed since the request for the first answer was sent
 pub was_changed : WasChanged setting key_of_temp.target first_entry.asking changed_past
-was_changed = record { place = here asked_past change; is_there = inl refl; holds = (changed-there, omega arith) }
+was_changed = record { position = here asked_past change; is_there = inl refl; holds = (changed-there, omega arith) }
 
 -- the first answer itself changes nothing
 content-quiet : concerns (changed_by (key_asked (first_gets Kept)).target (first_gets Kept).meets.message) key_of_temp.target ≡ false
@@ -117,18 +117,18 @@ found-one key c d found = go (same_key (cached_key c) key) refl found
     go false e is = absurd cc
 
 -- so a hit uses that entry
-hit-shows : (past : List Deed) (d : Deed) → IsCacheOf setting past (first_entry ∷ []) → (hit : IsHit setting past d) → first_entry ≡ hit.entry
+hit-shows : (past : List Action) (d : Action) → IsCacheOf setting past (first_entry ∷ []) → (hit : IsHit setting past d) → first_entry ≡ hit.entry
 hit-shows past d cache hit =
     let one = cache-unique setting past hit.cached (first_entry ∷ []) hit.is_cache cache in
     found-one hit.key first_entry hit.entry (subst (λ (cs : List Cached). of_key cached_key hit.key cs ≡ Some hit.entry) one hit.found)
 
 -- an unchanged and fresh entry is sent with the rest of its Max-Age
-reply_spelled : Spells (reply 25 9).entry.bytes (at_once get_read (shown 25 (stored_answer (entry_of_cached first_entry).1) 4 [] (tags_of get_read)))
+reply_spelled : Spells (reply 25 9).observation.bytes (at_once get_read (shown 25 (stored_answer (entry_of_cached first_entry).1) 4 [] (tags_of get_read)))
 unfolding read_message body_at options_within option_at extended uint_spelling
-reply_spelled = read_is (reply 25 9).entry.bytes _ (are-bytes (reply 25 9).entry.bytes refl) refl
+reply_spelled = read_is (reply 25 9).observation.bytes _ (are-bytes (reply 25 9).observation.bytes refl) refl
 
 -- the client requests it
-abbrev pub reply_asked : (now left : ℕ) → IsRequestOf setting (client 4) get_read (reply now left).entry.event
+abbrev pub reply_asked : (now left : ℕ) → IsRequestOf setting (client 4) get_read (reply now left).observation.event
 reply_asked now left = record { brings = record { bytes = get_t []; came = refl; spells = get_spelled; short = omega arith }; kind = refl; method = refl }
 
 -- so the reply is justified
@@ -175,12 +175,12 @@ first_fetched = record {
 }
 
 -- so it was obtained
-pub first_obtained : (past : List Deed) → IsPlaceOf past first_entry.asking → IsPlaceOf past first_entry.getting → WasObtained setting past first_entry
+pub first_obtained : (past : List Action) → IsPositionOf past first_entry.asking → IsPositionOf past first_entry.getting → WasObtained setting past first_entry
 unfolding first_fetched token_of
 first_obtained past was_asked was_got = record { was_asked = was_asked; was_got = was_got; obtained = first_hand first_fetched refl (record { code = refl; age = omega arith }) }
 
 -- if it is unchanged, it is a reply from the cache, both before the change and after it
-from_cache_if : (past : List Deed) → IsPlaceOf past first_entry.asking → IsPlaceOf past first_entry.getting → Unchanged setting key_of_temp.target first_entry.asking past → IsFromCache setting past (reply 25 9).entry
+from_cache_if : (past : List Action) → IsPositionOf past first_entry.asking → IsPositionOf past first_entry.getting → Unchanged setting key_of_temp.target first_entry.asking past → IsFromCache setting past (reply 25 9).observation
 unfolding verdict_of request_target mapped_target
 from_cache_if past was_asked was_got unchanged = record {
   client = client 4;
@@ -197,14 +197,14 @@ from_cache_if past was_asked was_got unchanged = record {
   shows = record { sent = refl; spells = reply_spelled };
 }
 
-pub from_cache : IsFromCache setting asked_past (reply 25 9).entry
+pub from_cache : IsFromCache setting asked_past (reply 25 9).observation
 from_cache = from_cache_if asked_past (inr (inr (inr (inr (inl refl))))) (inr (inr (inr (inl refl)))) was_unchanged
 
-pub from_cache_but_for_the_change : Unchanged setting key_of_temp.target first_entry.asking changed_past → IsFromCache setting changed_past (reply 25 9).entry
+pub from_cache_but_for_the_change : Unchanged setting key_of_temp.target first_entry.asking changed_past → IsFromCache setting changed_past (reply 25 9).observation
 from_cache_but_for_the_change = from_cache_if changed_past (inr (inr (inr (inr (inr (inl refl)))))) (inr (inr (inr (inr (inl refl)))))
 
 -- the response that made the change can't be kept
-not-of-the-change : {key : CacheKey} {response : Message} {asking : Place} → IsObtained setting key response asking (here asked_past change) → ⊥
+not-of-the-change : {key : CacheKey} {response : Message} {asking : Position} → IsObtained setting key response asking (here asked_past change) → ⊥
 not-of-the-change (first_hand {response = response} fetched is lasting) =
     let one = one-getting fetched.gets (change_gets asked_past (here opened_past asks_again) (inl refl) second_asks refl refl) in
     let code : response.code ≡ changed_message.code = ap (λ (m : Message). m.code) is ∙ ap (λ (m : Message). (taken_of true m).code) one.message in
@@ -219,25 +219,25 @@ not-of-the-change (validated {old = old} fetched tag obtained behind tagged sent
     not-valid e = absurd cc
 
 -- an entry with the first answer was requested by the first request
-pub asked-first : {key : CacheKey} {response : Message} {asking : Place} → IsObtained setting key response asking first_entry.getting → asking ≡ first_entry.asking
+pub asked-first : {key : CacheKey} {response : Message} {asking : Position} → IsObtained setting key response asking first_entry.getting → asking ≡ first_entry.asking
 asked-first (first_hand fetched is lasting) = sym fetched.asking_is ∙ (one-getting fetched.gets (first_gets Kept)).asking
 asked-first (validated fetched tag obtained behind tagged sent is renewal fit lasting) = sym fetched.asking_is ∙ (one-getting fetched.gets (first_gets Kept)).asking
 
--- an answer arrives at no other place
-pub got-elsewhere : {key : CacheKey} {response : Message} {asking getting : Place} (p : Place) → takes p.deed.entry.report.outcome ≡ false → p ≡ getting → IsObtained setting key response asking getting → ⊥
-got-elsewhere {key} {response} {asking} {getting} p none same obtained = go (subst (λ (q : Place). IsObtained setting key response asking q) (sym same) obtained)
+-- an answer arrives at no other position
+pub got-elsewhere : {key : CacheKey} {response : Message} {asking getting : Position} (p : Position) → takes p.action.observation.report.outcome ≡ false → p ≡ getting → IsObtained setting key response asking getting → ⊥
+got-elsewhere {key} {response} {asking} {getting} p none same obtained = go (subst (λ (q : Position). IsObtained setting key response asking q) (sym same) obtained)
   where
     go : IsObtained setting key response asking p → ⊥
     go (first_hand fetched is lasting) = absurd (let e = sym fetched.gets.outcome ∙ none in cc)
     go (validated fetched tag other behind tagged sent is renewal fit lasting) = absurd (let e = sym fetched.gets.outcome ∙ none in cc)
 
 -- so an obtained entry was requested before the change
-obtained-first : {key : CacheKey} {response : Message} {asking getting : Place} → IsPlaceOf changed_past getting → IsObtained setting key response asking getting → asking ≡ first_entry.asking
-obtained-first {key} {response} {asking} {getting} (inl e) o = absurd (not-of-the-change (subst (λ (q : Place). IsObtained setting key response asking q) (sym e) o))
+obtained-first : {key : CacheKey} {response : Message} {asking getting : Position} → IsPositionOf changed_past getting → IsObtained setting key response asking getting → asking ≡ first_entry.asking
+obtained-first {key} {response} {asking} {getting} (inl e) o = absurd (not-of-the-change (subst (λ (q : Position). IsObtained setting key response asking q) (sym e) o))
 obtained-first (inr (inl e)) o = absurd (got-elsewhere (here opened_past asks_again) refl e o)
 obtained-first (inr (inr (inl e))) o = absurd (got-elsewhere (here hit_past opens_again) refl e o)
 obtained-first (inr (inr (inr (inl e)))) o = absurd (got-elsewhere (here kept_past hits) refl e o)
-obtained-first {key} {response} {asking} {getting} (inr (inr (inr (inr (inl e))))) o = asked-first (subst (λ (q : Place). IsObtained setting key response asking q) (sym e) o)
+obtained-first {key} {response} {asking} {getting} (inr (inr (inr (inr (inl e))))) o = asked-first (subst (λ (q : Position). IsObtained setting key response asking q) (sym e) o)
 obtained-first (inr (inr (inr (inr (inr (inl e)))))) o = absurd (got-elsewhere (here (opened ∷ []) asked) refl e o)
 obtained-first (inr (inr (inr (inr (inr (inr (inl e))))))) o = absurd (got-elsewhere (here [] opened) refl e o)
 obtained-first (inr (inr (inr (inr (inr (inr (inr none))))))) o = absurd none
@@ -248,14 +248,14 @@ unfolding verdict_of request_target mapped_target
 key-asked key is = let e : may_ask key_of_temp ≡ may_ask key = is in let same : key_of_temp ≡ key = cc in sym same
 
 -- so an entry that was changed isn't a reply from the cache
-pub not_from_cache : ¬ IsFromCache setting changed_past (reply 25 9).entry
+pub not_from_cache : ¬ IsFromCache setting changed_past (reply 25 9).observation
 not_from_cache f =
-    let one = request-unique setting (reply 25 9).entry.event f.client (client 4) f.request get_read f.asked (reply_asked 25 9) in
+    let one = request-unique setting (reply 25 9).observation.event f.client (client 4) f.request get_read f.asked (reply_asked 25 9) in
     let key : f.cached.key ≡ key_of_temp = f.equal_key ∙ key-asked f.key (subst (λ (m : Message). verdict_on setting m ≡ may_ask f.key) one.1 f.key_is) in
     let target : f.cached.key.target ≡ key_of_temp.target = ap (λ (k : CacheKey). k.target) key in
     let asking : f.cached.asking ≡ first_entry.asking = obtained-first f.received.was_got f.received.obtained in
     let unchanged = subst (λ (t : Target). Unchanged setting t f.cached.asking changed_past) target f.usable.unchanged in
-    told-contrary first_entry.asking (subst (λ (p : Place). Unchanged setting key_of_temp.target p changed_past) asking unchanged) was_changed
+    told-contrary first_entry.asking (subst (λ (p : Position). Unchanged setting key_of_temp.target p changed_past) asking unchanged) was_changed
 
 -- ---- entries that are stale, or sent wrongly
 
@@ -277,8 +277,8 @@ pub as_received : ¬ IsHit setting asked_past (reply 25 10)
 unfolding read_message body_at options_within option_at extended uint_spelling
 as_received hit =
     let same = hit-shows asked_past (reply 25 10) cache_asked_again hit in
-    let one = request-unique setting (reply 25 10).entry.event hit.client (client 4) hit.request get_read hit.asked (reply_asked 25 10) in
-    let told = read_again (reply 25 10).entry.bytes _ hit.tells.spells in
+    let one = request-unique setting (reply 25 10).observation.event hit.client (client 4) hit.request get_read hit.asked (reply_asked 25 10) in
+    let told = read_again (reply 25 10).observation.bytes _ hit.tells.spells in
     let nine : 10 ≡ 9 = ap age_told told ∙ (λ i. max_age_of (at_once (one.1 i) (shown 25 (stored_answer (entry_of_cached (sym same i)).1) hit.id (one.1 i).token (tags_of (one.1 i))))) in
     omega (arith, nine)
 
@@ -305,7 +305,7 @@ early-changed = record { exchange = 2; gets = change_gets (asks_again ∷ opens_
 
 -- so the target was changed since the first request was sent
 overtaken : WasChanged setting key_of_temp.target (here (opened ∷ []) asked) overtaken_past
-overtaken = record { place = here (asks_again ∷ opens_again ∷ asked ∷ opened ∷ []) change; is_there = inl refl; holds = (early-changed, omega arith) }
+overtaken = record { position = here (asks_again ∷ opens_again ∷ asked ∷ opened ∷ []) change; is_there = inl refl; holds = (early-changed, omega arith) }
 
 -- the first answer arrives after that
 abbrev late_gets : Gets setting 1 (here overtaken_past keeps_overtaken)
@@ -322,30 +322,30 @@ overtaken_kept kept =
     let one = one-getting kept.here.gets late_gets in
     let target : (key_asked kept.here.gets).target ≡ key_of_temp.target = ap (λ (k : CacheKey). k.target) (one.key ∙ asked-temp) in
     let unchanged = subst (λ (t : Target). Unchanged setting t kept.here.gets.meets.asking overtaken_past) target kept.here.unchanged in
-    told-contrary (here (opened ∷ []) asked) (subst (λ (p : Place). Unchanged setting key_of_temp.target p overtaken_past) one.asking unchanged) overtaken
+    told-contrary (here (opened ∷ []) asked) (subst (λ (p : Position). Unchanged setting key_of_temp.target p overtaken_past) one.asking unchanged) overtaken
 
 -- ---- a promise that isn't kept
 
 -- the first of two exchanges is open when the second is opened
-two-open : (setting : Setting) (past : List Deed) (d e : Deed) → d.entry.report.outcome ≡ Opened → e.entry.report.outcome ≡ Opened → AllJustified setting (e ∷ d ∷ past) → 1 < setting.limits.exchanges
+two-open : (setting : Setting) (past : List Action) (d e : Action) → d.observation.report.outcome ≡ Opened → e.observation.report.outcome ≡ Opened → AllJustified setting (e ∷ d ∷ past) → 1 < setting.limits.exchanges
 two-open setting past d e first second all =
     let j : IsOpening setting past d = subst (λ (o : Outcome). JustifiedBy o setting past d) first all.1.0 in
     let k : IsOpening setting (d ∷ past) e = subst (λ (o : Outcome). JustifiedBy o setting (d ∷ past) e) second all.0 in
-    let there : open_in (d ∷ past) ≡ open_in past ++ record { number = opened_in past + 1; client = j.client; stage = queued } ∷ [] = λ i. open_by (first i) (j.act i) (j.asked.brings.came i) d.entry.report.send (standing_in (d ∷ past)) (open_in past) in
+    let there : open_in (d ∷ past) ≡ open_in past ++ record { number = opened_in past + 1; client = j.client; stage = queued } ∷ [] = λ i. open_by (first i) (j.act i) (j.asked.brings.came i) d.observation.report.send (standing_in (d ∷ past)) (open_in past) in
     let more = length-append (open_in past) (record { number = opened_in past + 1; client = j.client; stage = queued } ∷ []) in
     let room = k.room.shared.exchange in
     omega (arith, ap (λ (xs : List Open). length xs) there, more, room)
 
 -- so with room for one, this isn't the history of a proxy that keeps its promise
 pub two_exchanges : (w : State) → w.setting.limits.exchanges ≡ 1 → ¬ KeepsItsWord opens_two w
-two_exchanges w one word = go word.deeds word.told word.justified
+two_exchanges w one word = go word.actions word.told word.justified
   where
-    outcome : Entry → Outcome
+    outcome : Observation → Outcome
     outcome e = e.report.outcome
 
-    go : (deeds : List Deed) → told_by deeds ≡ opens_two → AllJustified w.setting deeds → ⊥
-    go [] told all = absurd (let few = ap (λ (es : List Entry). length es) told in omega (arith, few))
-    go (e ∷ []) told all = absurd (let few = ap (λ (es : List Entry). length es) told in omega (arith, few))
+    go : (actions : List Action) → told_by actions ≡ opens_two → AllJustified w.setting actions → ⊥
+    go [] told all = absurd (let few = ap (λ (es : List Observation). length es) told in omega (arith, few))
+    go (e ∷ []) told all = absurd (let few = ap (λ (es : List Observation). length es) told in omega (arith, few))
     go (e ∷ d ∷ past) told all =
-        let many = two-open w.setting past d e (ap (λ (es : List Entry). outcome (get_or es 1 opened.entry)) told) (ap (λ (es : List Entry). outcome (get_or es 0 opened.entry)) told) all in
+        let many = two-open w.setting past d e (ap (λ (es : List Observation). outcome (get_or es 1 opened.observation)) told) (ap (λ (es : List Observation). outcome (get_or es 0 opened.observation)) told) all in
         omega (arith, one, many)

@@ -1,4 +1,4 @@
--- Histories and entries that break one word of the promise in short.
+-- Histories and observations that break one word of the promise in short.
 use Rattle.std.proofs.Common.{◌≡◌, inl, inr, ℕ, ◌+◌, ◌≤◌, Bool, true, false, List, [], ◌∷◌, length, get_or, Option, None, Result, Ok, Err, refl, sym, ap, ◌∙◌, subst, arith}
 use Rattle.std.specs.Prelude.{◌&&◌, if◌then◌else◌}
 use Rattle.std.specs.Option.{option_map_or}
@@ -31,7 +31,7 @@ use Rattle.coap_model.specs.Events.{arrival}
 use Rattle.coap_model.specs.Examples.{client, origin}
 use Rattle.coap_model.specs.Forged.{setting, opened, opened_too, asked}
 use Rattle.coap_model.specs.ForgedHits.{reply}
-use Rattle.coap_model.specs.History.{Asks, Deed, Entry, Gets, Gives, IsPlaceOf, Never, Place, Sends, in_acknowledgement, told_by}
+use Rattle.coap_model.specs.History.{Asks, Action, Observation, Gets, Gives, IsPositionOf, Never, Position, Sends, in_acknowledgement, told_by}
 use Rattle.coap_model.specs.Keys.{target_sent, key_sent}
 use Rattle.coap_model.specs.LimitExamples as limited
 use Rattle.coap_model.specs.OptionExamples.{key_of_temp}
@@ -48,7 +48,7 @@ use Rattle.coap_model.specs.declared.report.Storing.TheVariants.{Kept}
 use Rattle.coap_model.proofs.CacheExamples.{are-bytes, first_asks, first_gets, get_read, second_sent, unsent}
 use Rattle.coap_model.proofs.Changing.{newest-unchanged, one-getting, told-on, told-stays}
 use Rattle.coap_model.proofs.ForgingHits.{age_told, early_unsent, first_obtained, got-elsewhere, reply_asked, was_unchanged}
-use Rattle.coap_model.proofs.Places.{here, request-unique}
+use Rattle.coap_model.proofs.Positions.{here, request-unique}
 
 -- ---- the only entry
 
@@ -60,14 +60,14 @@ no-validation old m none valid =
     absurd (let e : true ≡ false = sym one ∙ none in cc)
 
 -- the only response that was obtained with the first answer is that answer
-response-first : {key : CacheKey} {response : Message} {asking : Place} → IsObtained setting key response asking first_entry.getting → response ≡ content_for 1 1
+response-first : {key : CacheKey} {response : Message} {asking : Position} → IsObtained setting key response asking first_entry.getting → response ≡ content_for 1 1
 unfolding token_of
 response-first (first_hand fetched is lasting) = is ∙ ap (taken_of true) (one-getting fetched.gets (first_gets Kept)).message
 response-first (validated {old = old} fetched tag obtained behind tagged sent is renewal fit lasting) =
     absurd (no-validation old (taken_of true (content_for 1 1)) refl (subst (λ (m : Message). is_validated old (taken_of true m) ≡ true) (one-getting fetched.gets (first_gets Kept)).message is))
 
 -- what was obtained before the reply arrived with the first answer
-got-first : {key : CacheKey} {response : Message} {asking getting : Place} → IsPlaceOf asked_past getting → IsObtained setting key response asking getting → getting ≡ first_entry.getting
+got-first : {key : CacheKey} {response : Message} {asking getting : Position} → IsPositionOf asked_past getting → IsObtained setting key response asking getting → getting ≡ first_entry.getting
 got-first (inl e) o = absurd (got-elsewhere (here opened_past asks_again) refl e o)
 got-first (inr (inl e)) o = absurd (got-elsewhere (here hit_past opens_again) refl e o)
 got-first (inr (inr (inl e))) o = absurd (got-elsewhere (here kept_past hits) refl e o)
@@ -76,9 +76,9 @@ got-first (inr (inr (inr (inr (inl e))))) o = absurd (got-elsewhere (here (opene
 got-first (inr (inr (inr (inr (inr (inl e)))))) o = absurd (got-elsewhere (here [] opened) refl e o)
 got-first (inr (inr (inr (inr (inr (inr none)))))) o = absurd none
 
--- so there is one response, which arrived at one place
+-- so there is one response, which arrived at one position
 only-response : (c : Cached) → WasObtained setting asked_past c → c.response ≡ content_for 1 1
-only-response c w = response-first (subst (λ (p : Place). IsObtained setting c.key c.response c.asking p) (got-first w.was_got w.obtained) w.obtained)
+only-response c w = response-first (subst (λ (p : Position). IsObtained setting c.key c.response c.asking p) (got-first w.was_got w.obtained) w.obtained)
 
 -- ---- replies from the cache
 
@@ -108,24 +108,24 @@ stale_if_fresh fresh = record {
 -- but it isn't
 pub not_stale : ¬ IsFromCache setting asked_past stale_reply
 not_stale f =
-    let place = got-first f.received.was_got f.received.obtained in
+    let position = got-first f.received.was_got f.received.obtained in
     let response = only-response f.cached f.received in
-    let same : is_fresh 10006 (entry_of_cached f.cached).1 ≡ false = λ i. is_fresh 10006 (entry_of_cached (record { key = f.cached.key; response = response i; asking = f.cached.asking; getting = place i })).1 in
+    let same : is_fresh 10006 (entry_of_cached f.cached).1 ≡ false = λ i. is_fresh 10006 (entry_of_cached (record { key = f.cached.key; response = response i; asking = f.cached.asking; getting = position i })).1 in
     absurd (let e = sym f.usable.fresh ∙ same in cc)
 
--- the entry with the response and the place that it must have
-abbrev entry_at : (c : Cached) (response : Message) (getting : Place) → Cached
+-- the entry with the response and the position that it must have
+abbrev entry_at : (c : Cached) (response : Message) (getting : Position) → Cached
 entry_at c response getting = record { key = c.key; response = response; asking = c.asking; getting = getting }
 
 -- an entry isn't sent with its original Max-Age
-pub not_as_received : ¬ IsFromCache setting asked_past (reply 25 10).entry
+pub not_as_received : ¬ IsFromCache setting asked_past (reply 25 10).observation
 unfolding read_message body_at options_within option_at extended uint_spelling
 not_as_received f =
-    let place = got-first f.received.was_got f.received.obtained in
+    let position = got-first f.received.was_got f.received.obtained in
     let response = only-response f.cached f.received in
-    let one = request-unique setting (reply 25 10).entry.event f.client (client 4) f.request get_read f.asked (reply_asked 25 10) in
-    let told = read_again (reply 25 10).entry.bytes _ f.shows.spells in
-    let nine : 10 ≡ 9 = ap age_told told ∙ (λ i. max_age_of (at_once (one.1 i) (shown 25 (stored_answer (entry_of_cached (entry_at f.cached (response i) (place i))).1) f.id (one.1 i).token (tags_of (one.1 i))))) in
+    let one = request-unique setting (reply 25 10).observation.event f.client (client 4) f.request get_read f.asked (reply_asked 25 10) in
+    let told = read_again (reply 25 10).observation.bytes _ f.shows.spells in
+    let nine : 10 ≡ 9 = ap age_told told ∙ (λ i. max_age_of (at_once (one.1 i) (shown 25 (stored_answer (entry_of_cached (entry_at f.cached (response i) (position i))).1) f.id (one.1 i).token (tags_of (one.1 i))))) in
     omega (arith, nine)
 
 -- the length of a message's token
@@ -152,7 +152,7 @@ not_to_another f =
 -- ---- what arrived
 
 -- a piggybacked response to the request of an exchange arrives
-abbrev answer_gets : (past : List Deed) (now x : ℕ) (bytes : List ℕ) (m : Message) (asking : Place) → IsPlaceOf past asking → (asks : Asks 0 x asking) → asks.sends.to ≡ origin → asks.sends.message.id ≡ m.id → m.kind ≡ Ack → is_response m.code ≡ true → m.token ≡ token_of 0 x → IsBytes bytes → Spells bytes m → length bytes ≤ 1500
+abbrev answer_gets : (past : List Action) (now x : ℕ) (bytes : List ℕ) (m : Message) (asking : Position) → IsPositionOf past asking → (asks : Asks 0 x asking) → asks.sends.to ≡ origin → asks.sends.message.id ≡ m.id → m.kind ≡ Ack → is_response m.code ≡ true → m.token ≡ token_of 0 x → IsBytes bytes → Spells bytes m → length bytes ≤ 1500
     → Gets setting x (here past (answers now x bytes))
 answer_gets past now x bytes m asking was asks to id kind code token are spells short = record {
   act = refl;
@@ -189,14 +189,14 @@ unfolding read_message body_at options_within option_at extended token_of
 block_spelled = read_is block_bytes block_content (are-bytes block_bytes refl) refl
 
 -- the second request was first sent there, with the tag
-abbrev tagged_asks : (before : List Deed) → Never (Sends 0 2) before → Asks 0 2 (here before asks_tagged)
+abbrev tagged_asks : (before : List Action) → Never (Sends 0 2) before → Asks 0 2 (here before asks_tagged)
 tagged_asks before first = record {
   sends = record { act = refl; outcome = refl; to = origin; sent = refl; message = tagged_get; spells = tagged_get_spelled; token = refl };
   first = first;
 }
 
 -- or without it
-abbrev bare_asks : (before : List Deed) → Never (Sends 0 2) before → Asks 0 2 (here before asks_again)
+abbrev bare_asks : (before : List Action) → Never (Sends 0 2) before → Asks 0 2 (here before asks_again)
 bare_asks before first = record {
   sends = record { act = refl; outcome = refl; to = origin; sent = refl; message = get_for 3 2; spells = second_sent; token = refl };
   first = first;
@@ -211,13 +211,13 @@ abbrev tagged_gets : Gets setting 1 (here (asked ∷ opened ∷ []) gets_tagged)
 tagged_gets = answer_gets (asked ∷ opened ∷ []) 5 1 tagged_bytes tagged_content (here (opened ∷ []) asked) (inl refl) first_asks refl refl refl refl refl (are-bytes tagged_bytes refl) tagged_spelled (omega arith)
 
 -- and the 2.03 after it
-abbrev valid_gets : (past : List Deed) (asking : Place) → IsPlaceOf past asking → (asks : Asks 0 2 asking) → asks.sends.to ≡ origin → asks.sends.message.id ≡ 3 → Gets setting 2 (here past gets_valid)
+abbrev valid_gets : (past : List Action) (asking : Position) → IsPositionOf past asking → (asks : Asks 0 2 asking) → asks.sends.to ≡ origin → asks.sends.message.id ≡ 3 → Gets setting 2 (here past gets_valid)
 valid_gets past asking was asks to id = answer_gets past 20 2 valid_bytes valid_message asking was asks to id refl refl refl (are-bytes valid_bytes refl) valid_spelled (omega arith)
 
 -- ---- validations
 
 -- what a GET with the key got was fetched, if it may be passed on, and if the target is unchanged
-abbrev fetched-by : {x : ℕ} {getting : Place} (gets : Gets setting x getting) (asking : Place) → gets.meets.asking ≡ asking → to_get gets ≡ true → key_asked gets ≡ key_of_temp → is_passed_on 1500 true gets.meets.message ≡ true → Unchanged setting key_of_temp.target asking getting.before → IsFetched setting key_of_temp asking getting
+abbrev fetched-by : {x : ℕ} {getting : Position} (gets : Gets setting x getting) (asking : Position) → gets.meets.asking ≡ asking → to_get gets ≡ true → key_asked gets ≡ key_of_temp → is_passed_on 1500 true gets.meets.message ≡ true → Unchanged setting key_of_temp.target asking getting.before → IsFetched setting key_of_temp asking getting
 fetched-by {x} {getting} gets asking is get key passed unchanged = record { exchange = x; gets = gets; asking_is = is; method = get; asked_key = key; passed = passed; unchanged = unchanged }
 
 -- the tagged answer was fetched
@@ -237,7 +237,7 @@ renewed_obtained =
     validated valid_fetched (0xAB ∷ []) (first_hand tagged_fetched refl (record { code = refl; age = omega arith })) (inr (inl refl)) refl refl refl refl refl (record { code = refl; age = omega arith })
 
 -- a 2.03 alone isn't a response that may be kept
-not-alone : {key : CacheKey} {response : Message} {asking : Place} {past : List Deed} (gets : Gets setting 2 (here past gets_valid)) → gets.meets.message ≡ valid_message → (fetched : IsFetched setting key asking (here past gets_valid)) → response ≡ taken_of true fetched.gets.meets.message → IsLasting response → ⊥
+not-alone : {key : CacheKey} {response : Message} {asking : Position} {past : List Action} (gets : Gets setting 2 (here past gets_valid)) → gets.meets.message ≡ valid_message → (fetched : IsFetched setting key asking (here past gets_valid)) → response ≡ taken_of true fetched.gets.meets.message → IsLasting response → ⊥
 not-alone {response = response} gets same fetched is lasting =
     let code : response.code ≡ valid_message.code = ap (λ (m : Message). m.code) is ∙ ap (λ (m : Message). (taken_of true m).code) ((one-getting fetched.gets gets).message ∙ same) in
     let none : tells_age response.code ≡ false = ap tells_age code in
@@ -248,7 +248,7 @@ pub not_older : (response : Message) → ¬ IsObtained setting key_of_temp respo
 not_older response (first_hand fetched is lasting) = not-alone (valid_gets validated_early (here early_past asks_tagged) (inr (inl refl)) (tagged_asks early_past early_unsent) refl refl) refl fetched is lasting
 not_older response (validated {old = old} {old_asking = old_asking} {old_getting = old_getting} fetched tag obtained behind tagged sent is renewal fit lasting) = nowhere behind
   where
-    nowhere : IsPlaceOf early_past old_getting → ⊥
+    nowhere : IsPositionOf early_past old_getting → ⊥
     nowhere (inl e) = got-elsewhere (here (asked ∷ opened ∷ []) opens_again) refl e obtained
     nowhere (inr (inl e)) = got-elsewhere (here (opened ∷ []) asked) refl e obtained
     nowhere (inr (inr (inl e))) = got-elsewhere (here [] opened) refl e obtained
@@ -268,7 +268,7 @@ unfolding late_tagged token_of target_options target_sent key_sent spelling opti
 early_fetched = fetched-by (valid_gets validated_early (here early_past asks_tagged) (inr (inl refl)) (tagged_asks early_past early_unsent) refl refl) _ refl refl refl refl (told-on false key_of_temp.target (here early_past asks_tagged) late_tagged.gets (omega arith) (newest-unchanged setting key_of_temp.target early_past asks_tagged refl))
 
 -- the answer would be renewed if it had come before that request
-pub older_if_before : IsPlaceOf early_past (here (asks_tagged ∷ early_past) gets_tagged) → IsObtained setting key_of_temp (renewed tagged_content (taken_of true valid_message)) (here early_past asks_tagged) (here validated_early gets_valid)
+pub older_if_before : IsPositionOf early_past (here (asks_tagged ∷ early_past) gets_tagged) → IsObtained setting key_of_temp (renewed tagged_content (taken_of true valid_message)) (here early_past asks_tagged) (here validated_early gets_valid)
 unfolding late_tagged early_fetched token_of target_options uint_spelling spelling option_spelling
 older_if_before before =
     validated early_fetched (0xAB ∷ []) (first_hand late_tagged refl (record { code = refl; age = omega arith })) before refl refl refl refl refl (record { code = refl; age = omega arith })
@@ -364,20 +364,20 @@ gives_1 now = record { gives = refl; message = own_reply NOT_FOUND [] 1 []; spel
 
 -- a proxy that gives it out twice doesn't keep its promise
 pub one_id : (w : State) → ¬ KeepsItsWord of_one_id w
-one_id w word = go word.deeds word.told word.ids
+one_id w word = go word.actions word.told word.ids
   where
-    nth : ℕ → List Entry → Entry
+    nth : ℕ → List Observation → Observation
     nth n es = get_or es n (refused_with_1 0)
 
-    go : (deeds : List Deed) → told_by deeds ≡ of_one_id → IdsDiffer deeds → ⊥
-    go [] told ids = absurd (let few = ap (λ (es : List Entry). length es) told in omega (arith, few))
-    go (e ∷ []) told ids = absurd (let few = ap (λ (es : List Entry). length es) told in omega (arith, few))
+    go : (actions : List Action) → told_by actions ≡ of_one_id → IdsDiffer actions → ⊥
+    go [] told ids = absurd (let few = ap (λ (es : List Observation). length es) told in omega (arith, few))
+    go (e ∷ []) told ids = absurd (let few = ap (λ (es : List Observation). length es) told in omega (arith, few))
     go (e ∷ d ∷ []) told ids =
-        let later : e.entry ≡ refused_with_1 246999 = ap (nth 0) told in
-        let first : d.entry ≡ refused_with_1 0 = ap (nth 1) told in
-        let at_first : d.entry.now ≡ 0 = ap (λ (x : Entry). x.now) first in
-        let at_later : e.entry.now ≡ 246999 = ap (λ (x : Entry). x.now) later in
-        let same = ids (here [] d) (here (d ∷ []) e) 1 (inr (inl refl)) (inl refl) (subst (λ (x : Entry). Gives 1 x) (sym first) (gives_1 0)) (subst (λ (x : Entry). Gives 1 x) (sym later) (gives_1 246999)) (omega (arith, at_first, at_later)) (omega (arith, at_first, at_later)) in
-        let apart : 0 ≡ 1 = ap (λ (p : Place). length p.before) same in
+        let later : e.observation ≡ refused_with_1 246999 = ap (nth 0) told in
+        let first : d.observation ≡ refused_with_1 0 = ap (nth 1) told in
+        let at_first : d.observation.now ≡ 0 = ap (λ (x : Observation). x.now) first in
+        let at_later : e.observation.now ≡ 246999 = ap (λ (x : Observation). x.now) later in
+        let same = ids (here [] d) (here (d ∷ []) e) 1 (inr (inl refl)) (inl refl) (subst (λ (x : Observation). Gives 1 x) (sym first) (gives_1 0)) (subst (λ (x : Observation). Gives 1 x) (sym later) (gives_1 246999)) (omega (arith, at_first, at_later)) (omega (arith, at_first, at_later)) in
+        let apart : 0 ≡ 1 = ap (λ (p : Position). length p.before) same in
         omega (arith, apart)
-    go (e ∷ d ∷ f ∷ more) told ids = absurd (let few = ap (λ (es : List Entry). length es) told in omega (arith, few))
+    go (e ∷ d ∷ f ∷ more) told ids = absurd (let few = ap (λ (es : List Observation). length es) told in omega (arith, few))

@@ -32,8 +32,8 @@ use Rattle.coap_model.specs.declared.due.DueItem.TheVariants.{OfExchange}
 use Rattle.coap_model.specs.Events.{tick}
 use Rattle.coap_model.specs.State.{State, next_id}
 use Rattle.coap_model.specs.Ticks.{sends}
-use Rattle.coap_model.specs.Runs.{entry_of}
-use Rattle.coap_model.specs.History.{Entry, moves, Deed}
+use Rattle.coap_model.specs.Runs.{observation_of}
+use Rattle.coap_model.specs.History.{Observation, moves, Action}
 use Rattle.coap_model.specs.Standing as stages
 use Rattle.coap_model.specs.Schedules.{IsSchedule, sends_by}
 use Rattle.coap_model.specs.Changed.{IsTold}
@@ -46,7 +46,7 @@ use Rattle.coap_model.proofs.Giving.{ids-given, room-called}
 use Rattle.coap_model.proofs.Keys.{key-forwarded}
 use Rattle.coap_model.proofs.Lists.{Has, Has-all}
 use Rattle.coap_model.proofs.Moving.{others-quiet, keeps_moving}
-use Rattle.coap_model.proofs.Places.{here, doing, opened-later}
+use Rattle.coap_model.proofs.Positions.{here, doing, opened-later}
 use Rattle.coap_model.proofs.Quiet.{remembered-still}
 use Rattle.coap_model.proofs.Replying.{id-same}
 use Rattle.coap_model.proofs.Rules.{IsTurnOf}
@@ -59,7 +59,7 @@ use Rattle.coap_model.proofs.Verdicts.{askable}
 -- ---- timers
 
 -- a timer that was started now is that of one transmission
-started-is : (e : Entry) → IsTimer (started e.now e.draw) (e ∷ [])
+started-is : (e : Observation) → IsTimer (started e.now e.draw) (e ∷ [])
 started-is e = (refl, refl, omega arith, refl)
 
 -- ---- what may be renewed
@@ -75,10 +75,10 @@ sent-copy token key former tag m id get screened is = go tag ∙ sym (ap (λ (ts
 -- ---- the rule
 
 -- forwarding a request preserves what is carried
-pub keeps_forwarding : (w : State) (history : List Deed) (c : Bears history w) → (now draw at number : ℕ) (x : Exchange) → w.last ≤ now → IsTurnOf w now at number x → x.state ≡ Queued → now < deadline w.setting.limits.exchange_ms x
-    → Bears (doing (moves number) (entry_of now draw tick (sends w now draw number x)) ∷ history) (sends w now draw number x).state
+pub keeps_forwarding : (w : State) (history : List Action) (c : Bears history w) → (now draw at number : ℕ) (x : Exchange) → w.last ≤ now → IsTurnOf w now at number x → x.state ≡ Queued → now < deadline w.setting.limits.exchange_ms x
+    → Bears (doing (moves number) (observation_of now draw tick (sends w now draw number x)) ∷ history) (sends w now draw number x).state
 keeps_forwarding w history c now draw at number x onward turn queued early =
-    let e = doing (moves number) (entry_of now draw tick (sends w now draw number x)) in
+    let e = doing (moves number) (observation_of now draw tick (sends w now draw number x)) in
     let p = here history e in
     let salt = w.setting.salt in
     let id = next_id w in
@@ -96,7 +96,7 @@ keeps_forwarding w history c now draw at number x onward turn queued early =
     let bytes_are : with_id id x.form ≡ spelling request = ap (with_id id) form ∙ with_id-forwarded id token x.key.target tag asked in
     let spells : Spells (with_id id x.form) request = subst (λ (b : List ℕ). Spells b request) (sym bytes_are) (spelled request is) in
     let sending : Sending = record { asked = w.events; id = id; timer = started now draw } in
-    let grown : sends_by (moves number) (e ∷ history) ≡ e.entry ∷ [] = sends-grow (moves number) history e (same_act-self number) refl ∙ ap (λ (es : List Entry). e.entry ∷ es) state.no_sends in
+    let grown : sends_by (moves number) (e ∷ history) ≡ e.observation ∷ [] = sends-grow (moves number) history e (same_act-self number) refl ∙ ap (λ (es : List Observation). e.observation ∷ es) state.no_sends in
     let passes_queued : passes is_queued (item_at number w.exchanges) ≡ true = ap (passes is_queued) turn.found ∙ ap is_queued_state queued in
     let passes_sent : passes (λ a. is_queued (sent sending a)) (item_at number w.exchanges) ≡ false = ap (passes (λ a. is_queued (sent sending a))) turn.found in
     let fewer : count is_queued (changed_at number (sent sending) w.exchanges) + 1 ≡ count is_queued w.exchanges =
@@ -127,7 +127,7 @@ keeps_forwarding w history c now draw at number x onward turn queued early =
           to = refl;
           id_is = refl;
           number = c.clock.events;
-          timer = subst (IsTimer (started now draw)) (sym grown) (started-is e.entry);
+          timer = subst (IsTimer (started now draw)) (sym grown) (started-is e.observation);
           bytes = subst (AreOfBytes x.key.target.at (with_id id x.form)) (sym grown) ((refl, refl), tt);
         };
         method = sym f.method;

@@ -1,4 +1,4 @@
--- What stays as the history grows by an entry.
+-- What stays as the history grows by an observation.
 use Rattle.std.proofs.Common.{◌≡◌, ◌≢◌, ⊎_elim, inr, ℕ, ◌+◌, ◌<◌, ◌≤◌, Bool, true, false, cond, List, [], ◌∷◌, length, Option, Some, None, refl, sym, ap, ◌∙◌, subst, arith}
 use Rattle.std.specs.Prelude.{◌&&◌, ◌||◌, map}
 use Rattle.coap_endpoint.specs.declared.target.Target.{Target}
@@ -24,34 +24,34 @@ use Rattle.coap_model.specs.declared.report.Outcome.{Outcome}
 use Rattle.coap_model.specs.declared.report.Outcome.TheVariants.{Opened}
 use Rattle.coap_model.specs.Setting.{Setting}
 use Rattle.coap_model.specs.State.{State}
-use Rattle.coap_model.specs.History.{Act, no_item, admits, moves, serves, Deed, Place, IsPlaceOf, Somewhere, opens_one, admits_one, takes, Gets, opened_in, admitted_in, Opens, Admits}
+use Rattle.coap_model.specs.History.{Act, no_item, admits, moves, serves, Action, Position, IsPositionOf, Somewhere, opens_one, admits_one, takes, Gets, opened_in, admitted_in, Opens, Admits}
 use Rattle.coap_model.specs.Schedules.{same_act, is_sending, sends_for, sends_by, IsSchedule}
 use Rattle.coap_model.specs.Carries.{Clock, Numbers, IsTimer, AreOfBytes, WasAsked, WasSent, IsInFlight, IsState, IsExchangeOf, IsWaiterIn, IsWaiterOf, AreUnused, AreSchedules}
-use Rattle.coap_model.proofs.Places.{here, index_below, opened-later, admitted-later}
+use Rattle.coap_model.proofs.Positions.{here, index_below, opened-later, admitted-later}
 
 -- ---- the clock and the numbers
 
--- the clock advances by an entry
-pub clock_frame : {history : List Deed} {w v : State} {e : Deed} → Clock history w → w.last ≤ e.entry.now → v.events ≡ w.events + 1 → v.last ≡ e.entry.now → Clock (e ∷ history) v
+-- the clock advances by an observation
+pub clock_frame : {history : List Action} {w v : State} {e : Action} → Clock history w → w.last ≤ e.observation.now → v.events ≡ w.events + 1 → v.last ≡ e.observation.now → Clock (e ∷ history) v
 clock_frame c onward events last = record { events = let h = c.events in omega arith; last = last; in_order = (let h = c.last in omega arith, c.in_order) }
 
--- the numbers count what an entry does
-pub numbers_frame : {history : List Deed} {w v : State} {e : Deed} → Numbers history w → v.opened ≡ w.opened + opens_one e.entry.report.outcome → v.admitted ≡ w.admitted + admits_one e.entry.report.outcome → Numbers (e ∷ history) v
+-- the numbers count what an observation does
+pub numbers_frame : {history : List Action} {w v : State} {e : Action} → Numbers history w → v.opened ≡ w.opened + opens_one e.observation.report.outcome → v.admitted ≡ w.admitted + admits_one e.observation.report.outcome → Numbers (e ∷ history) v
 numbers_frame n opened admitted = record { opened = let h = n.opened in omega arith; admitted = let h = n.admitted in omega arith }
 
--- no more exchanges were opened than there are deeds
-pub opened-few : (history : List Deed) → opened_in history ≤ length history
+-- no more exchanges were opened than there are actions
+pub opened-few : (history : List Action) → opened_in history ≤ length history
 opened-few [] = omega arith
-opened-few (e ∷ past) = let i = opened-few past in let one = at_most_one e.entry.report.outcome in omega arith
+opened-few (e ∷ past) = let i = opened-few past in let one = at_most_one e.observation.report.outcome in omega arith
   where
     at_most_one : (o : Outcome) → opens_one o ≤ 1
     at_most_one Opened = omega arith
     at_most_one _ = omega arith
 
 -- and no more clients were admitted
-pub admitted-few : (history : List Deed) → admitted_in history ≤ length history
+pub admitted-few : (history : List Action) → admitted_in history ≤ length history
 admitted-few [] = omega arith
-admitted-few (e ∷ past) = let i = admitted-few past in let one = at_most_one e.entry.report.outcome in omega arith
+admitted-few (e ∷ past) = let i = admitted-few past in let one = at_most_one e.observation.report.outcome in omega arith
   where
     at_most_one : (o : Outcome) → admits_one o ≤ 1
     at_most_one Opened = omega arith
@@ -80,34 +80,34 @@ same_act-self x = eq-eqb x x refl
 pub same_act-client : (v : ℕ) → same_act (serves v) (serves v) ≡ true
 same_act-client v = eq-eqb v v refl
 
--- an entry with another act sends nothing for this act
-not-for : (a : Act) (d : Deed) → d.act ≢ a → sends_for a d ≡ false
+-- an observation with another act sends nothing for this act
+not-for : (a : Act) (d : Action) → d.act ≢ a → sends_for a d ≡ false
 not-for a d other = go (same_act a d.act) refl
   where
-    go : (b : Bool) → same_act a d.act ≡ b → (b && is_sending d.entry.report.outcome) ≡ false
+    go : (b : Bool) → same_act a d.act ≡ b → (b && is_sending d.observation.report.outcome) ≡ false
     go true t = absurd (other (sym (same_act-true a d.act t)))
     go false t = refl
 
 -- so the transmissions stay the same
-pub sends-stay : (a : Act) (history : List Deed) (d : Deed) → d.act ≢ a → sends_by a (d ∷ history) ≡ sends_by a history
+pub sends-stay : (a : Act) (history : List Action) (d : Action) → d.act ≢ a → sends_by a (d ∷ history) ≡ sends_by a history
 sends-stay a history d other = rw (not-for a d other) refl
 
 -- as they do if nothing is sent
-pub sends-quiet : (a : Act) (history : List Deed) (d : Deed) → is_sending d.entry.report.outcome ≡ false → sends_by a (d ∷ history) ≡ sends_by a history
+pub sends-quiet : (a : Act) (history : List Action) (d : Action) → is_sending d.observation.report.outcome ≡ false → sends_by a (d ∷ history) ≡ sends_by a history
 sends-quiet a history d quiet = let none : sends_for a d ≡ false = go (same_act a d.act) in rw none refl
   where
-    go : (b : Bool) → (b && is_sending d.entry.report.outcome) ≡ false
+    go : (b : Bool) → (b && is_sending d.observation.report.outcome) ≡ false
     go true = quiet
     go false = refl
 
--- and they grow if the entry has this act and sends something
-pub sends-grow : (a : Act) (history : List Deed) (d : Deed) → same_act a d.act ≡ true → is_sending d.entry.report.outcome ≡ true → sends_by a (d ∷ history) ≡ d.entry ∷ sends_by a history
+-- and they grow if the observation has this act and sends something
+pub sends-grow : (a : Act) (history : List Action) (d : Action) → same_act a d.act ≡ true → is_sending d.observation.report.outcome ≡ true → sends_by a (d ∷ history) ≡ d.observation ∷ sends_by a history
 sends-grow a history d same sending = let one : sends_for a d ≡ true = rw (same, sending) refl in rw one refl
 
 -- ---- exchanges
 
--- a request that was sent stays so at an entry that sends nothing for it
-abbrev pub asked_frame : {setting : Setting} {history : List Deed} {x : ℕ} {key : CacheKey} {form : List ℕ} {s : Sending} (e : Deed) → sends_by (moves x) (e ∷ history) ≡ sends_by (moves x) history → WasAsked setting history x key form s → WasAsked setting (e ∷ history) x key form s
+-- a request that was sent stays so at an observation that sends nothing for it
+abbrev pub asked_frame : {setting : Setting} {history : List Action} {x : ℕ} {key : CacheKey} {form : List ℕ} {s : Sending} (e : Action) → sends_by (moves x) (e ∷ history) ≡ sends_by (moves x) history → WasAsked setting history x key form s → WasAsked setting (e ∷ history) x key form s
 asked_frame {key = key} {form = form} {s = s} e same a =
     record {
       asking = a.asking;
@@ -122,7 +122,7 @@ asked_frame {key = key} {form = form} {s = s} e same a =
     }
 
 -- so does an exchange whose request was sent, or never was
-pub sent_frame : (setting : Setting) (history : List Deed) (x : ℕ) (key : CacheKey) (form : List ℕ) (o : Option Sending) (e : Deed) → sends_by (moves x) (e ∷ history) ≡ sends_by (moves x) history → WasSent setting history x key form o → WasSent setting (e ∷ history) x key form o
+pub sent_frame : (setting : Setting) (history : List Action) (x : ℕ) (key : CacheKey) (form : List ℕ) (o : Option Sending) (e : Action) → sends_by (moves x) (e ∷ history) ≡ sends_by (moves x) history → WasSent setting history x key form o → WasSent setting (e ∷ history) x key form o
 sent_frame setting history x key form None e same a = tt
 sent_frame setting history x key form (Some s) e same a = asked_frame e same a
 
@@ -134,14 +134,14 @@ is_flying s = is_sent_state s || is_acked_state s
 abbrev pub with_taint : Bool → Numbered Exchange → Numbered Exchange
 with_taint b x = (x.0, record x.1 { tainted = b })
 
--- what is known of a taint after an entry: if the exchange is in flight, it says whether the target
--- was changed, and otherwise it stays as before
-pub record IsTaint (setting : Setting) (history : List Deed) (e : Deed) (x : Numbered Exchange) (b : Bool) : Type 0 where
-  pub flying : is_flying x.1.state ≡ true → (since : Place) → IsPlaceOf history since → IsTold x.1.tainted setting x.1.key.target since history → IsTold b setting x.1.key.target since (e ∷ history)
+-- what is known of a taint after an observation: if the exchange is in flight, it says whether the
+-- target was changed, and otherwise it stays as before
+pub record IsTaint (setting : Setting) (history : List Action) (e : Action) (x : Numbered Exchange) (b : Bool) : Type 0 where
+  pub flying : is_flying x.1.state ≡ true → (since : Position) → IsPositionOf history since → IsTold x.1.tainted setting x.1.key.target since history → IsTold b setting x.1.key.target since (e ∷ history)
   pub resting : is_flying x.1.state ≡ false → b ≡ x.1.tainted
 
--- an exchange in flight stays so at an entry that acts on another one
-flight_frame : (setting : Setting) (history : List Deed) (e : Deed) (x : Numbered Exchange) (b : Bool) → e.act ≢ moves x.0 → is_flying x.1.state ≡ true → IsTaint setting history e x b → IsInFlight setting history x → IsInFlight setting (e ∷ history) (with_taint b x)
+-- an exchange in flight stays so at an observation that acts on another one
+flight_frame : (setting : Setting) (history : List Action) (e : Action) (x : Numbered Exchange) (b : Bool) → e.act ≢ moves x.0 → is_flying x.1.state ≡ true → IsTaint setting history e x b → IsInFlight setting history x → IsInFlight setting (e ∷ history) (with_taint b x)
 flight_frame setting history e x b other flying taint s =
     record {
       sending = s.sending;
@@ -155,8 +155,8 @@ flight_frame setting history e x b other flying taint s =
       unended = ((λ h. other h.act), s.unended);
     }
 
--- its state stays right at an entry that acts on another one
-state_frame : (setting : Setting) (history : List Deed) (e : Deed) (x : Numbered Exchange) (b : Bool) (s : ExchangeState) → x.1.state ≡ s → e.act ≢ moves x.0 → IsTaint setting history e x b → IsState setting history x s → IsState setting (e ∷ history) (with_taint b x) s
+-- its state stays right at an observation that acts on another one
+state_frame : (setting : Setting) (history : List Action) (e : Action) (x : Numbered Exchange) (b : Bool) (s : ExchangeState) → x.1.state ≡ s → e.act ≢ moves x.0 → IsTaint setting history e x b → IsState setting history x s → IsState setting (e ∷ history) (with_taint b x) s
 state_frame setting history e x b Queued is other taint s =
     record {
       unsent = s.unsent;
@@ -177,8 +177,8 @@ state_frame setting history e x b (Done answer) is other taint s =
       was_sent = sent_frame setting history x.0 x.1.key x.1.form x.1.sending e (sends-stay (moves x.0) history e other) s.was_sent;
     }
 
--- an exchange stays right at an entry that acts on another one
-pub exchange_tainted : (setting : Setting) (history : List Deed) (e : Deed) (x : Numbered Exchange) (b : Bool) → e.act ≢ moves x.0 → IsTaint setting history e x b → IsExchangeOf setting history x → IsExchangeOf setting (e ∷ history) (with_taint b x)
+-- an exchange stays right at an observation that acts on another one
+pub exchange_tainted : (setting : Setting) (history : List Action) (e : Action) (x : Numbered Exchange) (b : Bool) → e.act ≢ moves x.0 → IsTaint setting history e x b → IsExchangeOf setting history x → IsExchangeOf setting (e ∷ history) (with_taint b x)
 exchange_tainted setting history e x b other taint f =
     record {
       opened = opened-later e f.opened;
@@ -195,12 +195,12 @@ exchange_tainted setting history e x b other taint f =
     }
 
 -- so it stays right without a taint if no answer is accepted
-pub exchange_frame : (setting : Setting) (history : List Deed) (e : Deed) (x : Numbered Exchange) → takes e.entry.report.outcome ≡ false → e.act ≢ moves x.0 → IsExchangeOf setting history x → IsExchangeOf setting (e ∷ history) x
+pub exchange_frame : (setting : Setting) (history : List Action) (e : Action) (x : Numbered Exchange) → takes e.observation.report.outcome ≡ false → e.act ≢ moves x.0 → IsExchangeOf setting history x → IsExchangeOf setting (e ∷ history) x
 exchange_frame setting history e x none other f =
     exchange_tainted setting history e x x.1.tainted other (record { flying = λ flying since at told. told-stays x.1.tainted setting x.1.key.target since history e none told; resting = λ resting. refl }) f
 
--- all exchanges stay right at an entry that accepts no answer and acts on none of them
-pub exchanges_frame : (setting : Setting) (history : List Deed) (e : Deed) (xs : List (Numbered Exchange)) → takes e.entry.report.outcome ≡ false → ((x : ℕ) → e.act ≢ moves x)
+-- all exchanges stay right at an observation that accepts no answer and acts on none of them
+pub exchanges_frame : (setting : Setting) (history : List Action) (e : Action) (xs : List (Numbered Exchange)) → takes e.observation.report.outcome ≡ false → ((x : ℕ) → e.act ≢ moves x)
     → AllByRecursion (IsExchangeOf setting history) xs → AllByRecursion (IsExchangeOf setting (e ∷ history)) xs
 exchanges_frame setting history e xs none other all =
     All-weaken (IsExchangeOf setting history) (IsExchangeOf setting (e ∷ history)) xs (λ x f. exchange_frame setting history e x none (other x.0) f) all
@@ -212,7 +212,7 @@ abbrev pub tainted_here : List Target → Numbered Exchange → Numbered Exchang
 tainted_here changed x = with_taint (x.1.tainted || (is_flying x.1.state && concerns changed x.1.key.target)) x
 
 -- another exchange is tainted exactly if its target was changed
-pub exchange_changed : {setting : Setting} {n : ℕ} (history : List Deed) (e : Deed) (x : Numbered Exchange) (gets : Gets setting n (here history e)) → e.act ≢ moves x.0 → IsExchangeOf setting history x → IsExchangeOf setting (e ∷ history) (tainted_here (changed_by (key_asked gets).target gets.meets.message) x)
+pub exchange_changed : {setting : Setting} {n : ℕ} (history : List Action) (e : Action) (x : Numbered Exchange) (gets : Gets setting n (here history e)) → e.act ≢ moves x.0 → IsExchangeOf setting history x → IsExchangeOf setting (e ∷ history) (tainted_here (changed_by (key_asked gets).target gets.meets.message) x)
 exchange_changed {setting} history e x gets other f =
     exchange_tainted setting history e x _ other (
     record {
@@ -265,8 +265,8 @@ tainted-all (t ∷ changed) xs = tainted-all changed (all_changed (tainted_by t)
 
 -- ---- clients
 
--- a client stays right at an entry that doesn't serve it
-pub waiter_frame : (setting : Setting) (history : List Deed) (e : Deed) (v : Numbered Waiter) → e.act ≢ serves v.0 → IsWaiterOf setting history v → IsWaiterOf setting (e ∷ history) v
+-- a client stays right at an observation that doesn't serve it
+pub waiter_frame : (setting : Setting) (history : List Action) (e : Action) (v : Numbered Waiter) → e.act ≢ serves v.0 → IsWaiterOf setting history v → IsWaiterOf setting (e ∷ history) v
 waiter_frame setting history e v other f = go v.1.state f
   where
     go : (s : WaiterState) → IsWaiterIn setting history v s → IsWaiterIn setting (e ∷ history) v s
@@ -292,7 +292,7 @@ waiter_frame setting history e v other f = go v.1.state f
           serving = g.serving;
           was_served = inr g.was_served;
           is_serving = g.is_serving;
-          only = λ p at s. ⊎_elim (λ (same : here history e ≡ p). absurd (other (subst (λ (q : Place). q.deed.act ≡ serves v.0) (sym same) s.act))) (λ (there : IsPlaceOf history p). g.only p there s) at;
+          only = λ p at s. ⊎_elim (λ (same : here history e ≡ p). absurd (other (subst (λ (q : Position). q.action.act ≡ serves v.0) (sym same) s.act))) (λ (there : IsPositionOf history p). g.only p there s) at;
           sent = g.sent;
           answer = g.answer;
           spells = g.spells;
@@ -305,15 +305,15 @@ waiter_frame setting history e v other f = go v.1.state f
           tags_gone = g.tags_gone;
         }
 
--- all clients stay right at an entry that serves none of them
-pub waiters_frame : (setting : Setting) (history : List Deed) (e : Deed) (vs : List (Numbered Waiter)) → ((v : ℕ) → e.act ≢ serves v) → AllByRecursion (IsWaiterOf setting history) vs → AllByRecursion (IsWaiterOf setting (e ∷ history)) vs
+-- all clients stay right at an observation that serves none of them
+pub waiters_frame : (setting : Setting) (history : List Action) (e : Action) (vs : List (Numbered Waiter)) → ((v : ℕ) → e.act ≢ serves v) → AllByRecursion (IsWaiterOf setting history) vs → AllByRecursion (IsWaiterOf setting (e ∷ history)) vs
 waiters_frame setting history e vs other all =
     All-weaken (IsWaiterOf setting history) (IsWaiterOf setting (e ∷ history)) vs (λ v f. waiter_frame setting history e v (other v.0) f) all
 
 -- ---- numbers that aren't used yet
 
--- unused numbers stay unused at an entry that doesn't act on them
-pub unused_frame : (setting : Setting) (history : List Deed) (e : Deed) → ((x : ℕ) → opened_in history < x → e.act ≢ moves x) → ((v : ℕ) → admitted_in history < v → e.act ≢ serves v) → AreUnused setting history → AreUnused setting (e ∷ history)
+-- unused numbers stay unused at an observation that doesn't act on them
+pub unused_frame : (setting : Setting) (history : List Action) (e : Action) → ((x : ℕ) → opened_in history < x → e.act ≢ moves x) → ((v : ℕ) → admitted_in history < v → e.act ≢ serves v) → AreUnused setting history → AreUnused setting (e ∷ history)
 unused_frame setting history e exchanges clients u =
     record {
       exchanges = λ x above.
@@ -329,11 +329,11 @@ unused_frame setting history e exchanges clients u =
 -- ---- schedules
 
 -- schedules stay if nothing is sent
-pub schedules_frame : (history : List Deed) (e : Deed) → is_sending e.entry.report.outcome ≡ false → AreSchedules history → AreSchedules (e ∷ history)
+pub schedules_frame : (history : List Action) (e : Action) → is_sending e.observation.report.outcome ≡ false → AreSchedules history → AreSchedules (e ∷ history)
 schedules_frame history e quiet s act = subst IsSchedule (sym (sends-quiet act history e quiet)) (s act)
 
 -- and if the schedule of what is sent continues
-pub schedules_with : (history : List Deed) (e : Deed) → IsSchedule (sends_by e.act (e ∷ history)) → AreSchedules history → AreSchedules (e ∷ history)
+pub schedules_with : (history : List Action) (e : Action) → IsSchedule (sends_by e.act (e ∷ history)) → AreSchedules history → AreSchedules (e ∷ history)
 schedules_with history e grown s act = go (same_act act e.act) refl
   where
     go : (b : Bool) → same_act act e.act ≡ b → IsSchedule (sends_by act (e ∷ history))
@@ -342,18 +342,18 @@ schedules_with history e grown s act = go (same_act act e.act) refl
 
 -- ---- what was opened and what was admitted
 
--- an exchange was opened before an entry that opens nothing
-pub opened-before : (history : List Deed) (e : Deed) (x : ℕ) → opens_one e.entry.report.outcome ≡ 0 → Somewhere (Opens x) (e ∷ history) → Somewhere (Opens x) history
+-- an exchange was opened before an observation that opens nothing
+pub opened-before : (history : List Action) (e : Action) (x : ℕ) → opens_one e.observation.report.outcome ≡ 0 → Somewhere (Opens x) (e ∷ history) → Somewhere (Opens x) history
 opened-before history e x none s =
     ⊎_elim
-    (λ (same : here history e ≡ s.place). let h = subst (Opens x) (sym same) s.holds in let one = ap opens_one h.0 in absurd (omega arith))
-    (λ there. record { place = s.place; is_there = there; holds = s.holds })
+    (λ (same : here history e ≡ s.position). let h = subst (Opens x) (sym same) s.holds in let one = ap opens_one h.0 in absurd (omega arith))
+    (λ there. record { position = s.position; is_there = there; holds = s.holds })
     s.is_there
 
--- a client was admitted before an entry that admits nobody
-pub admitted-before : (history : List Deed) (e : Deed) (v x : ℕ) → admits_one e.entry.report.outcome ≡ 0 → Somewhere (Admits v x) (e ∷ history) → Somewhere (Admits v x) history
+-- a client was admitted before an observation that admits nobody
+pub admitted-before : (history : List Action) (e : Action) (v x : ℕ) → admits_one e.observation.report.outcome ≡ 0 → Somewhere (Admits v x) (e ∷ history) → Somewhere (Admits v x) history
 admitted-before history e v x none s =
     ⊎_elim
-    (λ (same : here history e ≡ s.place). let h = subst (Admits v x) (sym same) s.holds in let one = h.outcome in absurd (omega arith))
-    (λ there. record { place = s.place; is_there = there; holds = s.holds })
+    (λ (same : here history e ≡ s.position). let h = subst (Admits v x) (sym same) s.holds in let one = h.outcome in absurd (omega arith))
+    (λ there. record { position = s.position; is_there = there; holds = s.holds })
     s.is_there

@@ -20,13 +20,13 @@ use Rattle.coap_model.specs.Verdicts.{may_ask}
 use Rattle.coap_forward.specs.Messages.{is_con, is_get, at_once}
 use Rattle.coap_model.specs.State.{State, remembers, next_id, can_reply}
 use Rattle.coap_model.specs.Requests.{hits}
-use Rattle.coap_model.specs.History.{gives_id, no_item, Deed}
+use Rattle.coap_model.specs.History.{gives_id, no_item, Action}
 use Rattle.coap_model.specs.Changed.{IsTold}
 use Rattle.coap_model.specs.Cached.{Cached, IsStoreOf, IsEntryOf}
 use Rattle.coap_model.specs.Justified.{IsUsable}
-use Rattle.coap_model.specs.Runs.{entry_of}
+use Rattle.coap_model.specs.Runs.{observation_of}
 use Rattle.coap_model.specs.Carries.{Bears}
-use Rattle.coap_model.proofs.Places.{doing}
+use Rattle.coap_model.proofs.Positions.{doing}
 use Rattle.coap_model.proofs.Quiet.{keeps_still}
 use Rattle.coap_model.proofs.OwnReplies.{at_once-is, at_once-long}
 use Rattle.coap_model.proofs.Remembering.{first-new, first-remembered}
@@ -41,7 +41,7 @@ use Rattle.coap_model.proofs.Verdicts.{askable}
 -- ---- what is sent of an entry
 
 -- the entry that is stored for a key, according to the history
-module _ (w : State) (history : List Deed) (c : Bears history w) (key : CacheKey) (entry : Entry) (found : of_key entry_key key w.store ≡ Some entry) where
+module _ (w : State) (history : List Action) (c : Bears history w) (key : CacheKey) (entry : Entry) (found : of_key entry_key key w.store ≡ Some entry) where
   abbrev pub cached-entry : IsEntryOf w.setting history c.store.cached key entry
   cached-entry = found-cached w.setting history w.store c.store.cached key entry c.store.each found
 
@@ -66,7 +66,7 @@ unmarked true e = absurd cc
 unmarked false e = refl
 
 -- a usable entry of the store is a usable entry of the cache
-usable-entry : (setting : Setting) (history : List Deed) (cached : List Cached) (key : CacheKey) (entry : Entry) (now : ℕ) (f : IsEntryOf setting history cached key entry) → is_usable now entry.1 ≡ true → IsUsable setting history now f.entry
+usable-entry : (setting : Setting) (history : List Action) (cached : List Cached) (key : CacheKey) (entry : Entry) (now : ℕ) (f : IsEntryOf setting history cached key entry) → is_usable now entry.1 ≡ true → IsUsable setting history now f.entry
 usable-entry setting history cached key entry now f usable =
     let parts = and_parts (is_fresh now entry.1) (not entry.1.marked) usable in
     record {
@@ -75,17 +75,17 @@ usable-entry setting history cached key entry now f usable =
     }
 
 -- a hit preserves what is carried
-pub keeps_hitting : (w : State) (history : List Deed) (c : Bears history w) (now draw : ℕ) (client : Endpoint) (bytes : List ℕ) (m : Message) (key : CacheKey) (entry : Entry) → w.last ≤ now → IsFirst w now client bytes m → is_get m.code ≡ true → verdict_in w m ≡ may_ask key → of_key entry_key key w.store ≡ Some entry → is_usable now entry.1 ≡ true → can_reply w now m.kind ≡ true
-    → Bears (doing no_item (entry_of now draw (arrival client bytes) (hits w now client m key entry.1)) ∷ history) (remembers now client m (hits w now client m key entry.1)).state
+pub keeps_hitting : (w : State) (history : List Action) (c : Bears history w) (now draw : ℕ) (client : Endpoint) (bytes : List ℕ) (m : Message) (key : CacheKey) (entry : Entry) → w.last ≤ now → IsFirst w now client bytes m → is_get m.code ≡ true → verdict_in w m ≡ may_ask key → of_key entry_key key w.store ≡ Some entry → is_usable now entry.1 ≡ true → can_reply w now m.kind ≡ true
+    → Bears (doing no_item (observation_of now draw (arrival client bytes) (hits w now client m key entry.1)) ∷ history) (remembers now client m (hits w now client m key entry.1)).state
 keeps_hitting w history c now draw client bytes m key entry onward first get verdict found usable free =
     let s = hits w now client m key entry.1 in
-    let e = doing no_item (entry_of now draw (arrival client bytes) s) in
+    let e = doing no_item (observation_of now draw (arrival client bytes) s) in
     let came = request-came w client bytes m first.fits first.asked in
     let may = askable w.setting.routes m c.routes key verdict in
     let f = cached-entry w history c key entry found in
     let reply = shown now (stored_answer entry.1) (next_id w) m.token (tags_of m) in
     let spells : Spells s.bytes (at_once m reply) = spelled (at_once m reply) (at_once-is m reply (hit-is w history c key entry found now (next_id w) m.token (tags_of m) came.brings.spells.message.token)) in
-    let gives : gives_id e.entry ≡ (if is_con m.kind then 0 else 1) = ap (λ (b : Bool). if b then 0 else 1) (takes-ids w history c now draw client bytes m onward first) in
+    let gives : gives_id e.observation ≡ (if is_con m.kind then 0 else 1) = ap (λ (b : Bool). if b then 0 else 1) (takes-ids w history c now draw client bytes m onward first) in
     let stored : IsStoreOf w.setting (e ∷ history) (used entry_key key w.store) =
     subst (λ (k : CacheKey). IsStoreOf w.setting (e ∷ history) (used entry_key k w.store)) (sym may.key_is)
     (store-hit w.setting history w.store e client m key.target entry refl came.brings may.target_is (subst (λ (k : CacheKey). of_key entry_key k w.store ≡ Some entry) may.key_is found) c.store)
@@ -109,7 +109,7 @@ keeps_hitting w history c now draw client bytes m key entry onward first get ver
         usable = usable-entry w.setting history c.store.cached key entry now f usable;
         new = first-new w history c now client bytes m onward first;
         ids = has-id w history c now draw client bytes m onward first free;
-        tells = record { sent = refl; spells = subst (λ (s : Entry). Spells e.entry.bytes (at_once m (shown now (stored_answer s.1) (next_id w) m.token (tags_of m)))) f.stored_is.same spells };
+        tells = record { sent = refl; spells = subst (λ (s : Entry). Spells e.observation.bytes (at_once m (shown now (stored_answer s.1) (next_id w) m.token (tags_of m)))) f.stored_is.same spells };
       },
       c.past,
     )

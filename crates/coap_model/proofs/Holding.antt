@@ -38,7 +38,7 @@ use Rattle.coap_model.specs.Keys.{request_key}
 use Rattle.coap_model.specs.Cached.{kept_for}
 use Rattle.coap_store.specs.declared.stored.Stored.{Stored}
 use Rattle.coap_model.specs.State.{State}
-use Rattle.coap_model.specs.History.{Deed}
+use Rattle.coap_model.specs.History.{Action}
 use Rattle.coap_model.specs.Carries.{form_id, copy_for, IsState, IsExchangeOf, IsWaiterIn, IsWaiterOf, Bears}
 use Rattle.coap_endpoint.specs.Target.{IsShort, IsTarget}
 use Rattle.coap_forward.proofs.Forms.{AreUnused, IsTag, filter-put_in, in_key, short-tag, sent-unused, tagged-options, tagged-unused, AreOptions-merged, target-options, sent-options, with_id-forwarded, length-with_id}
@@ -266,7 +266,7 @@ tags-held side low passed (o ∷ os) = go (is_of side 4 (record { option = o; be
 -- ---- each element, and all of them
 
 -- what an exchange holds is within its share of the bound
-exchange-held : (setting : Setting) (history : List Deed) → AreRoutes setting.routes → (x : Numbered Exchange) → IsExchangeOf setting history x → exchange_bytes x ≤ 4 * setting.limits.datagram + 256
+exchange-held : (setting : Setting) (history : List Action) → AreRoutes setting.routes → (x : Numbered Exchange) → IsExchangeOf setting history x → exchange_bytes x ≤ 4 * setting.limits.datagram + 256
 exchange-held setting history routes x f = go x.1.state f.state
   where
     most : ℕ
@@ -305,7 +305,7 @@ exchange-held setting history routes x f = go x.1.state f.state
     go (Done a) state = omega (arith, key, copy, f.form_short, holdable-held most a.message (ending-holdable setting x.0 x.1.key state.ending a state.with))
 
 -- what a waiter holds is within its share
-waiter-held : (setting : Setting) (history : List Deed) (v : Numbered Waiter) → IsWaiterOf setting history v → waiter_bytes v ≤ setting.limits.datagram + 256
+waiter-held : (setting : Setting) (history : List Action) (v : Numbered Waiter) → IsWaiterOf setting history v → waiter_bytes v ≤ setting.limits.datagram + 256
 waiter-held setting history v f = go v.1.state refl f
   where
     go : (s : WaiterState) → v.1.state ≡ s → IsWaiterIn setting history v s → waiter_bytes v ≤ setting.limits.datagram + 256
@@ -323,7 +323,7 @@ waiter-held setting history v f = go v.1.state refl f
         omega (arith, ap length g.token_gone, tags, answer, short)
 
 -- so everything that is held is within the bound
-pub within-bound : (history : List Deed) (w : State) → Bears history w → held w ≤ most_held w.setting.limits
+pub within-bound : (history : List Action) (w : State) → Bears history w → held w ≤ most_held w.setting.limits
 within-bound history w c =
     let d = w.setting.limits.datagram in
     let xs = sum_by-le exchange_bytes (4 * d + 256) w.exchanges (All-from_recursion (λ x. exchange_bytes x ≤ 4 * d + 256) w.exchanges (All-weaken (IsExchangeOf w.setting history) (λ x. exchange_bytes x ≤ 4 * d + 256) w.exchanges (exchange-held w.setting history c.routes) c.exchanges)) in

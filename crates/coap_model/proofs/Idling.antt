@@ -13,31 +13,31 @@ use Rattle.coap_model.specs.declared.due.DueItem.TheVariants.{OfExchange, OfWait
 use Rattle.coap_model.specs.Events.{tick}
 use Rattle.coap_model.specs.State.{State}
 use Rattle.coap_model.specs.Ticks.{item_due, if_due, idles}
-use Rattle.coap_model.specs.History.{no_item, Deed}
-use Rattle.coap_model.specs.Runs.{entry_of}
+use Rattle.coap_model.specs.History.{no_item, Action}
+use Rattle.coap_model.specs.Runs.{observation_of}
 use Rattle.coap_model.specs.Carries.{HasNumber, Bears}
 use Rattle.coap_model.proofs.Acting.{due_of, idling-due, turn-is, exchange-turn, client-turn}
 use Rattle.coap_model.proofs.FirstDue.{first_due-holds}
 use Rattle.coap_model.proofs.Lists.{Has, Has-all}
-use Rattle.coap_model.proofs.Places.{doing}
+use Rattle.coap_model.proofs.Positions.{doing}
 use Rattle.coap_model.proofs.Quiet.{keeps_quiet}
 use Rattle.coap_model.proofs.Rules.{IsStuck, no_exchange, acknowledged, answered, no_waiter, unanswered}
 use Rattle.coap_model.proofs.Tables.{Has-number, item-Has, item-none, one-item}
 use Rattle.coap_model.proofs.Turns.{turn-due}
 
 -- an idle tick preserves what is carried
-pub keeps_idling : (w : State) (history : List Deed) (c : Bears history w) (now draw : ℕ) → w.last ≤ now → if_due now (item_due w) ≡ None → Bears (doing no_item (entry_of now draw tick (idles w now)) ∷ history) (idles w now).state
+pub keeps_idling : (w : State) (history : List Action) (c : Bears history w) (now draw : ℕ) → w.last ≤ now → if_due now (item_due w) ≡ None → Bears (doing no_item (observation_of now draw tick (idles w now)) ∷ history) (idles w now).state
 keeps_idling w history c now draw onward nothing =
-    let e = doing no_item (entry_of now draw tick (idles w now)) in
+    let e = doing no_item (observation_of now draw tick (idles w now)) in
     keeps_quiet w history c e (record { act = refl; opens = refl; admits = refl; sends = refl; takes = refl; leaves_open = λ standing xs. refl; stands = λ standing. refl }) refl (λ k. refl) onward refl
     (record { act = refl; ticked = refl; nothing = idling-due w history c now nothing; silent = record { sent = refl; bytes = refl } }, c.past)
 
 -- the client that is due first exists, and is due from its moment on
-pub client-there : (w : State) (history : List Deed) → Bears history w → (now at number : ℕ) → if_due now (item_due w) ≡ Some (OfWaiter at number) → (u : Numbered Waiter) × Has u w.waiters × (u.0 ≡ number) × (due_after w.exchanges u.1 ≡ Some at)
+pub client-there : (w : State) (history : List Action) → Bears history w → (now at number : ℕ) → if_due now (item_due w) ≡ Some (OfWaiter at number) → (u : Numbered Waiter) × Has u w.waiters × (u.0 ≡ number) × (due_after w.exchanges u.1 ≡ Some at)
 client-there w history c now at number due = first_due-holds (λ u. Has u w.waiters) (due_after w.exchanges) w.waiters (at, number) (Has-all w.waiters) (client-turn w history c at number (turn-is w history c now (OfWaiter at number) due).0)
 
 -- the cases that never occur
-pub not-stuck : {A : Type 0} (w : State) (history : List Deed) → Bears history w → (now : ℕ) → IsStuck w now → A
+pub not-stuck : {A : Type 0} (w : State) (history : List Action) → Bears history w → (now : ℕ) → IsStuck w now → A
 not-stuck w history c now (no_exchange at number due none) =
     let d = first_due-holds (λ y. Has y w.exchanges) (due_of w) w.exchanges (at, number) (Has-all w.exchanges) (exchange-turn w history c at number (turn-is w history c now (OfExchange at number) due).0) in
     absurd (item-none number w.exchanges none (subst (λ (n : ℕ). HasNumber n w.exchanges) d.2 (Has-number w.exchanges d.0 d.1)))

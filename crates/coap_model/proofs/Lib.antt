@@ -1,4 +1,4 @@
-pub mod Places
+pub mod Positions
 pub mod Changing
 pub mod Lists
 pub mod FirstDue
@@ -16,7 +16,7 @@ pub mod Showing
 pub mod Verdicts
 pub mod OwnReplies
 pub mod Rules
-pub mod TakingUp
+pub mod Accepting
 pub mod Remembering
 pub mod Pairs
 pub mod Cached

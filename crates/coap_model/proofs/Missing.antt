@@ -19,7 +19,7 @@ use Rattle.coap_pending.specs.Table.{Numbered, first_that}
 use Rattle.coap_model.specs.Setting.{Setting}
 use Rattle.coap_model.specs.Verdicts.{may_ask}
 use Rattle.coap_model.specs.State.{State}
-use Rattle.coap_model.specs.History.{Deed, Place, IsPlaceOf, Never, Sends, Asks, Ends}
+use Rattle.coap_model.specs.History.{Action, Position, IsPositionOf, Never, Sends, Asks, Ends}
 use Rattle.coap_forward.specs.Messages.{is_get}
 use Rattle.coap_store.specs.Entries.{Entry}
 use Rattle.coap_model.specs.Changed.{Unchanged, IsTold}
@@ -29,7 +29,7 @@ use Rattle.coap_model.specs.Carries.{HasNumber, IsInFlight, IsState, IsExchangeO
 use Rattle.coap_model.proofs.Rules as rules
 use Rattle.coap_model.proofs.Rules.{IsMissed, IsDenied, IsFull}
 use Rattle.coap_model.proofs.Lists.{find-holds, Has, All-there, Has-holds}
-use Rattle.coap_model.proofs.Places.{Never-at, first-once, one-opened}
+use Rattle.coap_model.proofs.Positions.{Never-at, first-once, one-opened}
 use Rattle.coap_model.proofs.Room.{join-none, room-none}
 use Rattle.coap_model.proofs.Tables.{Has-number, at-number}
 use Rattle.coap_model.proofs.Stores.{cached-found}
@@ -41,7 +41,7 @@ usable-of true false e f = absurd cc
 usable-of false marked e f = absurd cc
 
 -- if the store has no usable entry, the cache has none
-pub missed : (w : State) (history : List Deed) (c : Bears history w) (now : ℕ) (key : CacheKey) → IsMissed w now key → IsMiss w.setting history key now
+pub missed : (w : State) (history : List Action) (c : Bears history w) (now : ℕ) (key : CacheKey) → IsMissed w now key → IsMiss w.setting history key now
 missed w history c now key none =
     let s = c.store in
     record {
@@ -57,40 +57,40 @@ missed w history c now key none =
 -- ---- exchanges that may be joined
 
 -- an exchange without an answer hasn't ended
-unended-missing : (setting : Setting) (history : List Deed) (x : Numbered Exchange) (s : ExchangeState) → IsState setting history x s → is_missing (answer_in_state s) ≡ true → Never (Ends x.0) history
+unended-missing : (setting : Setting) (history : List Action) (x : Numbered Exchange) (s : ExchangeState) → IsState setting history x s → is_missing (answer_in_state s) ≡ true → Never (Ends x.0) history
 unended-missing setting history x Queued s none = s.unended
 unended-missing setting history x Sent s none = s.unended
 unended-missing setting history x Acked s none = s.unended
 unended-missing setting history x (Done a) s none = absurd cc
 
 -- and an exchange that hasn't ended has no answer
-missing-unended : (setting : Setting) (history : List Deed) (x : Numbered Exchange) (s : ExchangeState) → IsState setting history x s → Never (Ends x.0) history → is_missing (answer_in_state s) ≡ true
+missing-unended : (setting : Setting) (history : List Action) (x : Numbered Exchange) (s : ExchangeState) → IsState setting history x s → Never (Ends x.0) history → is_missing (answer_in_state s) ≡ true
 missing-unended setting history x Queued s never = refl
 missing-unended setting history x Sent s never = refl
 missing-unended setting history x Acked s never = refl
 missing-unended setting history x (Done a) s never = absurd (Never-at (Ends x.0) history s.ending never s.was_ended s.ends)
 
 -- the target of an exchange that isn't tainted wasn't changed since its request was sent
-unchanged-flight : (setting : Setting) (history : List Deed) (x : Numbered Exchange) → IsInFlight setting history x → x.1.tainted ≡ false → (asking : Place) → IsPlaceOf history asking → Asks setting.salt x.0 asking → Unchanged setting x.1.key.target asking history
+unchanged-flight : (setting : Setting) (history : List Action) (x : Numbered Exchange) → IsInFlight setting history x → x.1.tainted ≡ false → (asking : Position) → IsPositionOf history asking → Asks setting.salt x.0 asking → Unchanged setting x.1.key.target asking history
 unchanged-flight setting history x s clean asking at asks =
     let own = first-once (Sends setting.salt x.0) history s.asked.asking asking s.asked.was_asked at s.asked.asks.sends asks.sends s.asked.asks.first asks.first in
-    subst (λ (p : Place). Unchanged setting x.1.key.target p history) own (subst (λ (b : Bool). IsTold b setting x.1.key.target s.asked.asking history) clean s.told)
+    subst (λ (p : Position). Unchanged setting x.1.key.target p history) own (subst (λ (b : Bool). IsTold b setting x.1.key.target s.asked.asking history) clean s.told)
 
-unchanged-since : (setting : Setting) (history : List Deed) (x : Numbered Exchange) (s : ExchangeState) → IsState setting history x s → is_missing (answer_in_state s) ≡ true → x.1.tainted ≡ false → (asking : Place) → IsPlaceOf history asking → Asks setting.salt x.0 asking → Unchanged setting x.1.key.target asking history
+unchanged-since : (setting : Setting) (history : List Action) (x : Numbered Exchange) (s : ExchangeState) → IsState setting history x s → is_missing (answer_in_state s) ≡ true → x.1.tainted ≡ false → (asking : Position) → IsPositionOf history asking → Asks setting.salt x.0 asking → Unchanged setting x.1.key.target asking history
 unchanged-since setting history x Queued s none clean asking at asks = absurd (Never-at (Sends setting.salt x.0) history asking s.never_sent at asks.sends)
 unchanged-since setting history x Sent s none clean asking at asks = unchanged-flight setting history x s clean asking at asks
 unchanged-since setting history x Acked s none clean asking at asks = unchanged-flight setting history x s clean asking at asks
 unchanged-since setting history x (Done a) s none clean asking at asks = absurd cc
 
 -- and an exchange whose target wasn't changed since its request was sent isn't tainted
-pub clean-flight : (setting : Setting) (history : List Deed) (x : Numbered Exchange) (s : IsInFlight setting history x) → Unchanged setting x.1.key.target s.asked.asking history → x.1.tainted ≡ false
+pub clean-flight : (setting : Setting) (history : List Action) (x : Numbered Exchange) (s : IsInFlight setting history x) → Unchanged setting x.1.key.target s.asked.asking history → x.1.tainted ≡ false
 clean-flight setting history x s same = go x.1.tainted refl
   where
     go : (b : Bool) → x.1.tainted ≡ b → b ≡ false
     go false e = refl
     go true e = absurd (told-contrary s.asked.asking same (subst (λ (b : Bool). IsTold b setting x.1.key.target s.asked.asking history) e s.told))
 
-clean-since : (setting : Setting) (history : List Deed) (x : Numbered Exchange) (s : ExchangeState) → IsState setting history x s → is_missing (answer_in_state s) ≡ true → ((asking : Place) → IsPlaceOf history asking → Asks setting.salt x.0 asking → Unchanged setting x.1.key.target asking history) → x.1.tainted ≡ false
+clean-since : (setting : Setting) (history : List Action) (x : Numbered Exchange) (s : ExchangeState) → IsState setting history x s → is_missing (answer_in_state s) ≡ true → ((asking : Position) → IsPositionOf history asking → Asks setting.salt x.0 asking → Unchanged setting x.1.key.target asking history) → x.1.tainted ≡ false
 clean-since setting history x Queued s none same = s.untainted
 clean-since setting history x Sent s none same = clean-flight setting history x s (same s.asked.asking s.asked.was_asked s.asked.asks)
 clean-since setting history x Acked s none same = clean-flight setting history x s (same s.asked.asking s.asked.was_asked s.asked.asks)
@@ -101,7 +101,7 @@ not-true true e = absurd cc
 not-true false e = refl
 
 -- the exchange that the search finds may be joined according to the history, and is there
-pub joinable-found : (w : State) (history : List Deed) (c : Bears history w) (key : CacheKey) (n : ℕ) → first_that (is_joinable key) w.exchanges ≡ Some n → IsJoinable w.setting history key n × HasNumber n w.exchanges
+pub joinable-found : (w : State) (history : List Action) (c : Bears history w) (key : CacheKey) (n : ℕ) → first_that (is_joinable key) w.exchanges ≡ Some n → IsJoinable w.setting history key n × HasNumber n w.exchanges
 joinable-found w history c key n e = go (find (λ (x : Numbered Exchange). is_joinable key x.1) w.exchanges) refl e
   where
     go : (o : Option (Numbered Exchange)) → find (λ (x : Numbered Exchange). is_joinable key x.1) w.exchanges ≡ o → option_map (λ (x : Numbered Exchange). x.0) o ≡ Some n → IsJoinable w.setting history key n × HasNumber n w.exchanges
@@ -124,13 +124,13 @@ joinable-found w history c key n e = go (find (λ (x : Numbered Exchange). is_jo
         )
 
 -- if the search finds none, none may be joined
-pub none-joinable : (w : State) (history : List Deed) (c : Bears history w) (key : CacheKey) → first_that (is_joinable key) w.exchanges ≡ None → (x : ℕ) → IsJoinable w.setting history key x → ⊥
+pub none-joinable : (w : State) (history : List Action) (c : Bears history w) (key : CacheKey) → first_that (is_joinable key) w.exchanges ≡ None → (x : ℕ) → IsJoinable w.setting history key x → ⊥
 none-joinable w history c key e x j = go (find (λ (y : Numbered Exchange). is_joinable key y.1) w.exchanges) refl e
   where
     go : (o : Option (Numbered Exchange)) → find (λ (y : Numbered Exchange). is_joinable key y.1) w.exchanges ≡ o → option_map (λ (y : Numbered Exchange). y.0) o ≡ None → ⊥
     go (Some y) is f = absurd cc
     go None is f =
-        let has = c.whole.unended x (record { place = j.opened.opening; is_there = j.opened.was_opened; holds = j.opened.opens }) j.unended in
+        let has = c.whole.unended x (record { position = j.opened.opening; is_there = j.opened.was_opened; holds = j.opened.opens }) j.unended in
         let there = at-number (IsExchangeOf w.setting history) x w.exchanges has c.exchanges in
         let y = there.0 in
         let own = there.2 in
@@ -148,17 +148,17 @@ none-joinable w history c key e x j = go (find (λ (y : Numbered Exchange). is_j
         same_asked a b f = cc
 
 -- so a request that has to be forwarded here has to be according to the history
-pub unanswered : (w : State) (history : List Deed) (c : Bears history w) (now : ℕ) (key : CacheKey) (m : Message) → rules.IsUnanswered w now key m → IsUnanswered w.setting history now key m
+pub unanswered : (w : State) (history : List Action) (c : Bears history w) (now : ℕ) (key : CacheKey) (m : Message) → rules.IsUnanswered w now key m → IsUnanswered w.setting history now key m
 unanswered w history c now key m none = record { miss = λ get. missed w history c now key (none.missed get); alone = λ get. none-joinable w history c key (none.alone get) }
 
 -- ---- why a request is turned away
 
 -- a request that is refused deserves its code
-pub deserves : (w : State) (history : List Deed) (c : Bears history w) (now : ℕ) (m : Message) (code : Code) → IsDenied w now m code → Deserves w.setting history now m code
+pub deserves : (w : State) (history : List Action) (c : Bears history w) (now : ℕ) (m : Message) (code : Code) → IsDenied w now m code → Deserves w.setting history now m code
 deserves w history c now m code (rules.by_verdict verdict) = by_verdict verdict
 deserves w history c now m code (rules.by_length key verdict none long is) = by_length key verdict (unanswered w history c now key m none) long is
 
 -- if the tables have no room for it, there is none according to the history
-pub lacks_room : (w : State) (history : List Deed) (c : Bears history w) (now : ℕ) (client : Endpoint) (key : CacheKey) (m : Message) → w.last ≤ now → IsFull w now client key m → LacksRoom w.setting history now client key m
+pub lacks_room : (w : State) (history : List Action) (c : Bears history w) (now : ℕ) (client : Endpoint) (key : CacheKey) (m : Message) → w.last ≤ now → IsFull w now client key m → LacksRoom w.setting history now client key m
 lacks_room w history c now client key m onward (rules.to_join exchange get none found full) = to_join exchange get (missed w history c now key none) (joinable-found w history c key exchange found).0 (join-none now client history w c onward full)
 lacks_room w history c now client key m onward (rules.to_open none short full) = to_open (unanswered w history c now key m none) short (room-none now client history w c onward full)

@@ -22,25 +22,25 @@ use Rattle.coap_model.specs.Cached.{IsStoreOf}
 use Rattle.coap_message.specs.declared.kind.Kind.TheVariants.{Con, Non}
 use Rattle.coap_dedup.specs.Records.{Records}
 use Rattle.coap_model.specs.State.{State, later}
-use Rattle.coap_model.specs.History.{moves, serves, Deed, opens_one, admits_one, takes, Gets}
+use Rattle.coap_model.specs.History.{moves, serves, Action, opens_one, admits_one, takes, Gets}
 use Rattle.coap_model.specs.Standing.{Standing, Open, standing_by, open_by, standing_in}
 use Rattle.coap_model.specs.Justified.{AllJustified}
 use Rattle.coap_model.specs.Carries.{HasNumber, HasExchange, stage_seen, Ids, IsExchangeOf, AreRemembered, AreSchedules, Bears}
 use Rattle.coap_model.proofs.Frames.{is_flying, tainted_here, tainted-all, exchange_changed, clock_frame, numbers_frame, exchange_frame, waiters_frame, unused_frame, opened-before, admitted-before}
 use Rattle.coap_model.proofs.Lists.{Has, All-map, All-there}
-use Rattle.coap_model.proofs.Places.{here, same_moves, opened-number}
+use Rattle.coap_model.proofs.Positions.{here, same_moves, opened-number}
 use Rattle.coap_model.proofs.Tables.{item-Has, one-item, changed-cases, HasNumber-changed, HasExchange-on}
 
--- what must hold of an entry that acts on the exchange with this number
-pub record IsMove (n : ℕ) (e : Deed) : Type 0 where
+-- what must hold of an observation that acts on the exchange with this number
+pub record IsMove (n : ℕ) (e : Action) : Type 0 where
   pub act : e.act ≡ moves n
-  pub opens : opens_one e.entry.report.outcome ≡ 0
-  pub admits : admits_one e.entry.report.outcome ≡ 0
-  pub stands : (standing : List Standing) → standing_by e.entry.report.outcome e.act e.entry.event e.entry.bytes standing ≡ standing
+  pub opens : opens_one e.observation.report.outcome ≡ 0
+  pub admits : admits_one e.observation.report.outcome ≡ 0
+  pub stands : (standing : List Standing) → standing_by e.observation.report.outcome e.act e.observation.event e.observation.bytes standing ≡ standing
 
 -- What is known of the exchanges before one of them changes: they are those of the table, except
 -- for taints, and the others are already right.
-pub record AreOthers (w : State) (history : List Deed) (e : Deed) (n : ℕ) (xs : List (Numbered Exchange)) : Type 0 where
+pub record AreOthers (w : State) (history : List Action) (e : Action) (n : ℕ) (xs : List (Numbered Exchange)) : Type 0 where
   pub rising : IsRising 0 xs
   pub many : length xs ≡ length w.exchanges
   pub seen : map stage_seen xs ≡ map stage_seen w.exchanges
@@ -49,7 +49,7 @@ pub record AreOthers (w : State) (history : List Deed) (e : Deed) (n : ℕ) (xs 
   pub others : AllByRecursion (λ y. y.0 ≢ n → IsExchangeOf w.setting (e ∷ history) y) xs
 
 -- if no answer is accepted, they are those of the table
-pub others-quiet : (w : State) (history : List Deed) (c : Bears history w) (e : Deed) (n : ℕ) → e.act ≡ moves n → takes e.entry.report.outcome ≡ false → AreOthers w history e n w.exchanges
+pub others-quiet : (w : State) (history : List Action) (c : Bears history w) (e : Action) (n : ℕ) → e.act ≡ moves n → takes e.observation.report.outcome ≡ false → AreOthers w history e n w.exchanges
 others-quiet w history c e n act none =
     record {
       rising = c.whole.rising;
@@ -61,7 +61,7 @@ others-quiet w history c e n act none =
     }
 
 -- if one is, they are tainted accordingly
-pub others-changed : (w : State) (history : List Deed) (c : Bears history w) (e : Deed) (n : ℕ) (gets : Gets w.setting n (here history e)) → AreOthers w history e n (tainted_all (changed_by (key_asked gets).target gets.meets.message) w.exchanges)
+pub others-changed : (w : State) (history : List Action) (c : Bears history w) (e : Action) (n : ℕ) (gets : Gets w.setting n (here history e)) → AreOthers w history e n (tainted_all (changed_by (key_asked gets).target gets.meets.message) w.exchanges)
 others-changed w history c e n gets = subst (AreOthers w history e n) (sym (tainted-all changed w.exchanges)) (
     record {
       rising = rises 0 w.exchanges c.whole.rising;
@@ -115,16 +115,16 @@ moved_state w now xs n f ids store con non =
     record (later w now) { exchanges = changed_at n f xs; ids = ids; store = store; con_records = con; non_records = non }
 
 -- such a step preserves what is carried
-pub keeps_moving : (w : State) (history : List Deed) (c : Bears history w) (e : Deed) (xs : List (Numbered Exchange)) (n : ℕ) (x : Exchange) (f : Exchange → Exchange) (ids : Given) (store : List cache.Entry) (con non : Records) → IsMove n e → AreOthers w history e n xs → item_at n xs ≡ Some x → w.last ≤ e.entry.now
+pub keeps_moving : (w : State) (history : List Action) (c : Bears history w) (e : Action) (xs : List (Numbered Exchange)) (n : ℕ) (x : Exchange) (f : Exchange → Exchange) (ids : Given) (store : List cache.Entry) (con non : Records) → IsMove n e → AreOthers w history e n xs → item_at n xs ≡ Some x → w.last ≤ e.observation.now
     → IsExchangeOf w.setting (e ∷ history) (n, f x)
-    → map stage_seen (changed_at n f xs) ≡ open_by e.entry.report.outcome e.act e.entry.event e.entry.report.send (standing_in (e ∷ history)) (map stage_seen xs)
-    → Ids (e ∷ history) (moved_state w e.entry.now xs n f ids store con non)
+    → map stage_seen (changed_at n f xs) ≡ open_by e.observation.report.outcome e.act e.observation.event e.observation.report.send (standing_in (e ∷ history)) (map stage_seen xs)
+    → Ids (e ∷ history) (moved_state w e.observation.now xs n f ids store con non)
     → AreSchedules (e ∷ history)
     → ((to : Endpoint) → count (is_sent_to to) (changed_at n f xs) ≤ w.setting.limits.nstart)
-    → ((now : ℕ) → e.entry.now ≤ now → given_in now ids + (count is_waiting w.waiters + count is_queued (changed_at n f xs)) ≤ 32768)
+    → ((now : ℕ) → e.observation.now ≤ now → given_in now ids + (count is_waiting w.waiters + count is_queued (changed_at n f xs)) ≤ 32768)
     → IsStoreOf w.setting (e ∷ history) store
     → AreRemembered w.setting (e ∷ history) Con con × AreRemembered w.setting (e ∷ history) Non non
-    → AllJustified w.setting (e ∷ history) → Bears (e ∷ history) (moved_state w e.entry.now xs n f ids store con non)
+    → AllJustified w.setting (e ∷ history) → Bears (e ∷ history) (moved_state w e.observation.now xs n f ids store con non)
 keeps_moving w history c e xs n x f ids store con non m are found onward new seen given schedules pace room stored remembered past =
     let opens = m.opens in
     let admits = m.admits in
@@ -138,7 +138,7 @@ keeps_moving w history c e xs n x f ids store con non m are found onward new see
       unused = unused_frame w.setting history e (λ y above same. let k = same_moves n y (sym m.act ∙ same) in omega (arith, k, above, number.1)) (λ v above. unserved v) c.unused;
       schedules = schedules;
       whole = record {
-        exchanges = seen ∙ ap (open_by e.entry.report.outcome e.act e.entry.event e.entry.report.send (standing_in (e ∷ history))) (are.seen ∙ c.whole.exchanges);
+        exchanges = seen ∙ ap (open_by e.observation.report.outcome e.act e.observation.event e.observation.report.send (standing_in (e ∷ history))) (are.seen ∙ c.whole.exchanges);
         waiters = c.whole.waiters ∙ sym (m.stands (standing_in history));
         rising = IsRising-changed_at n f 0 xs are.rising;
         waiters_rise = c.whole.waiters_rise;

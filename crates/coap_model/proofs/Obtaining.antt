@@ -33,7 +33,7 @@ use Rattle.coap_model.specs.declared.report.Outcome.TheVariants.{Answered, SentR
 use Rattle.coap_model.specs.declared.report.Storing.TheVariants.{Kept, TooLarge, NoMemory, NotStored}
 use Rattle.coap_model.specs.Setting.{Setting}
 use Rattle.coap_model.specs.Keys.{key_sent}
-use Rattle.coap_model.specs.History.{Deed, Place, takes, Opens, Sends, Matches, in_acknowledgement, separate, by_reset, Meets, Gets}
+use Rattle.coap_model.specs.History.{Action, Position, takes, Opens, Sends, Matches, in_acknowledgement, separate, by_reset, Meets, Gets}
 use Rattle.coap_model.specs.Changed.{asked_of, key_asked, to_get, Unchanged}
 use Rattle.coap_model.specs.Cached.{IsFetched, IsLasting, IsObtained, first_hand, validated as was_validated, Cached, cached_key, kept_for, copied, answer_got, entry_got, IsCacheOf, WasCacheAt, WasObtained}
 use Rattle.coap_model.specs.Justified.{IsForwarding, IsObtainedHere, entry_here, size_here, IsKept, JustifiedBy, AllJustified}
@@ -41,7 +41,7 @@ use Rattle.coap_model.proofs.Asking.{key-kept}
 use Rattle.coap_model.proofs.Cached.{cache-unique, cache-holds, found-holds}
 use Rattle.coap_model.proofs.Changing.{one-getting}
 use Rattle.coap_model.proofs.OneStoring.{one-former, one-answer, one-size}
-use Rattle.coap_model.proofs.Places.{here, same_moves, Opens-unique, place-before, justified-at}
+use Rattle.coap_model.proofs.Positions.{here, same_moves, Opens-unique, position-before, justified-at}
 use Rattle.coap_model.proofs.Stages.{all-before}
 use Rattle.coap_model.proofs.Verdicts.{code-same, askable}
 
@@ -53,7 +53,7 @@ never : {B : Type 0} → false ≡ true → B
 never e = absurd cc
 
 -- an answer that is no larger than the limit is kept, if its key has an entry
-pub kept-there : (o : Outcome) (setting : Setting) (past : List Deed) (d : Deed) (cached : List Cached) (entry : Cached) (h : IsObtainedHere setting past d) → JustifiedBy o setting past d → takes o ≡ true → size_here h ≤ setting.limits.cache_bytes → IsCacheOf setting past cached → of_key cached_key (key_asked h.gets) cached ≡ Some entry → o ≡ Answered Kept
+pub kept-there : (o : Outcome) (setting : Setting) (past : List Action) (d : Action) (cached : List Cached) (entry : Cached) (h : IsObtainedHere setting past d) → JustifiedBy o setting past d → takes o ≡ true → size_here h ≤ setting.limits.cache_bytes → IsCacheOf setting past cached → of_key cached_key (key_asked h.gets) cached ≡ Some entry → o ≡ Answered Kept
 kept-there (Answered Kept) setting past d cached entry h j took small is found = refl
 kept-there (Answered TooLarge) setting past d cached entry h j took small is found = let same = one-size h j.here in let large = j.large in absurd (omega (arith, small, large, same))
 kept-there (Answered NoMemory) setting past d cached entry h j took small is found =
@@ -131,22 +131,22 @@ tag-kept most t request old tag e = go (is_get request.code && is_content old.co
     go false g f = absurd cc
 
 -- what the request of an exchange was sent for, if its answer may be stored
-record IsAskedSo {setting : Setting} {x : ℕ} {p : Place} (gets : Gets setting x p) (former : List Cached) (old : Message) : Type 0 where
+record IsAskedSo {setting : Setting} {x : ℕ} {p : Position} (gets : Gets setting x p) (former : List Cached) (old : Message) : Type 0 where
   pub tag : List ℕ
   pub has : tag_of old.options ≡ Some tag
   pub carried : tags_of (asked_of gets) ≡ tag ∷ []
 
 -- a GET carries at most one tag: that of what was kept when its exchange was opened
-asked-so : {setting : Setting} {x : ℕ} {p : Place} (gets : Gets setting x p) (former : List Cached) (old : Message) → AreRoutes setting.routes → AllJustified setting p.before → to_get gets ≡ true → WasCacheAt setting gets.meets.asking.before x former → copied (tags_of (asked_of gets)) (key_asked gets) former ≡ Some old → IsAskedSo gets former old
+asked-so : {setting : Setting} {x : ℕ} {p : Position} (gets : Gets setting x p) (former : List Cached) (old : Message) → AreRoutes setting.routes → AllJustified setting p.before → to_get gets ≡ true → WasCacheAt setting gets.meets.asking.before x former → copied (tags_of (asked_of gets)) (key_asked gets) former ≡ Some old → IsAskedSo gets former old
 asked-so {setting} {x} {p} gets former old routes all get was is = go (tags_of (asked_of gets)) refl is
   where
-    m : Meets setting x p.before p.deed.entry.event
+    m : Meets setting x p.before p.action.observation.event
     m = gets.meets
 
     sends : Sends setting.salt x m.asking
     sends = m.asks.sends
 
-    f : IsForwarding setting m.asking.before m.asking.deed
+    f : IsForwarding setting m.asking.before m.asking.action
     f = justified-at setting p.before m.asking SentRequest all m.was_asked sends.outcome
 
     request : Message
@@ -162,19 +162,19 @@ asked-so {setting} {x} {p} gets former old routes all get was is = go (tags_of (
     number = same_moves f.exchange x (sym f.act ∙ sends.act)
 
     sent : sends.message ≡ forwarded (token_of setting.salt f.exchange) f.to_send.key.target tag request f.id
-    sent = one_message m.asking.deed.entry.bytes sends.message _ sends.spells f.tells.spells
+    sent = one_message m.asking.action.observation.bytes sends.message _ sends.spells f.tells.spells
 
     to : sends.to ≡ f.to_send.key.target.at
     to = same_Some sends.to f.to_send.key.target.at (sym sends.sent ∙ f.tells.sent)
 
     key : key_asked gets ≡ f.to_send.key
-    key = ap (λ (e : Endpoint). key_sent e sends.message) to ∙ key-kept setting m.asking.before m.asking.deed f sends.message routes sends.spells
+    key = ap (λ (e : Endpoint). key_sent e sends.message) to ∙ key-kept setting m.asking.before m.asking.action f sends.message routes sends.spells
 
-    place : f.to_send.opened.opening ≡ was.opening
-    place = Opens-unique m.asking.before f.to_send.opened.opening was.opening x f.to_send.opened.was_opened was.was_opened (subst (λ (n : ℕ). Opens n f.to_send.opened.opening) number f.to_send.opened.opens) was.opens
+    position : f.to_send.opened.opening ≡ was.opening
+    position = Opens-unique m.asking.before f.to_send.opened.opening was.opening x f.to_send.opened.was_opened was.was_opened (subst (λ (n : ℕ). Opens n f.to_send.opened.opening) number f.to_send.opened.opens) was.opens
 
     same : f.former ≡ former
-    same = cache-unique setting was.opening.before f.former former (subst (λ (q : Place). IsCacheOf setting q.before f.former) place f.is_cache) was.is_cache
+    same = cache-unique setting was.opening.before f.former former (subst (λ (q : Position). IsCacheOf setting q.before f.former) position f.is_cache) was.is_cache
 
     asked_get : is_get request.code ≡ true
     asked_get = sym (ap (λ (n : Message). is_get n.code) sent) ∙ get
@@ -193,7 +193,7 @@ asked-so {setting} {x} {p} gets former old routes all get was is = go (tags_of (
 -- ---- what a cache has
 
 -- what was obtained stays so as the history grows
-obtained-later : (setting : Setting) (past : List Deed) (d : Deed) (c : Cached) → WasObtained setting past c → WasObtained setting (d ∷ past) c
+obtained-later : (setting : Setting) (past : List Action) (d : Action) (c : Cached) → WasObtained setting past c → WasObtained setting (d ∷ past) c
 obtained-later setting past d c w = record { was_asked = inr w.was_asked; was_got = inr w.was_got; obtained = w.obtained }
 
 -- the response that a cache kept for a key
@@ -214,15 +214,15 @@ copy-kept : (tags : List (List ℕ)) (key : CacheKey) (former : List Cached) (ol
 copy-kept [] key former old e = absurd cc
 copy-kept (tag ∷ tags) key former old e = e
 
--- what a deed obtains was obtained, if what was in the cache before was
-here-obtained : (setting : Setting) (past : List Deed) (d : Deed) (o : IsObtainedHere setting past d) → AreRoutes setting.routes → AllJustified setting past → AllByRecursion (WasObtained setting o.was_cache.opening.before) o.former → IsObtained setting (key_asked o.gets) (answer_got o.former o.gets).message o.gets.meets.asking (here past d)
+-- what an action obtains was obtained, if what was in the cache before was
+here-obtained : (setting : Setting) (past : List Action) (d : Action) (o : IsObtainedHere setting past d) → AreRoutes setting.routes → AllJustified setting past → AllByRecursion (WasObtained setting o.was_cache.opening.before) o.former → IsObtained setting (key_asked o.gets) (answer_got o.former o.gets).message o.gets.meets.asking (here past d)
 here-obtained setting past d o routes all old = go (taken-so most now copy m (ap (λ (b : Bool). is_storable (answer_of most b copy now m)) (sym o.method) ∙ o.storable))
   where
     most : ℕ
     most = setting.limits.datagram
 
     now : ℕ
-    now = d.entry.now
+    now = d.observation.now
 
     m : Message
     m = o.gets.meets.message
@@ -247,27 +247,27 @@ here-obtained setting past d o routes all old = go (taken-so most now copy m (ap
         let kept = kept-of key o.former response (copy-kept (tags_of (asked_of o.gets)) key o.former response has) in
         let w = found-holds (WasObtained setting o.was_cache.opening.before) o.former key kept.entry old kept.found in
         let of_this : IsObtained setting key response kept.entry.asking kept.entry.getting = subst (λ (r : Message). IsObtained setting key r kept.entry.asking kept.entry.getting) kept.is (subst (λ (k : CacheKey). IsObtained setting k kept.entry.response kept.entry.asking kept.entry.getting) (of_key-key cached_key key o.former kept.entry kept.found) w.obtained) in
-        was_validated (fetched passed) asked.tag of_this (place-before o.gets.meets.asking.before o.was_cache.opening kept.entry.getting o.was_cache.was_opened w.was_got) asked.has asked.carried valid (same ∙ is) (ap (fits most) same ∙ short) (subst IsLasting (sym same) lasting)
+        was_validated (fetched passed) asked.tag of_this (position-before o.gets.meets.asking.before o.was_cache.opening kept.entry.getting o.was_cache.was_opened w.was_got) asked.has asked.carried valid (same ∙ is) (ap (fits most) same ∙ short) (subst IsLasting (sym same) lasting)
 
--- what a deed obtains is obtained by any account of how it arrived
-abbrev obtained-as : (setting : Setting) (past : List Deed) (d : Deed) (x : ℕ) (gets : Gets setting x (here past d)) (former : List Cached) → WasCacheAt setting gets.meets.asking.before x former → IsObtainedHere setting past d → IsObtainedHere setting past d
+-- what an action obtains is obtained by any account of how it arrived
+abbrev obtained-as : (setting : Setting) (past : List Action) (d : Action) (x : ℕ) (gets : Gets setting x (here past d)) (former : List Cached) → WasCacheAt setting gets.meets.asking.before x former → IsObtainedHere setting past d → IsObtainedHere setting past d
 obtained-as setting past d x gets former was h = record {
   exchange = x;
   gets = gets;
   method = ap (λ (m : Message). is_get m.code) (one-getting gets h.gets).asked ∙ h.method;
-  unchanged = subst (λ (q : Place). Unchanged setting (key_asked gets).target q past) (sym (one-getting gets h.gets).asking) (subst (λ (k : CacheKey). Unchanged setting k.target h.gets.meets.asking past) (sym (one-getting gets h.gets).key) h.unchanged);
+  unchanged = subst (λ (q : Position). Unchanged setting (key_asked gets).target q past) (sym (one-getting gets h.gets).asking) (subst (λ (k : CacheKey). Unchanged setting k.target h.gets.meets.asking past) (sym (one-getting gets h.gets).key) h.unchanged);
   former = former;
   was_cache = was;
   storable = ap is_storable (one-answer gets h.gets (one-former gets h.gets was h.was_cache)) ∙ h.storable;
 }
 
 -- each entry of the cache of a history was obtained in it
-pub cache-obtained : (setting : Setting) (history : List Deed) (cached : List Cached) → AreRoutes setting.routes → AllJustified setting history → IsCacheOf setting history cached → AllByRecursion (WasObtained setting history) cached
+pub cache-obtained : (setting : Setting) (history : List Action) (cached : List Cached) → AreRoutes setting.routes → AllJustified setting history → IsCacheOf setting history cached → AllByRecursion (WasObtained setting history) cached
 cache-obtained setting history cached routes all is =
     All-weaken (λ c. AllJustified setting history → WasObtained setting history c) (WasObtained setting history) cached (λ c w. w all)
     (cache-holds setting (λ past c. AllJustified setting past → WasObtained setting past c) (λ past d c w more. obtained-later setting past d c (w more.1)) new history cached is)
   where
-    new : (past : List Deed) (d : Deed) (x : ℕ) (gets : Gets setting x (here past d)) (former : List Cached) (was : WasCacheAt setting gets.meets.asking.before x former) → d.entry.report.outcome ≡ Answered Kept → AllByRecursion (λ c. AllJustified setting was.opening.before → WasObtained setting was.opening.before c) former → AllJustified setting (d ∷ past) → WasObtained setting (d ∷ past) (entry_got former gets)
+    new : (past : List Action) (d : Action) (x : ℕ) (gets : Gets setting x (here past d)) (former : List Cached) (was : WasCacheAt setting gets.meets.asking.before x former) → d.observation.report.outcome ≡ Answered Kept → AllByRecursion (λ c. AllJustified setting was.opening.before → WasObtained setting was.opening.before c) former → AllJustified setting (d ∷ past) → WasObtained setting (d ∷ past) (entry_got former gets)
     new past d x gets former was outcome old more =
         let j : IsKept setting past d = justified-at setting (d ∷ past) (here past d) (Answered Kept) more (inl refl) outcome in
         let o = obtained-as setting past d x gets former was j.here in
@@ -279,22 +279,22 @@ cache-obtained setting history cached routes all is =
         }
 
 -- so was an entry that is found in it
-pub found-obtained : (setting : Setting) (history : List Deed) (cached : List Cached) (key : CacheKey) (c : Cached) → AreRoutes setting.routes → AllJustified setting history → IsCacheOf setting history cached → of_key cached_key key cached ≡ Some c → WasObtained setting history c
+pub found-obtained : (setting : Setting) (history : List Action) (cached : List Cached) (key : CacheKey) (c : Cached) → AreRoutes setting.routes → AllJustified setting history → IsCacheOf setting history cached → of_key cached_key key cached ≡ Some c → WasObtained setting history c
 found-obtained setting history cached key c routes all is found = found-holds (WasObtained setting history) cached key c (cache-obtained setting history cached routes all is) found
 
--- the entry that a deed obtains was obtained
-pub obtained-here : (setting : Setting) (past : List Deed) (d : Deed) (o : IsObtainedHere setting past d) → AreRoutes setting.routes → AllJustified setting past → IsObtained setting (key_asked o.gets) (entry_here o).response o.gets.meets.asking (here past d)
+-- the entry that an action obtains was obtained
+pub obtained-here : (setting : Setting) (past : List Action) (d : Action) (o : IsObtainedHere setting past d) → AreRoutes setting.routes → AllJustified setting past → IsObtained setting (key_asked o.gets) (entry_here o).response o.gets.meets.asking (here past d)
 obtained-here setting past d o routes all =
     let before = all-before setting o.gets.meets.asking.before o.was_cache.opening (all-before setting past o.gets.meets.asking all o.gets.meets.was_asked) o.was_cache.was_opened in
     here-obtained setting past d o routes all (cache-obtained setting o.was_cache.opening.before o.former routes before o.was_cache.is_cache)
 
 -- an obtained entry was fetched last
-pub obtained-fetched : {s : Setting} {key : CacheKey} {response : Message} {a g : Place} → IsObtained s key response a g → IsFetched s key a g
+pub obtained-fetched : {s : Setting} {key : CacheKey} {response : Message} {a g : Position} → IsObtained s key response a g → IsFetched s key a g
 obtained-fetched (first_hand fetched is lasting) = fetched
 obtained-fetched (was_validated fetched tag old before its also valid is fits lasting) = fetched
 
 -- and it is lasting
-pub obtained-lasting : {s : Setting} {key : CacheKey} {response : Message} {a g : Place} → IsObtained s key response a g → IsLasting response
+pub obtained-lasting : {s : Setting} {key : CacheKey} {response : Message} {a g : Position} → IsObtained s key response a g → IsLasting response
 obtained-lasting (first_hand fetched is lasting) = lasting
 obtained-lasting (was_validated fetched tag old before its also valid is fits lasting) = lasting
 
@@ -379,22 +379,22 @@ valid-full code e = go (is_code code EMPTY) refl
 
 -- a response to a GET whose target wasn't changed since, which is passed on, is obtained if it is
 -- lasting
-pub came-obtained : (setting : Setting) (past : List Deed) (d : Deed) (x : ℕ) (gets : Gets setting x (here past d)) (former : List Cached) → to_get gets ≡ true → Unchanged setting (key_asked gets).target gets.meets.asking past → WasCacheAt setting gets.meets.asking.before x former → is_passed_on setting.limits.datagram true gets.meets.message ≡ true → IsLasting (taken_of true gets.meets.message)
+pub came-obtained : (setting : Setting) (past : List Action) (d : Action) (x : ℕ) (gets : Gets setting x (here past d)) (former : List Cached) → to_get gets ≡ true → Unchanged setting (key_asked gets).target gets.meets.asking past → WasCacheAt setting gets.meets.asking.before x former → is_passed_on setting.limits.datagram true gets.meets.message ≡ true → IsLasting (taken_of true gets.meets.message)
     → IsObtainedHere setting past d
 came-obtained setting past d x gets former get unchanged was passed lasting =
     let m = gets.meets.message in
     let most = setting.limits.datagram in
     let copy = copied (tags_of (asked_of gets)) (key_asked gets) former in
     let codes = told-code m.code (ap tells_age (sym (taken-code m)) ∙ lasting.code) in
-    let storable = came-storable most d.entry.now copy m (no_reset (token_of setting.salt x) gets.meets.asks.sends.message.id m gets.meets.matches codes.0) passed codes.1 (lasting-storable d.entry.now (taken_of true m) lasting) in
-    record { exchange = x; gets = gets; method = get; unchanged = unchanged; former = former; was_cache = was; storable = ap (λ (b : Bool). is_storable (answer_of most b copy d.entry.now m)) get ∙ storable }
+    let storable = came-storable most d.observation.now copy m (no_reset (token_of setting.salt x) gets.meets.asks.sends.message.id m gets.meets.matches codes.0) passed codes.1 (lasting-storable d.observation.now (taken_of true m) lasting) in
+    record { exchange = x; gets = gets; method = get; unchanged = unchanged; former = former; was_cache = was; storable = ap (λ (b : Bool). is_storable (answer_of most b copy d.observation.now m)) get ∙ storable }
 
 -- and so is a response that a 2.03 renews
-pub renewed-obtained : (setting : Setting) (past : List Deed) (d : Deed) (x : ℕ) (gets : Gets setting x (here past d)) (former : List Cached) (old : Message) → to_get gets ≡ true → Unchanged setting (key_asked gets).target gets.meets.asking past → WasCacheAt setting gets.meets.asking.before x former → is_passed_on setting.limits.datagram true gets.meets.message ≡ true → copied (tags_of (asked_of gets)) (key_asked gets) former ≡ Some old → is_validated old (taken_of true gets.meets.message) ≡ true → fits setting.limits.datagram (renewed old (taken_of true gets.meets.message)) ≡ true → IsLasting (renewed old (taken_of true gets.meets.message))
+pub renewed-obtained : (setting : Setting) (past : List Action) (d : Action) (x : ℕ) (gets : Gets setting x (here past d)) (former : List Cached) (old : Message) → to_get gets ≡ true → Unchanged setting (key_asked gets).target gets.meets.asking past → WasCacheAt setting gets.meets.asking.before x former → is_passed_on setting.limits.datagram true gets.meets.message ≡ true → copied (tags_of (asked_of gets)) (key_asked gets) former ≡ Some old → is_validated old (taken_of true gets.meets.message) ≡ true → fits setting.limits.datagram (renewed old (taken_of true gets.meets.message)) ≡ true → IsLasting (renewed old (taken_of true gets.meets.message))
     → IsObtainedHere setting past d
 renewed-obtained setting past d x gets former old get unchanged was passed has valid fit lasting =
     let m = gets.meets.message in
     let most = setting.limits.datagram in
     let code = sym (ap (λ (c : Code). is_code c VALID) (taken-code m)) ∙ validated-code old (taken_of true m) valid in
-    let storable = renewed-storable most d.entry.now old m (no_reset (token_of setting.salt x) gets.meets.asks.sends.message.id m gets.meets.matches (valid-full m.code code)) passed code valid fit (lasting-storable d.entry.now (renewed old (taken_of true m)) lasting) in
-    record { exchange = x; gets = gets; method = get; unchanged = unchanged; former = former; was_cache = was; storable = (λ i. is_storable (answer_of most (get i) (has i) d.entry.now m)) ∙ storable }
+    let storable = renewed-storable most d.observation.now old m (no_reset (token_of setting.salt x) gets.meets.asks.sends.message.id m gets.meets.matches (valid-full m.code code)) passed code valid fit (lasting-storable d.observation.now (renewed old (taken_of true m)) lasting) in
+    record { exchange = x; gets = gets; method = get; unchanged = unchanged; former = former; was_cache = was; storable = (λ i. is_storable (answer_of most (get i) (has i) d.observation.now m)) ∙ storable }

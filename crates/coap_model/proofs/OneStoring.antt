@@ -8,41 +8,41 @@ use Rattle.coap_model.specs.Setting.{Setting}
 use Rattle.coap_model.specs.Events.{Event}
 use Rattle.coap_forward.specs.Answers.{answer_of, is_storable}
 use Rattle.coap_forward.specs.Messages.{is_get}
-use Rattle.coap_model.specs.History.{Deed, Place, takes, Meets, Gets}
+use Rattle.coap_model.specs.History.{Action, Position, takes, Meets, Gets}
 use Rattle.coap_model.specs.Changed.{asked_of, key_asked, to_get}
 use Rattle.coap_model.specs.Cached.{Cached, cached_size, cached_here, copied, answer_got, WasCacheAt}
 use Rattle.coap_model.specs.Justified.{IsAnswer, IsObtainedHere, entry_here, size_here, JustifiedBy, HaveOneMemory}
-use Rattle.coap_model.proofs.Places.{here}
+use Rattle.coap_model.proofs.Positions.{here}
 use Rattle.coap_model.proofs.Changing.{one-getting}
 use Rattle.coap_model.proofs.Cached.{same-entry, former-once}
 
--- ---- at one deed
+-- ---- at one action
 
 -- the cache when the exchange of an answer was opened is unique
-pub one-former : {setting : Setting} {x y : ℕ} {p : Place} {a b : List Cached} (g : Gets setting x p) (h : Gets setting y p) → WasCacheAt setting g.meets.asking.before x a → WasCacheAt setting h.meets.asking.before y b → a ≡ b
+pub one-former : {setting : Setting} {x y : ℕ} {p : Position} {a b : List Cached} (g : Gets setting x p) (h : Gets setting y p) → WasCacheAt setting g.meets.asking.before x a → WasCacheAt setting h.meets.asking.before y b → a ≡ b
 one-former {setting} {x} {y} {p} {a} g h was also =
     let one = one-getting g h in
-    let there : WasCacheAt setting h.meets.asking.before y a = subst (λ (q : Place). WasCacheAt setting q.before y a) one.asking (subst (λ (n : ℕ). WasCacheAt setting g.meets.asking.before n a) one.exchange was) in
+    let there : WasCacheAt setting h.meets.asking.before y a = subst (λ (q : Position). WasCacheAt setting q.before y a) one.asking (subst (λ (n : ℕ). WasCacheAt setting g.meets.asking.before n a) one.exchange was) in
     former-once there also
 
 -- so is the answer that arrives
-pub one-answer : {setting : Setting} {x y : ℕ} {p : Place} {a b : List Cached} (g : Gets setting x p) (h : Gets setting y p) → a ≡ b → answer_got a g ≡ answer_got b h
+pub one-answer : {setting : Setting} {x y : ℕ} {p : Position} {a b : List Cached} (g : Gets setting x p) (h : Gets setting y p) → a ≡ b → answer_got a g ≡ answer_got b h
 one-answer {setting} {x} {y} {p} g h former =
     let one = one-getting g h in
-    λ i. answer_of setting.limits.datagram (is_get (one.asked i).code) (copied (tags_of (one.asked i)) (one.key i) (former i)) p.deed.entry.now (one.message i)
+    λ i. answer_of setting.limits.datagram (is_get (one.asked i).code) (copied (tags_of (one.asked i)) (one.key i) (former i)) p.action.observation.now (one.message i)
 
--- the entry that a deed obtains is unique
-pub one-entry : {setting : Setting} {past : List Deed} {d : Deed} (o p : IsObtainedHere setting past d) → entry_here o ≡ entry_here p
+-- the entry that an action obtains is unique
+pub one-entry : {setting : Setting} {past : List Action} {d : Action} (o p : IsObtainedHere setting past d) → entry_here o ≡ entry_here p
 one-entry o p = same-entry o.gets p.gets o.former p.former (one-former o.gets p.gets o.was_cache p.was_cache)
 
 -- and so is its size
-pub one-size : {setting : Setting} {past : List Deed} {d : Deed} (o p : IsObtainedHere setting past d) → size_here o ≡ size_here p
+pub one-size : {setting : Setting} {past : List Action} {d : Action} (o p : IsObtainedHere setting past d) → size_here o ≡ size_here p
 one-size o p = ap cached_size (one-entry o p)
 
--- ---- at two deeds of one event
+-- ---- at two actions of one event
 
--- a message that is an answer for one deed is the answer for the other deed with the same event
-abbrev meets-over : {setting : Setting} {x : ℕ} {past : List Deed} {a b : Event} → b ≡ a → Meets setting x past a → Meets setting x past b
+-- a message that is an answer for one action is the answer for the other action with the same event
+abbrev meets-over : {setting : Setting} {x : ℕ} {past : List Action} {a b : Event} → b ≡ a → Meets setting x past a → Meets setting x past b
 meets-over same m = record {
   asking = m.asking;
   was_asked = m.was_asked;
@@ -52,12 +52,12 @@ meets-over same m = record {
   matches = m.matches;
 }
 
--- so an answer that arrives for one deed arrives for the other
-abbrev gets-over : {setting : Setting} {x : ℕ} {past : List Deed} (d e : Deed) → e.entry.event ≡ d.entry.event → e.act ≡ d.act → takes e.entry.report.outcome ≡ true → Gets setting x (here past d) → Gets setting x (here past e)
+-- so an answer that arrives for one action arrives for the other
+abbrev gets-over : {setting : Setting} {x : ℕ} {past : List Action} (d e : Action) → e.observation.event ≡ d.observation.event → e.act ≡ d.act → takes e.observation.report.outcome ≡ true → Gets setting x (here past d) → Gets setting x (here past e)
 gets-over d e event act took g = record { act = act ∙ g.act; outcome = took; meets = meets-over event g.meets; bytes = g.bytes }
 
 -- and an entry that one obtained is obtained by the other
-abbrev obtained-over : (setting : Setting) (past : List Deed) (d e : Deed) → e.entry.event ≡ d.entry.event → e.entry.now ≡ d.entry.now → e.act ≡ d.act → takes e.entry.report.outcome ≡ true → IsObtainedHere setting past d → IsObtainedHere setting past e
+abbrev obtained-over : (setting : Setting) (past : List Action) (d e : Action) → e.observation.event ≡ d.observation.event → e.observation.now ≡ d.observation.now → e.act ≡ d.act → takes e.observation.report.outcome ≡ true → IsObtainedHere setting past d → IsObtainedHere setting past e
 obtained-over setting past d e event now act took o = record {
   exchange = o.exchange;
   gets = gets-over d e event act took o.gets;
@@ -68,7 +68,7 @@ obtained-over setting past d e event now act took o = record {
   storable = (λ i. is_storable (answer_of setting.limits.datagram (to_get o.gets) (copied (tags_of (asked_of o.gets)) (key_asked o.gets) o.former) (now i) o.gets.meets.message)) ∙ o.storable;
 }
 
-module _ (setting : Setting) (past : List Deed) (d e : Deed) (event : d.entry.event ≡ e.entry.event) (now : d.entry.now ≡ e.entry.now) (act : d.act ≡ e.act) where
+module _ (setting : Setting) (past : List Action) (d e : Action) (event : d.observation.event ≡ e.observation.event) (now : d.observation.now ≡ e.observation.now) (act : d.act ≡ e.act) where
   -- it has the same size
   same-size : IsAnswer setting past e → (o : IsObtainedHere setting past d) (p : IsObtainedHere setting past e) → size_here o ≡ size_here p
   same-size k o p =

@@ -36,34 +36,34 @@ use Rattle.coap_model.specs.Justified.{verdict_on}
 use Rattle.coap_model.specs.State.{State, remembers, reserved, has_ids, has_exchange_room, has_waiter_room, has_room_to_join, has_room_to_open}
 use Rattle.coap_model.specs.Requests.{new_exchange, new_waiter, next_token, tag_carried, copy_of}
 use Rattle.coap_model.specs.Cached.{kept_for}
-use Rattle.coap_model.specs.History.{Act, admits, moves, serves, Deed, Somewhere, Never, admits_one, opened_in, admitted_in, last_of, Opens, Admits, Ends, Serves, IsRequestOf, WasOpened}
+use Rattle.coap_model.specs.History.{Act, admits, moves, serves, Action, Somewhere, Never, admits_one, opened_in, admitted_in, last_of, Opens, Admits, Ends, Serves, IsRequestOf, WasOpened}
 use Rattle.coap_model.specs.Standing as stages
 use Rattle.coap_model.specs.Standing.{standing_in}
-use Rattle.coap_model.specs.Runs.{entry_of}
+use Rattle.coap_model.specs.Runs.{observation_of}
 use Rattle.coap_model.specs.Carries.{HasNumber, HasExchange, stage_seen, standing_seen, copy_for, IsExchangeOf, IsWaiterIn, IsWaiterOf, AreUnused, Bears}
 use Rattle.coap_model.proofs.Frames.{clock_frame, numbers_frame, opened-before, exchanges_frame, waiters_frame, unused_frame, schedules_frame, sends-stay}
 use Rattle.coap_model.proofs.Giving.{ids-kept, given-later}
 use Rattle.coap_model.proofs.Missing.{missed, joinable-found, unanswered}
-use Rattle.coap_model.proofs.Places.{here, doing, opened-number, opened-later, admitted-number}
+use Rattle.coap_model.proofs.Positions.{here, doing, opened-number, opened-later, admitted-number}
 use Rattle.coap_model.proofs.Remembering.{first-new, first-remembered}
 use Rattle.coap_model.proofs.Replying.{request-came}
 use Rattle.coap_model.proofs.Room.{join-there, room-there}
 use Rattle.coap_model.proofs.Rules.{IsFirst, verdict_in, fits_in, IsMissed, IsUnanswered, IsTakenUp, sending, joined_state, opened_state, held_for}
 use Rattle.coap_model.proofs.Splitting.{both-below}
 use Rattle.coap_model.proofs.Stores.{store-otherwise, stored-kept}
-use Rattle.coap_model.proofs.TakingUp.{taken-up, taken-short}
+use Rattle.coap_model.proofs.Accepting.{taken-up, taken-short}
 use Rattle.coap_model.proofs.Tables.{HasNumber-push, HasNumber-last, HasExchange-on}
 use Rattle.coap_model.proofs.Verdicts.{form-short}
 
 -- ---- numbers
 
 -- the numbers of exchanges are at most the number of exchanges that were opened
-exchanges-below : (w : State) (history : List Deed) → Bears history w → AllByRecursion (λ x. x.0 < w.opened + 1) w.exchanges
+exchanges-below : (w : State) (history : List Action) → Bears history w → AllByRecursion (λ x. x.0 < w.opened + 1) w.exchanges
 exchanges-below w history c =
     All-weaken (IsExchangeOf w.setting history) (λ x. x.0 < w.opened + 1) w.exchanges (λ x f. let i = opened-number f.opened in let h = c.numbers.opened in omega (arith, i.1)) c.exchanges
 
 -- and so are those of clients
-waiters-below : (w : State) (history : List Deed) → Bears history w → AllByRecursion (λ v. v.0 < w.admitted + 1) w.waiters
+waiters-below : (w : State) (history : List Action) → Bears history w → AllByRecursion (λ v. v.0 < w.admitted + 1) w.waiters
 waiters-below w history c = All-weaken (IsWaiterOf w.setting history) (λ v. v.0 < w.admitted + 1) w.waiters (λ v f. below v f) c.waiters
   where
     below : (v : Numbered Waiter) → IsWaiterOf w.setting history v → v.0 < w.admitted + 1
@@ -75,14 +75,14 @@ waiters-below w history c = All-weaken (IsWaiterOf w.setting history) (λ v. v.0
 
 -- ---- a client that is admitted
 
-module _ (w : State) (history : List Deed) (c : Bears history w) (e : Deed) (client : Endpoint) (m : Message) (exchange : ℕ) (act : e.act ≡ admits (admitted_in history + 1) exchange) (outcome : admits_one e.entry.report.outcome ≡ 1) where
+module _ (w : State) (history : List Action) (c : Bears history w) (e : Action) (client : Endpoint) (m : Message) (exchange : ℕ) (act : e.act ≡ admits (admitted_in history + 1) exchange) (outcome : admits_one e.observation.report.outcome ≡ 1) where
   -- the waiting clients then
   abbrev pub clients : List (Numbered Waiter)
   clients = w.waiters ++ new_waiter w client m exchange ∷ []
 
   -- its number is the next one
-  pub place : w.admitted + 1 ≡ admitted_in history + 1
-  place = let h = c.numbers.admitted in omega arith
+  pub position : w.admitted + 1 ≡ admitted_in history + 1
+  position = let h = c.numbers.admitted in omega arith
 
   -- no exchange changes its state, and no client is served
   pub unmoved : (n : ℕ) → e.act ≢ moves n
@@ -97,7 +97,7 @@ module _ (w : State) (history : List Deed) (c : Bears history w) (e : Deed) (cli
 
   -- the client is in the history
   pub clients-seen : map standing_seen clients ≡ standing_in history ++ record { number = admitted_in history + 1; client = client; service = stages.waits exchange } ∷ []
-  clients-seen = map-append standing_seen w.waiters (new_waiter w client m exchange ∷ []) ∙ (λ i. c.whole.waiters i ++ record { number = place i; client = client; service = stages.waits exchange } ∷ [])
+  clients-seen = map-append standing_seen w.waiters (new_waiter w client m exchange ∷ []) ∙ (λ i. c.whole.waiters i ++ record { number = position i; client = client; service = stages.waits exchange } ∷ [])
 
   -- the numbers of the clients rise
   pub clients-rise : IsRising 0 clients
@@ -107,8 +107,8 @@ module _ (w : State) (history : List Deed) (c : Bears history w) (e : Deed) (cli
   pub clients-there : (n k : ℕ) → Somewhere (Admits n k) (e ∷ history) → Never (Serves n) (e ∷ history) → HasNumber n clients
   clients-there n k was never =
       ⊎_elim
-      (λ (same : here history e ≡ was.place). let h = subst (Admits n k) (sym same) was.holds in subst (λ (j : ℕ). HasNumber j clients) (place ∙ sym h.number) (HasNumber-last (w.admitted + 1) w.waiters (new_waiter w client m exchange).1))
-      (λ there. HasNumber-push n w.waiters (new_waiter w client m exchange ∷ []) (c.whole.unserved n k (record { place = was.place; is_there = there; holds = was.holds }) never.1))
+      (λ (same : here history e ≡ was.position). let h = subst (Admits n k) (sym same) was.holds in subst (λ (j : ℕ). HasNumber j clients) (position ∙ sym h.number) (HasNumber-last (w.admitted + 1) w.waiters (new_waiter w client m exchange).1))
+      (λ there. HasNumber-push n w.waiters (new_waiter w client m exchange ∷ []) (c.whole.unserved n k (record { position = was.position; is_there = there; holds = was.holds }) never.1))
       was.is_there
 
   -- each client waits for an exchange that exists
@@ -125,19 +125,19 @@ module _ (w : State) (history : List Deed) (c : Bears history w) (e : Deed) (cli
       (λ y some. let one = count-push (waits_for y.0) w.waiters (new_waiter w client m exchange) in omega arith) c.whole.waited
 
   -- each client is one that the history admitted
-  pub clients-are : IsRequestOf w.setting client m e.entry.event → Never (Ends exchange) history → (opened : WasOpened w.setting (e ∷ history) exchange) → is_get opened.request.code ≡ is_get m.code → verdict_on w.setting opened.request ≡ verdict_on w.setting m → AllByRecursion (IsWaiterOf w.setting (e ∷ history)) clients
+  pub clients-are : IsRequestOf w.setting client m e.observation.event → Never (Ends exchange) history → (opened : WasOpened w.setting (e ∷ history) exchange) → is_get opened.request.code ≡ is_get m.code → verdict_on w.setting opened.request ≡ verdict_on w.setting m → AllByRecursion (IsWaiterOf w.setting (e ∷ history)) clients
   clients-are asked unended opened method verdict =
       All-append (IsWaiterOf w.setting (e ∷ history)) w.waiters (new_waiter w client m exchange ∷ []) (waiters_frame w.setting history e w.waiters unserved c.waiters) (
         record {
-          admitted = record { exchange = exchange; admission = here history e; client = client; request = m; was_admitted = inl refl; admits = record { act = act ∙ ap (λ (n : ℕ). admits n exchange) (sym place); outcome = outcome; number = place }; asked = asked };
+          admitted = record { exchange = exchange; admission = here history e; client = client; request = m; was_admitted = inl refl; admits = record { act = act ∙ ap (λ (n : ℕ). admits n exchange) (sym position); outcome = outcome; number = position }; asked = asked };
           exchange_is = refl;
           client_is = refl;
           kind_is = refl;
           token_is = refl;
           tags_are = refl;
           unended = unended;
-          unserved = ((λ h. unserved (w.admitted + 1) h.act), c.unused.waiters (w.admitted + 1) (omega (arith, place)));
-          no_sends = sends-stay (serves (w.admitted + 1)) history e (unserved (w.admitted + 1)) ∙ c.unused.deliveries (w.admitted + 1) (omega (arith, place));
+          unserved = ((λ h. unserved (w.admitted + 1) h.act), c.unused.waiters (w.admitted + 1) (omega (arith, position)));
+          no_sends = sends-stay (serves (w.admitted + 1)) history e (unserved (w.admitted + 1)) ∙ c.unused.deliveries (w.admitted + 1) (omega (arith, position));
           opened = opened;
           method = method;
           verdict = verdict;
@@ -170,7 +170,7 @@ copied-response most t m (Some s) = go (is_some (tag_to_send most t m s.response
     go true = refl
     go false = refl
 
-module _ (w : State) (history : List Deed) (c : Bears history w) (key : CacheKey) (m : Message) where
+module _ (w : State) (history : List Action) (c : Bears history w) (key : CacheKey) (m : Message) where
   -- the stored response is the one that is kept
   stored-response : option_map {T = Stored} (λ s. s.response) (option_map (λ (e : Entry). e.1) (of_key entry_key key w.store)) ≡ kept_for key c.store.cached
   stored-response = go (of_key entry_key key w.store) ∙ stored-kept w.setting history w.store c.store.cached key c.store.each
@@ -198,12 +198,12 @@ module _ (w : State) (history : List Deed) (c : Bears history w) (key : CacheKey
 -- ---- the rules
 
 -- joining an exchange preserves what is carried
-pub keeps_joining : (w : State) (history : List Deed) (c : Bears history w) → (now draw : ℕ) (client : Endpoint) (bytes : List ℕ) (m : Message) (key : CacheKey) (exchange : ℕ) (send : Option Endpoint) (told : List ℕ) → w.last ≤ now → IsFirst w now client bytes m → is_get m.code ≡ true → verdict_in w m ≡ may_ask key → IsMissed w now key → first_that (is_joinable key) w.exchanges ≡ Some exchange → has_room_to_join w now client ≡ true → IsTakenUp client m send told
-    → Bears (doing (admits (admitted_in history + 1) exchange) (entry_of now draw (arrival client bytes) (sending Joined send told (joined_state w now client m exchange))) ∷ history) (remembers now client m (sending Joined send told (joined_state w now client m exchange))).state
+pub keeps_joining : (w : State) (history : List Action) (c : Bears history w) → (now draw : ℕ) (client : Endpoint) (bytes : List ℕ) (m : Message) (key : CacheKey) (exchange : ℕ) (send : Option Endpoint) (told : List ℕ) → w.last ≤ now → IsFirst w now client bytes m → is_get m.code ≡ true → verdict_in w m ≡ may_ask key → IsMissed w now key → first_that (is_joinable key) w.exchanges ≡ Some exchange → has_room_to_join w now client ≡ true → IsTakenUp client m send told
+    → Bears (doing (admits (admitted_in history + 1) exchange) (observation_of now draw (arrival client bytes) (sending Joined send told (joined_state w now client m exchange))) ∷ history) (remembers now client m (sending Joined send told (joined_state w now client m exchange))).state
 keeps_joining w history c now draw client bytes m key exchange send told onward first get verdict none found may up =
     let s = sending Joined send told (joined_state w now client m exchange) in
     let act : Act = admits (admitted_in history + 1) exchange in
-    let e = doing act (entry_of now draw (arrival client bytes) s) in
+    let e = doing act (observation_of now draw (arrival client bytes) s) in
     let came = request-came w client bytes m first.fits first.asked in
     let joined = joinable-found w history c key exchange found in
     let v = new_waiter w client m exchange in
@@ -242,17 +242,17 @@ keeps_joining w history c now draw client bytes m key exchange send told onward 
         pace = c.within.pace;
         ids = λ n after. let fewer = given-later w.ids history c.ids.given c.clock.in_order now n since after in omega arith;
       };
-      past = (record { exchange = exchange; act = refl; client = client; request = m; key = key; asked = came; method = get; verdict = verdict; miss = missed w history c now key none; joinable = joined.0; new = first-new w history c now client bytes m onward first; room = join-there now client history w c onward may; takes_up = taken-up client m send told e.entry refl refl up }, c.past);
+      past = (record { exchange = exchange; act = refl; client = client; request = m; key = key; asked = came; method = get; verdict = verdict; miss = missed w history c now key none; joinable = joined.0; new = first-new w history c now client bytes m onward first; room = join-there now client history w c onward may; accepts = taken-up client m send told e.observation refl refl up }, c.past);
     }
 
 -- and so does opening one
-pub keeps_opening : (w : State) (history : List Deed) (c : Bears history w) → (now draw : ℕ) (client : Endpoint) (bytes : List ℕ) (m : Message) (key : CacheKey) (send : Option Endpoint) (told : List ℕ) → w.last ≤ now → IsFirst w now client bytes m → verdict_in w m ≡ may_ask key → IsUnanswered w now key m → fits_in w key m ≡ true → has_room_to_open w now client ≡ true → IsTakenUp client m send told
-    → Bears (doing (admits (admitted_in history + 1) (opened_in history + 1)) (entry_of now draw (arrival client bytes) (sending Opened send told (opened_state w now client m key (held_for w key m)))) ∷ history) (remembers now client m (sending Opened send told (opened_state w now client m key (held_for w key m)))).state
+pub keeps_opening : (w : State) (history : List Action) (c : Bears history w) → (now draw : ℕ) (client : Endpoint) (bytes : List ℕ) (m : Message) (key : CacheKey) (send : Option Endpoint) (told : List ℕ) → w.last ≤ now → IsFirst w now client bytes m → verdict_in w m ≡ may_ask key → IsUnanswered w now key m → fits_in w key m ≡ true → has_room_to_open w now client ≡ true → IsTakenUp client m send told
+    → Bears (doing (admits (admitted_in history + 1) (opened_in history + 1)) (observation_of now draw (arrival client bytes) (sending Opened send told (opened_state w now client m key (held_for w key m)))) ∷ history) (remembers now client m (sending Opened send told (opened_state w now client m key (held_for w key m)))).state
 keeps_opening w history c now draw client bytes m key send told onward first verdict none short room up =
     let stored = held_for w key m in
     let s = sending Opened send told (opened_state w now client m key stored) in
     let act : Act = admits (admitted_in history + 1) (opened_in history + 1) in
-    let e = doing act (entry_of now draw (arrival client bytes) s) in
+    let e = doing act (observation_of now draw (arrival client bytes) s) in
     let came = request-came w client bytes m first.fits first.asked in
     let x = new_exchange w now client m key stored in
     let most = w.setting.limits.datagram in
@@ -294,8 +294,8 @@ keeps_opening w history c now draw client bytes m key send told onward first ver
             (let one = count-push (waits_for (w.opened + 1)) w.waiters v in let here : one_if (waits_for (w.opened + 1) v.1) ≡ 1 = ap one_if (eq-eqb (w.opened + 1) (w.opened + 1) refl) in omega arith, tt);
         unended = λ n was never.
             ⊎_elim
-            (λ (same : here history e ≡ was.place). let h = subst (Opens n) (sym same) was.holds in subst (λ (k : ℕ). HasNumber k (w.exchanges ++ x ∷ [])) (number ∙ sym h.1) (HasNumber-last (w.opened + 1) w.exchanges x.1))
-            (λ there. HasNumber-push n w.exchanges (x ∷ []) (c.whole.unended n (record { place = was.place; is_there = there; holds = was.holds }) never.1))
+            (λ (same : here history e ≡ was.position). let h = subst (Opens n) (sym same) was.holds in subst (λ (k : ℕ). HasNumber k (w.exchanges ++ x ∷ [])) (number ∙ sym h.1) (HasNumber-last (w.opened + 1) w.exchanges x.1))
+            (λ there. HasNumber-push n w.exchanges (x ∷ []) (c.whole.unended n (record { position = was.position; is_there = there; holds = was.holds }) never.1))
             was.is_there;
         unserved = clients-there w history c e client m (w.opened + 1) is refl;
       };
@@ -332,5 +332,5 @@ keeps_opening w history c now draw client bytes m key send told onward first ver
         pace = λ to. let pace = c.within.pace to in let one = count-push (is_sent_to to) w.exchanges x in omega arith;
         ids = λ n after. let fewer = given-later w.ids history c.ids.given c.clock.in_order now n since after in omega arith;
       };
-      past = (record { act = refl; client = client; request = m; key = key; asked = came; verdict = verdict; unanswered = unanswered w history c now key m none; fits = short; new = first-new w history c now client bytes m onward first; room = room-there now client history w c onward room; takes_up = taken-up client m send told e.entry refl refl up }, c.past);
+      past = (record { act = refl; client = client; request = m; key = key; asked = came; verdict = verdict; unanswered = unanswered w history c now key m none; fits = short; new = first-new w history c now client bytes m onward first; room = room-there now client history w c onward room; accepts = taken-up client m send told e.observation refl refl up }, c.past);
     }

@@ -8,7 +8,7 @@ use Rattle.coap_pending.specs.declared.ids.Ids.{Ids as Given}
 use Rattle.coap_pending.specs.Ids.{given_in}
 use Rattle.coap_model.specs.Cached.{leaves, IsStoreOf}
 use Rattle.coap_model.specs.State.{State, reserved, later}
-use Rattle.coap_model.specs.History.{no_item, moves, serves, Deed, opens_one, admits_one, takes, gives_id, last_of}
+use Rattle.coap_model.specs.History.{no_item, moves, serves, Action, opens_one, admits_one, takes, gives_id, last_of}
 use Rattle.coap_model.specs.Standing.{Standing, Open, standing_by, open_by, standing_in, open_in}
 use Rattle.coap_model.specs.Schedules.{is_sending}
 use Rattle.coap_model.specs.Justified.{AllJustified}
@@ -19,21 +19,21 @@ use Rattle.coap_model.proofs.Giving.{ids-kept}
 use Rattle.coap_model.proofs.Remembering.{remembered-on, leaves-nothing}
 use Rattle.coap_model.proofs.Stores.{store-otherwise}
 
--- what must hold of an entry: it acts on nothing, and opens, sends and admits nothing
-pub record IsQuiet (e : Deed) : Type 0 where
+-- what must hold of an observation: it acts on nothing, and opens, sends and admits nothing
+pub record IsQuiet (e : Action) : Type 0 where
   pub act : e.act ≡ no_item
-  pub opens : opens_one e.entry.report.outcome ≡ 0
-  pub admits : admits_one e.entry.report.outcome ≡ 0
-  pub sends : is_sending e.entry.report.outcome ≡ false
-  pub takes : takes e.entry.report.outcome ≡ false
-  pub leaves_open : (standing : List Standing) (xs : List Open) → open_by e.entry.report.outcome e.act e.entry.event e.entry.report.send standing xs ≡ xs
-  pub stands : (standing : List Standing) → standing_by e.entry.report.outcome e.act e.entry.event e.entry.bytes standing ≡ standing
+  pub opens : opens_one e.observation.report.outcome ≡ 0
+  pub admits : admits_one e.observation.report.outcome ≡ 0
+  pub sends : is_sending e.observation.report.outcome ≡ false
+  pub takes : takes e.observation.report.outcome ≡ false
+  pub leaves_open : (standing : List Standing) (xs : List Open) → open_by e.observation.report.outcome e.act e.observation.event e.observation.report.send standing xs ≡ xs
+  pub stands : (standing : List Standing) → standing_by e.observation.report.outcome e.act e.observation.event e.observation.bytes standing ≡ standing
 
 -- it acts on no exchange and on no client
-pub acts-on-none : (e : Deed) → e.act ≡ no_item → (x : ℕ) → e.act ≢ moves x
+pub acts-on-none : (e : Action) → e.act ≡ no_item → (x : ℕ) → e.act ≢ moves x
 acts-on-none e act x same = let f = sym act ∙ same in cc
 
-pub serves-none : (e : Deed) → e.act ≡ no_item → (v : ℕ) → e.act ≢ serves v
+pub serves-none : (e : Action) → e.act ≡ no_item → (v : ℕ) → e.act ≢ serves v
 serves-none e act v same = let f = sym act ∙ same in cc
 
 -- the clock advances, these ids are given out, and this is stored and remembered
@@ -43,12 +43,12 @@ quiet_state w now ids store con non =
 
 -- such a step preserves what is carried, whatever ids it gives out, and whatever moves in the store
 -- and is remembered
-pub keeps_still : (w : State) (history : List Deed) (c : Bears history w) (e : Deed) (ids : Given) (store : List cache.Entry) (con non : Records) → IsQuiet e → w.last ≤ e.entry.now
-    → Ids (e ∷ history) (quiet_state w e.entry.now ids store con non)
-    → ((now : ℕ) → e.entry.now ≤ now → given_in now ids + reserved w ≤ 32768)
+pub keeps_still : (w : State) (history : List Action) (c : Bears history w) (e : Action) (ids : Given) (store : List cache.Entry) (con non : Records) → IsQuiet e → w.last ≤ e.observation.now
+    → Ids (e ∷ history) (quiet_state w e.observation.now ids store con non)
+    → ((now : ℕ) → e.observation.now ≤ now → given_in now ids + reserved w ≤ 32768)
     → IsStoreOf w.setting (e ∷ history) store
     → AreRemembered w.setting (e ∷ history) Con con × AreRemembered w.setting (e ∷ history) Non non
-    → AllJustified w.setting (e ∷ history) → Bears (e ∷ history) (quiet_state w e.entry.now ids store con non)
+    → AllJustified w.setting (e ∷ history) → Bears (e ∷ history) (quiet_state w e.observation.now ids store con non)
 keeps_still w history c e ids store con non q onward given room stored remembered past =
     let opens = q.opens in
     let admits = q.admits in
@@ -80,18 +80,18 @@ keeps_still w history c e ids store con non q onward given room stored remembere
       past = past;
     }
 
--- the records stay right at an entry that adds none
-pub remembered-still : (w : State) (history : List Deed) (c : Bears history w) (e : Deed) → w.last ≤ e.entry.now → ((k : Kind) → is_remembered e.entry.report.outcome k ≡ false) → AreRemembered w.setting (e ∷ history) Con w.con_records × AreRemembered w.setting (e ∷ history) Non w.non_records
+-- the records stay right at an observation that adds none
+pub remembered-still : (w : State) (history : List Action) (c : Bears history w) (e : Action) → w.last ≤ e.observation.now → ((k : Kind) → is_remembered e.observation.report.outcome k ≡ false) → AreRemembered w.setting (e ∷ history) Con w.con_records × AreRemembered w.setting (e ∷ history) Non w.non_records
 remembered-still w history c e onward none =
-    let since : last_of history ≤ e.entry.now = let h = c.clock.last in omega (arith, h, onward) in
+    let since : last_of history ≤ e.observation.now = let h = c.clock.last in omega (arith, h, onward) in
     (remembered-on e since (leaves-nothing Con e none) c.con_records, remembered-on e since (leaves-nothing Non e none) c.non_records)
 
 -- reserved ids can still be given out later
-pub room-still : (w : State) (history : List Deed) (c : Bears history w) (later : ℕ) → w.last ≤ later → (now : ℕ) → later ≤ now → given_in now w.ids + reserved w ≤ 32768
+pub room-still : (w : State) (history : List Action) (c : Bears history w) (later : ℕ) → w.last ≤ later → (now : ℕ) → later ≤ now → given_in now w.ids + reserved w ≤ 32768
 room-still w history c later onward now after = c.within.ids now (omega arith)
 
 -- so does a step that gives out no id, and moves and adds nothing
-pub keeps_quiet : (w : State) (history : List Deed) (c : Bears history w) (e : Deed) → IsQuiet e → leaves e.entry.report.outcome ≡ true → ((k : Kind) → is_remembered e.entry.report.outcome k ≡ false) → w.last ≤ e.entry.now → gives_id e.entry ≡ 0
-    → AllJustified w.setting (e ∷ history) → Bears (e ∷ history) (later w e.entry.now)
+pub keeps_quiet : (w : State) (history : List Action) (c : Bears history w) (e : Action) → IsQuiet e → leaves e.observation.report.outcome ≡ true → ((k : Kind) → is_remembered e.observation.report.outcome k ≡ false) → w.last ≤ e.observation.now → gives_id e.observation ≡ 0
+    → AllJustified w.setting (e ∷ history) → Bears (e ∷ history) (later w e.observation.now)
 keeps_quiet w history c e q leaving none onward gives past =
-    keeps_still w history c e w.ids w.store w.con_records w.non_records q onward (ids-kept history w (later w e.entry.now) e c.clock c.ids onward refl gives refl) (room-still w history c e.entry.now onward) (store-otherwise w.setting history w.store e leaving q.takes c.store) (remembered-still w history c e onward none) past
+    keeps_still w history c e w.ids w.store w.con_records w.non_records q onward (ids-kept history w (later w e.observation.now) e c.clock c.ids onward refl gives refl) (room-still w history c e.observation.now onward) (store-otherwise w.setting history w.store e leaving q.takes c.store) (remembered-still w history c e onward none) past

@@ -20,7 +20,7 @@ use Rattle.coap_model.specs.Keys.{key_sent}
 use Rattle.coap_model.specs.State.{State}
 use Rattle.coap_model.specs.Answers.{marked_all, entry_made, may_store, answer_for}
 use Rattle.coap_pending.specs.Exchanges.{asked_of}
-use Rattle.coap_model.specs.History.{Deed, Place, moves, takes, Brings, Matches, Gets}
+use Rattle.coap_model.specs.History.{Action, Position, moves, takes, Brings, Matches, Gets}
 use Rattle.coap_model.specs.Changed.{key_asked, Unchanged, IsTold}
 use Rattle.coap_model.specs.Cached.{entry_of_cached, copied, answer_got, entry_got, leaves, WasCacheAt, IsStored, IsStoreOf}
 use Rattle.coap_model.specs.Justified.{IsAnswer, IsObtainedHere, JustifiedBy}
@@ -28,7 +28,7 @@ use Rattle.coap_model.specs.Carries.{IsInFlight, Bears}
 use Rattle.coap_model.proofs.Cached.{former-once}
 use Rattle.coap_model.proofs.Changing.{one-getting, told-on, storable-quiet}
 use Rattle.coap_model.proofs.Missing.{clean-flight, not-true}
-use Rattle.coap_model.proofs.Places.{here, index_below}
+use Rattle.coap_model.proofs.Positions.{here, index_below}
 use Rattle.coap_model.proofs.Rules.{changed_state, IsStoring, kept, too_large, no_memory, not_stored}
 use Rattle.coap_model.proofs.Stores.{marked-on, store-kept, store-too_large, store-marked, none-found}
 
@@ -38,7 +38,7 @@ unfolding answer_of
 answer-same most now m true a b same = ap (λ (o : Option Message). answer_of most true o now m) (same refl)
 answer-same most now m false a b same = refl
 
-module _ (w : State) (history : List Deed) (c : Bears history w) (now : ℕ) (m : Message) (x : Numbered Exchange) (e : Deed) (moment : e.entry.now ≡ now) (flight : IsInFlight w.setting history x) (act : e.act ≡ moves x.0) (outcome : takes e.entry.report.outcome ≡ true) (brings : Brings w.setting.limits.datagram flight.asked.asks.sends.to m e.entry.event) (matches : Matches (token_of w.setting.salt x.0) flight.asked.asks.sends.message.id m) (fits : IsBytes brings.bytes) where
+module _ (w : State) (history : List Action) (c : Bears history w) (now : ℕ) (m : Message) (x : Numbered Exchange) (e : Action) (moment : e.observation.now ≡ now) (flight : IsInFlight w.setting history x) (act : e.act ≡ moves x.0) (outcome : takes e.observation.report.outcome ≡ true) (brings : Brings w.setting.limits.datagram flight.asked.asks.sends.to m e.observation.event) (matches : Matches (token_of w.setting.salt x.0) flight.asked.asks.sends.message.id m) (fits : IsBytes brings.bytes) where
   -- the answer arrived there
   abbrev pub gets : Gets w.setting x.0 (here history e)
   gets = record {
@@ -99,9 +99,9 @@ module _ (w : State) (history : List Deed) (c : Bears history w) (now : ℕ) (m 
       let one = one-getting o.gets gets in
       let get : x.1.is_get ≡ true = sym flight.method ∙ ap (λ (r : Message). is_get r.code) (sym one.asked) ∙ o.method in
       let key : key_asked o.gets ≡ x.1.key = one.key ∙ flight.asked.asked_key in
-      let unchanged : Unchanged w.setting x.1.key.target flight.asked.asking history = subst (λ (p : Place). Unchanged w.setting x.1.key.target p history) one.asking (subst (λ (k : CacheKey). Unchanged w.setting k.target o.gets.meets.asking history) key o.unchanged) in
-      let former : o.former ≡ flight.former = former-once (subst (λ (p : Place). WasCacheAt w.setting p.before x.0 o.former) one.asking (subst (λ (n : ℕ). WasCacheAt w.setting o.gets.meets.asking.before n o.former) one.exchange o.was_cache)) flight.was_cache in
-      let answer : answer_got o.former o.gets ≡ answer_got flight.former gets = λ i. answer_of w.setting.limits.datagram (is_get (one.asked i).code) (copied (tags_of (one.asked i)) (one.key i) (former i)) e.entry.now (one.message i) in
+      let unchanged : Unchanged w.setting x.1.key.target flight.asked.asking history = subst (λ (p : Position). Unchanged w.setting x.1.key.target p history) one.asking (subst (λ (k : CacheKey). Unchanged w.setting k.target o.gets.meets.asking history) key o.unchanged) in
+      let former : o.former ≡ flight.former = former-once (subst (λ (p : Position). WasCacheAt w.setting p.before x.0 o.former) one.asking (subst (λ (n : ℕ). WasCacheAt w.setting o.gets.meets.asking.before n o.former) one.exchange o.was_cache)) flight.was_cache in
+      let answer : answer_got o.former o.gets ≡ answer_got flight.former gets = λ i. answer_of w.setting.limits.datagram (is_get (one.asked i).code) (copied (tags_of (one.asked i)) (one.key i) (former i)) e.observation.now (one.message i) in
       and_from x.1.is_get (not x.1.tainted && is_storable (answer_for w now m x.1)) get
       (and_from (not x.1.tainted) (is_storable (answer_for w now m x.1)) (ap not (clean-flight w.setting history x flight unchanged)) (ap is_storable (result-is ∙ sym answer) ∙ o.storable))
 
@@ -120,7 +120,7 @@ module _ (w : State) (history : List Deed) (c : Bears history w) (now : ℕ) (m 
       }
 
   -- the store then corresponds to the cache of the history
-  pub stored-then : (grown : Bool) (storing : Storing) (store : List Entry) → e.entry.report.outcome ≡ Answered storing → IsStoring (changed_state w m x) now grown x (answer_for w now m x.1) storing store → IsStoreOf w.setting (e ∷ history) store
+  pub stored-then : (grown : Bool) (storing : Storing) (store : List Entry) → e.observation.report.outcome ≡ Answered storing → IsStoring (changed_state w m x) now grown x (answer_for w now m x.1) storing store → IsStoreOf w.setting (e ∷ history) store
   stored-then grown Kept _ is (kept can small) =
       subst (λ (k : CacheKey). IsStoreOf w.setting (e ∷ history) (put entry_key entry_size w.setting.limits.cache_bytes w.setting.limits.cache_entries (entry_made (changed_state w m x) now x.1 (answer_for w now m x.1)) (marked_all (changed_by k.target m) w.store))) flight.asked.asked_key
       (store-kept w.setting history e gets w.store flight.former (entry_made (changed_state w m x) now x.1 (answer_for w now m x.1)) is flight.was_cache (new-stored can) c.store)
@@ -129,11 +129,11 @@ module _ (w : State) (history : List Deed) (c : Bears history w) (now : ℕ) (m 
       (store-too_large w.setting history e gets w.store is c.store)
   stored-then grown NoMemory _ is (no_memory can small new g) = left (ap leaves is)
     where
-      left : leaves e.entry.report.outcome ≡ true → IsStoreOf w.setting (e ∷ history) (marked_all (changed_by x.1.key.target m) w.store)
+      left : leaves e.observation.report.outcome ≡ true → IsStoreOf w.setting (e ∷ history) (marked_all (changed_by x.1.key.target m) w.store)
       left leaving = subst (λ (k : CacheKey). IsStoreOf w.setting (e ∷ history) (marked_all (changed_by k.target m) w.store)) flight.asked.asked_key (store-marked w.setting history e gets w.store leaving c.store)
   stored-then grown NotStored _ is (not_stored can) = subst (λ (k : CacheKey). IsStoreOf w.setting (e ∷ history) (marked_all (changed_by k.target m) w.store)) flight.asked.asked_key (store-marked w.setting history e gets w.store (ap leaves is) c.store)
 
-  -- and the deed is justified
+  -- and the action is justified
   pub answered-so : (grown : Bool) (storing : Storing) (store : List Entry) → IsAnswer w.setting history e → IsStoring (changed_state w m x) now grown x (answer_for w now m x.1) storing store → JustifiedBy (Answered storing) w.setting history e
   answered-so grown Kept _ answer (kept can small) = record { answer = answer; here = obtained can; small = subst (λ (t : Entry). entry_size t ≤ w.setting.limits.cache_bytes) made small }
   answered-so grown TooLarge _ answer (too_large can large) = record { answer = answer; here = obtained can; large = subst (λ (t : Entry). w.setting.limits.cache_bytes < entry_size t) made large }

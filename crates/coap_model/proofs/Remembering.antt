@@ -28,17 +28,17 @@ use Rattle.coap_model.specs.declared.report.Outcome.TheVariants.{Answered}
 use Rattle.coap_model.specs.declared.report.Storing.{Storing}
 use Rattle.std.proofs.lemmas.Option.{same_Some}
 use Rattle.coap_message.specs.Uint.{IsBytes}
-use Rattle.coap_model.specs.History.{Act, Deed, last_of}
+use Rattle.coap_model.specs.History.{Act, Action, last_of}
 use Rattle.coap_model.specs.Justified.{HasRecordRoom, IsNew}
-use Rattle.coap_model.specs.Runs.{entry_of}
+use Rattle.coap_model.specs.Runs.{observation_of}
 use Rattle.coap_model.specs.Carries.{AreRemembered, Bears}
-use Rattle.coap_model.proofs.Places.{doing}
+use Rattle.coap_model.proofs.Positions.{doing}
 use Rattle.coap_model.proofs.Rules.{Asked, IsFirst, head_of_read}
 use Rattle.coap_model.proofs.Lists.{All-filter}
 use Rattle.coap_model.proofs.Splitting.{both-below, not-both}
 
--- after an entry that adds no record, the same is remembered
-pub remembered-on : {setting : Setting} {history : List Deed} {kind : Kind} {t : Records} (e : Deed) → last_of history ≤ e.entry.now → kept_by kind e.entry ≡ [] → AreRemembered setting history kind t → AreRemembered setting (e ∷ history) kind t
+-- after an observation that adds no record, the same is remembered
+pub remembered-on : {setting : Setting} {history : List Action} {kind : Kind} {t : Records} (e : Action) → last_of history ≤ e.observation.now → kept_by kind e.observation ≡ [] → AreRemembered setting history kind t → AreRemembered setting (e ∷ history) kind t
 remembered-on {history = history} {kind = kind} {t = t} e onward none s =
     record {
       same = λ n later. s.same n (omega (arith, onward, later)) ∙ ap (living (remembered_for kind) n) (sym (ap (λ (rs : List Record). kept_in kind history ++ rs) none ∙ append-nil (kept_in kind history)));
@@ -46,12 +46,12 @@ remembered-on {history = history} {kind = kind} {t = t} e onward none s =
       per_client = s.per_client;
       lifetime = s.lifetime;
       are = s.are;
-      until = All-weaken (λ r. r.at ≤ last_of history) (λ r. r.at ≤ e.entry.now) t.items (λ r le. omega (arith, le, onward)) s.until;
+      until = All-weaken (λ r. r.at ≤ last_of history) (λ r. r.at ≤ e.observation.now) t.items (λ r le. omega (arith, le, onward)) s.until;
       short = s.short;
     }
 
 -- and after one that adds the record of a new message, this is remembered, too
-pub remembered-more : {setting : Setting} {history : List Deed} {kind : Kind} {t : Records} (e : Deed) (r : Record) → last_of history ≤ e.entry.now → r.at ≡ e.entry.now → kept_by kind e.entry ≡ r ∷ [] → record_of r.from r.id (living_at e.entry.now t) ≡ None → length (living_at e.entry.now t) < t.limit → living_of r.from e.entry.now t < t.per_client
+pub remembered-more : {setting : Setting} {history : List Action} {kind : Kind} {t : Records} (e : Action) (r : Record) → last_of history ≤ e.observation.now → r.at ≡ e.observation.now → kept_by kind e.observation ≡ r ∷ [] → record_of r.from r.id (living_at e.observation.now t) ≡ None → length (living_at e.observation.now t) < t.limit → living_of r.from e.observation.now t < t.per_client
     → ((most : ℕ) → 128 ≤ most → setting.limits.datagram ≤ most → reply_bytes r ≤ most) → AreRemembered setting history kind t → AreRemembered setting (e ∷ history) kind (with_kept r t)
 remembered-more {setting = setting} {history = history} {kind = kind} {t = t} e r onward at one unknown room own short s =
     record {
@@ -70,7 +70,7 @@ remembered-more {setting = setting} {history = history} {kind = kind} {t = t} e 
     until : AreUpTo r.at t.items
     until = All-weaken (λ q. q.at ≤ last_of history) (λ q. q.at ≤ r.at) t.items (λ q le. omega (arith, le, onward, at)) s.until
 
-    both : (n : ℕ) → e.entry.now ≤ n → living_at n t ++ living t.lifetime n (r ∷ []) ≡ remembered_at kind n (e ∷ history)
+    both : (n : ℕ) → e.observation.now ≤ n → living_at n t ++ living t.lifetime n (r ∷ []) ≡ remembered_at kind n (e ∷ history)
     both n later =
         (λ i. s.same n (omega (arith, onward, later)) i ++ living (s.lifetime i) n (r ∷ []))
         ∙ sym (filter-append (is_living (remembered_for kind) n) (kept_in kind history) (r ∷ []))
@@ -85,12 +85,12 @@ kept-nothing : (kind : Kind) (outcome : Outcome) (now : ℕ) (sent : List ℕ) (
 kept-nothing kind outcome now sent source None none = refl
 kept-nothing kind outcome now sent source (Some h) none = rw (and_off (goes_with kind h.kind) (is_remembered outcome h.kind) (none h refl)) refl
 
--- an entry with such an outcome adds no record
-pub leaves-nothing : (kind : Kind) (e : Deed) → ((k : Kind) → is_remembered e.entry.report.outcome k ≡ false) → kept_by kind e.entry ≡ []
-leaves-nothing kind e none = go e.entry.event
+-- an observation with such an outcome adds no record
+pub leaves-nothing : (kind : Kind) (e : Action) → ((k : Kind) → is_remembered e.observation.report.outcome k ≡ false) → kept_by kind e.observation ≡ []
+leaves-nothing kind e none = go e.observation.event
   where
-    go : (event : Event) → kept_at kind e.entry.report.outcome e.entry.now e.entry.bytes event ≡ []
-    go (arrival source bytes) = kept-nothing kind e.entry.report.outcome e.entry.now e.entry.bytes source (head_at bytes) (λ h is. none h.kind)
+    go : (event : Event) → kept_at kind e.observation.report.outcome e.observation.now e.observation.bytes event ≡ []
+    go (arrival source bytes) = kept-nothing kind e.observation.report.outcome e.observation.now e.observation.bytes source (head_at bytes) (λ h is. none h.kind)
     go tick = refl
 
 -- ---- a new request
@@ -99,7 +99,7 @@ leaves-nothing kind e none = go e.entry.event
 pub request-kind : {w : State} {bytes : List ℕ} {m : Message} → Asked w bytes m → brings_requests m.kind ≡ true
 request-kind {m = m} asked = (and_parts (brings_requests m.kind) (is_request m.code) asked.request).0
 
-module _ (w : State) (history : List Deed) (c : Bears history w) (now : ℕ) (client : Endpoint) (bytes : List ℕ) (m : Message) (onward : w.last ≤ now) where
+module _ (w : State) (history : List Action) (c : Bears history w) (now : ℕ) (client : Endpoint) (bytes : List ℕ) (m : Message) (onward : w.last ≤ now) where
   since : last_of history ≤ now
   since = let h = c.clock.last in omega (arith, h, onward)
 
@@ -147,12 +147,12 @@ module _ (w : State) (history : List Deed) (c : Bears history w) (now : ℕ) (cl
 
   -- the message is remembered from here on
   pub now-remembered : (draw : ℕ) (act : Act) (s : Step) → IsBytes bytes → message_in w.setting.limits.datagram bytes ≡ Some m → brings_requests m.kind ≡ true → known_of w now client m ≡ None → has_record_room w now client m.kind ≡ true → is_remembered s.report.outcome m.kind ≡ true → ((most : ℕ) → 128 ≤ most → w.setting.limits.datagram ≤ most → length s.bytes ≤ most)
-      → AreRemembered w.setting (doing act (entry_of now draw (arrival client bytes) s) ∷ history) Con (if is_con m.kind then with_kept (record_made now client m s.bytes) w.con_records else w.con_records)
-      × AreRemembered w.setting (doing act (entry_of now draw (arrival client bytes) s) ∷ history) Non (if is_con m.kind then w.non_records else with_kept (record_made now client m s.bytes) w.non_records)
+      → AreRemembered w.setting (doing act (observation_of now draw (arrival client bytes) s) ∷ history) Con (if is_con m.kind then with_kept (record_made now client m s.bytes) w.con_records else w.con_records)
+      × AreRemembered w.setting (doing act (observation_of now draw (arrival client bytes) s) ∷ history) Non (if is_con m.kind then w.non_records else with_kept (record_made now client m s.bytes) w.non_records)
   now-remembered draw act s fits came kind new free kept short = go m.kind refl
     where
-      e : Deed
-      e = doing act (entry_of now draw (arrival client bytes) s)
+      e : Action
+      e = doing act (observation_of now draw (arrival client bytes) s)
 
       made : Kind → Record
       made k = record { from = client; id = m.id; at = now; reply = told_again k s.bytes }
@@ -160,7 +160,7 @@ module _ (w : State) (history : List Deed) (c : Bears history w) (now : ℕ) (cl
       head : Kind → Head
       head k = record { kind = k; code = m.code; id = m.id }
 
-      leaves : (kind k : Kind) → m.kind ≡ k → kept_by kind e.entry ≡ (if goes_with kind k && true then made k ∷ [] else [])
+      leaves : (kind k : Kind) → m.kind ≡ k → kept_by kind e.observation ≡ (if goes_with kind k && true then made k ∷ [] else [])
       leaves kind k is =
           let read : head_at bytes ≡ Some (head k) = head_of_read w bytes m fits came ∙ ap (λ (l : Kind). Some (head l)) is in
           let on : is_remembered s.report.outcome k ≡ true = subst (λ (l : Kind). is_remembered s.report.outcome l ≡ true) is kept in
@@ -191,16 +191,16 @@ module _ (w : State) (history : List Deed) (c : Bears history w) (now : ℕ) (cl
 
   -- so is a new request
   pub first-remembered : (draw : ℕ) (act : Act) (s : Step) → IsFirst w now client bytes m → is_remembered s.report.outcome m.kind ≡ true → ((most : ℕ) → 128 ≤ most → w.setting.limits.datagram ≤ most → length s.bytes ≤ most)
-      → AreRemembered w.setting (doing act (entry_of now draw (arrival client bytes) s) ∷ history) Con (if is_con m.kind then with_kept (record_made now client m s.bytes) w.con_records else w.con_records)
-      × AreRemembered w.setting (doing act (entry_of now draw (arrival client bytes) s) ∷ history) Non (if is_con m.kind then w.non_records else with_kept (record_made now client m s.bytes) w.non_records)
+      → AreRemembered w.setting (doing act (observation_of now draw (arrival client bytes) s) ∷ history) Con (if is_con m.kind then with_kept (record_made now client m s.bytes) w.con_records else w.con_records)
+      × AreRemembered w.setting (doing act (observation_of now draw (arrival client bytes) s) ∷ history) Non (if is_con m.kind then w.non_records else with_kept (record_made now client m s.bytes) w.non_records)
   first-remembered draw act s first kept short = now-remembered draw act s first.fits first.asked.read (request-kind first.asked) first.unknown first.room kept short
 
 -- ---- an answer that isn't Confirmable
 
 -- it adds no record
-pub answer-leaves : (w : State) (bytes : List ℕ) (m : Message) (kind : Kind) (e : Deed) (source : Endpoint) (storing : Storing) → IsBytes bytes → message_in w.setting.limits.datagram bytes ≡ Some m → is_con m.kind ≡ false → e.entry.event ≡ arrival source bytes → e.entry.report.outcome ≡ Answered storing → kept_by kind e.entry ≡ []
+pub answer-leaves : (w : State) (bytes : List ℕ) (m : Message) (kind : Kind) (e : Action) (source : Endpoint) (storing : Storing) → IsBytes bytes → message_in w.setting.limits.datagram bytes ≡ Some m → is_con m.kind ≡ false → e.observation.event ≡ arrival source bytes → e.observation.report.outcome ≡ Answered storing → kept_by kind e.observation ≡ []
 answer-leaves w bytes m kind e source storing fits read other came outcome =
-    ap (λ (v : Event). kept_at kind e.entry.report.outcome e.entry.now e.entry.bytes v) came
-    ∙ ap (λ (o : Outcome). kept_of kind o e.entry.now e.entry.bytes source (head_at bytes)) outcome
-    ∙ kept-nothing kind (Answered storing) e.entry.now e.entry.bytes source (head_at bytes)
+    ap (λ (v : Event). kept_at kind e.observation.report.outcome e.observation.now e.observation.bytes v) came
+    ∙ ap (λ (o : Outcome). kept_of kind o e.observation.now e.observation.bytes source (head_at bytes)) outcome
+    ∙ kept-nothing kind (Answered storing) e.observation.now e.observation.bytes source (head_at bytes)
     (λ h is. let own = head_of_read w bytes m fits read in ap (λ (k : Head). is_con k.kind) (same_Some h (record { kind = m.kind; code = m.code; id = m.id }) (sym is ∙ own)) ∙ other)

@@ -28,8 +28,8 @@ use Rattle.coap_model.specs.Events.{tick}
 use Rattle.coap_model.specs.Setting.{Setting}
 use Rattle.coap_model.specs.State.{State}
 use Rattle.coap_model.specs.Ticks.{resends, gives_up}
-use Rattle.coap_model.specs.Runs.{entry_of}
-use Rattle.coap_model.specs.History.{Entry, moves, Deed, Never, Ends}
+use Rattle.coap_model.specs.Runs.{observation_of}
+use Rattle.coap_model.specs.History.{Observation, moves, Action, Never, Ends}
 use Rattle.coap_model.specs.Standing.{staged, done}
 use Rattle.coap_model.specs.Schedules.{oldest, sends_by, IsSchedule, MayGoOn, SaysAsBefore}
 use Rattle.coap_model.specs.Justified.{IsGivingUp, overdue, unheard, given_up, request_again}
@@ -39,7 +39,7 @@ use Rattle.coap_model.proofs.Frames.{same_act-self, sends-quiet, sent_frame, sen
 use Rattle.coap_model.proofs.Giving.{ids-kept}
 use Rattle.coap_model.proofs.Lists.{Has, Has-all}
 use Rattle.coap_model.proofs.Moving.{others-quiet, keeps_moving}
-use Rattle.coap_model.proofs.Places.{here, doing, opened-later}
+use Rattle.coap_model.proofs.Positions.{here, doing, opened-later}
 use Rattle.coap_model.proofs.Quiet.{remembered-still, room-still}
 use Rattle.coap_model.proofs.Rules as rules
 use Rattle.coap_model.proofs.Rules.{IsTurnOf, IsOver}
@@ -51,14 +51,14 @@ use Rattle.coap_model.proofs.Turns.{turn-exchange, turn-due, turn-in_time, turn-
 -- ---- timers
 
 -- a timer that continues is that of one more transmission
-timer-again : (e before : Entry) (es : List Entry) (t : Timer) → IsTimer t (before ∷ es) → goes_on e.now t ≡ true → IsTimer (fired e.now t) (e ∷ before ∷ es)
+timer-again : (e before : Observation) (es : List Observation) (t : Timer) → IsTimer t (before ∷ es) → goes_on e.now t ≡ true → IsTimer (fired e.now t) (e ∷ before ∷ es)
 timer-again e before es t h on = rw on (let sends = h.0 in omega arith, h.1, doubled, refl)
   where
     doubled : t.timeout * 2 ≡ (2000 + (oldest before es).draw) * 2 ^ length (before ∷ es)
     doubled = ap (λ (n : ℕ). n * 2) h.2 ∙ mul_assoc (2000 + (oldest before es).draw) (2 ^ length es) 2 ∙ ap (λ (k : ℕ). (2000 + (oldest before es).draw) * k) (sym (pow-suc 2 (length es)))
 
 -- the message may be retransmitted
-may-go_on : (now : ℕ) (es : List Entry) (t : Timer) → IsTimer t es → goes_on now t ≡ true → MayGoOn now es
+may-go_on : (now : ℕ) (es : List Observation) (t : Timer) → IsTimer t es → goes_on now t ≡ true → MayGoOn now es
 may-go_on now [] t h on = absurd h
 may-go_on now (e ∷ es) t h on =
     let parts = and_parts (ltb t.sends 5) (ltb (now - t.started) 93000) on in
@@ -69,7 +69,7 @@ may-go_on now (e ∷ es) t h on =
     record { few = omega arith; soon = omega arith }
 
 -- otherwise it may not
-pub may-not : (now : ℕ) (es : List Entry) (t : Timer) → IsTimer t es → goes_on now t ≡ false → MayGoOn now es → ⊥
+pub may-not : (now : ℕ) (es : List Observation) (t : Timer) → IsTimer t es → goes_on now t ≡ false → MayGoOn now es → ⊥
 may-not now [] t h on m = m
 may-not now (e ∷ es) t h off m =
     let sends = h.0 in
@@ -81,7 +81,7 @@ may-not now (e ∷ es) t h off m =
     absurd (let both : goes_on now t ≡ true = and_from _ _ first second in let f = sym off ∙ both in cc)
 
 -- the schedule continues
-schedule-again : (e before : Entry) (es : List Entry) (t : Timer) (to : Endpoint) (bytes : List ℕ) → IsTimer t (before ∷ es) → t.due ≤ e.now → goes_on e.now t ≡ true → AreOfBytes to bytes (before ∷ es) → e.report.send ≡ Some to → e.bytes ≡ bytes → IsSchedule (before ∷ es) → IsSchedule (e ∷ before ∷ es)
+schedule-again : (e before : Observation) (es : List Observation) (t : Timer) (to : Endpoint) (bytes : List ℕ) → IsTimer t (before ∷ es) → t.due ≤ e.now → goes_on e.now t ≡ true → AreOfBytes to bytes (before ∷ es) → e.report.send ≡ Some to → e.bytes ≡ bytes → IsSchedule (before ∷ es) → IsSchedule (e ∷ before ∷ es)
 schedule-again e before es t to bytes h come on same send is s =
     let m = may-go_on e.now (before ∷ es) t h on in
     let few = m.few in
@@ -105,13 +105,13 @@ goes-no_more now t e = go (goes_on now t) refl e
     go false f g = refl
 
 -- what is known of a message whose timer continues, as it is retransmitted
-pub record GoesAgain (now : ℕ) (t : Timer) (es : List Entry) (e : Entry) : Type 0 where
+pub record GoesAgain (now : ℕ) (t : Timer) (es : List Observation) (e : Observation) : Type 0 where
   pub timer : IsTimer (fired now t) (e ∷ es)
   pub schedule : IsSchedule (e ∷ es)
   pub may : MayGoOn now es
   pub same : SaysAsBefore es e
 
-pub goes : (now : ℕ) (t : Timer) (es : List Entry) (to : Endpoint) (bytes : List ℕ) (e : Entry) → e.now ≡ now → IsTimer t es → AreOfBytes to bytes es → t.due ≤ now → goes_on now t ≡ true → e.report.send ≡ Some to → e.bytes ≡ bytes → IsSchedule es → GoesAgain now t es e
+pub goes : (now : ℕ) (t : Timer) (es : List Observation) (to : Endpoint) (bytes : List ℕ) (e : Observation) → e.now ≡ now → IsTimer t es → AreOfBytes to bytes es → t.due ≤ now → goes_on now t ≡ true → e.report.send ≡ Some to → e.bytes ≡ bytes → IsSchedule es → GoesAgain now t es e
 goes now t [] to bytes e moment timer are come on send is schedule = absurd timer
 goes now t (before ∷ es) to bytes e moment timer are come on send is schedule =
     let on_here : goes_on e.now t ≡ true = subst (λ (n : ℕ). goes_on n t ≡ true) (sym moment) on in
@@ -125,10 +125,10 @@ goes now t (before ∷ es) to bytes e moment timer are come on send is schedule 
 -- ---- a request is retransmitted
 
 -- retransmitting a request preserves what is carried
-pub keeps_resending : (w : State) (history : List Deed) (c : Bears history w) → (now draw at number : ℕ) (x : Exchange) → w.last ≤ now → IsTurnOf w now at number x → x.state ≡ Sent → now < deadline w.setting.limits.exchange_ms x → fire_of_sending now x.sending ≡ Again
-    → Bears (doing (moves number) (entry_of now draw tick (resends w now number x)) ∷ history) (resends w now number x).state
+pub keeps_resending : (w : State) (history : List Action) (c : Bears history w) → (now draw at number : ℕ) (x : Exchange) → w.last ≤ now → IsTurnOf w now at number x → x.state ≡ Sent → now < deadline w.setting.limits.exchange_ms x → fire_of_sending now x.sending ≡ Again
+    → Bears (doing (moves number) (observation_of now draw tick (resends w now number x)) ∷ history) (resends w now number x).state
 keeps_resending w history c now draw at number x onward turn sent early fire =
-    let e = doing (moves number) (entry_of now draw tick (resends w now number x)) in
+    let e = doing (moves number) (observation_of now draw tick (resends w now number x)) in
     let f = turn-exchange w history c now at number x turn in
     let flight : IsInFlight w.setting history (number, x) = subst (IsState w.setting history (number, x)) sent f.state in
     let s = flight.sending in
@@ -137,8 +137,8 @@ keeps_resending w history c now draw at number x onward turn sent early fire =
     let ended = turn-ended w history c now at number x turn sent s flight.sending_is early in
     let due = turn-due w history c now at number x turn in
     let come = due.1 in
-    let g = goes now s.timer (sends_by (moves number) history) x.key.target.at x.form e.entry refl a.timer a.bytes (omega arith) on refl refl (c.schedules (moves number)) in
-    let grown : sends_by (moves number) (e ∷ history) ≡ e.entry ∷ sends_by (moves number) history = sends-grow (moves number) history e (same_act-self number) refl in
+    let g = goes now s.timer (sends_by (moves number) history) x.key.target.at x.form e.observation refl a.timer a.bytes (omega arith) on refl refl (c.schedules (moves number)) in
+    let grown : sends_by (moves number) (e ∷ history) ≡ e.observation ∷ sends_by (moves number) history = sends-grow (moves number) history e (same_act-self number) refl in
     let queued_same = count-kept is_queued number (fired_exchange now) w.exchanges (λ y. refl) in
     let within = c.within.ids in
     let id : form_id (fired_option now x.sending) ≡ form_id x.sending = ap (λ (o : Option Sending). form_id (fired_option now o)) flight.sending_is ∙ sym (ap form_id flight.sending_is) in
@@ -206,7 +206,7 @@ pub ended-seen : (n : ℕ) (a : Answer) (xs : List (Numbered Exchange)) → map 
 ended-seen n a xs = staged-seen n (answered a) done xs (λ y. refl) (All-weaken (λ y. Has y xs) (λ y. y.0 ≡ n → done ≡ done) xs (λ y there same. refl) (Has-all xs))
 
 -- an exchange that has its answer is neither queued nor sent
-pub ended-room : (w : State) (history : List Deed) (c : Bears history w) (now n : ℕ) (a : Answer) (xs : List (Numbered Exchange)) → IsRising 0 xs → count is_queued xs ≡ count is_queued w.exchanges → w.last ≤ now → (later : ℕ) → now ≤ later → given_in later w.ids + (count is_waiting w.waiters + count is_queued (changed_at n (answered a) xs)) ≤ 32768
+pub ended-room : (w : State) (history : List Action) (c : Bears history w) (now n : ℕ) (a : Answer) (xs : List (Numbered Exchange)) → IsRising 0 xs → count is_queued xs ≡ count is_queued w.exchanges → w.last ≤ now → (later : ℕ) → now ≤ later → given_in later w.ids + (count is_waiting w.waiters + count is_queued (changed_at n (answered a) xs)) ≤ 32768
 ended-room w history c now n a xs rising many onward later after =
     let room = room-still w history c now onward later after in
     let moved = count-moved is_queued n 0 (answered a) xs rising in
@@ -217,7 +217,7 @@ ended-room w history c now n a xs rising many onward later after =
     no-more t None = refl
     no-more t (Some b) = refl
 
-pub ended-pace : (w : State) (history : List Deed) (c : Bears history w) (n : ℕ) (a : Answer) (xs : List (Numbered Exchange)) → IsRising 0 xs → (to : Endpoint) → count (is_sent_to to) xs ≡ count (is_sent_to to) w.exchanges → count (is_sent_to to) (changed_at n (answered a) xs) ≤ w.setting.limits.nstart
+pub ended-pace : (w : State) (history : List Action) (c : Bears history w) (n : ℕ) (a : Answer) (xs : List (Numbered Exchange)) → IsRising 0 xs → (to : Endpoint) → count (is_sent_to to) xs ≡ count (is_sent_to to) w.exchanges → count (is_sent_to to) (changed_at n (answered a) xs) ≤ w.setting.limits.nstart
 ended-pace w history c n a xs rising to many =
     let pace = c.within.pace to in
     let moved = count-moved (is_sent_to to) n 0 (answered a) xs rising in
@@ -229,17 +229,17 @@ ended-pace w history c n a xs rising to many =
     no-more (Some b) = refl
 
 -- an exchange that isn't done hasn't ended
-unended-yet : (setting : Setting) (history : List Deed) (number : ℕ) (x : Exchange) (s : ExchangeState) → IsState setting history (number, x) s → ((a : Answer) → s ≢ Done a) → Never (Ends number) history
+unended-yet : (setting : Setting) (history : List Action) (number : ℕ) (x : Exchange) (s : ExchangeState) → IsState setting history (number, x) s → ((a : Answer) → s ≢ Done a) → Never (Ends number) history
 unended-yet setting history number x Queued state other = state.unended
 unended-yet setting history number x Sent state other = state.unended
 unended-yet setting history number x Acked state other = state.unended
 unended-yet setting history number x (Done a) state other = absurd (other a refl)
 
 -- giving up an exchange preserves what is carried
-pub keeps_giving_up : (w : State) (history : List Deed) (c : Bears history w) → (now draw at number : ℕ) (x : Exchange) → w.last ≤ now → IsTurnOf w now at number x → IsOver w now x
-    → Bears (doing (moves number) (entry_of now draw tick (gives_up w now number)) ∷ history) (gives_up w now number).state
+pub keeps_giving_up : (w : State) (history : List Action) (c : Bears history w) → (now draw at number : ℕ) (x : Exchange) → w.last ≤ now → IsTurnOf w now at number x → IsOver w now x
+    → Bears (doing (moves number) (observation_of now draw tick (gives_up w now number)) ∷ history) (gives_up w now number).state
 keeps_giving_up w history c now draw at number x onward turn over =
-    let e = doing (moves number) (entry_of now draw tick (gives_up w now number)) in
+    let e = doing (moves number) (observation_of now draw tick (gives_up w now number)) in
     let a = own_answer now gateway_timeout in
     let f = turn-exchange w history c now at number x turn in
     let unended = unended-yet w.setting history number x x.state f.state (λ b is. not-due b is (turn-due w history c now at number x turn).0) in
@@ -271,14 +271,14 @@ keeps_giving_up w history c now draw at number x onward turn over =
     not-due : (b : Answer) → x.state ≡ Done b → due_of w x ≡ Some at → ⊥
     not-due b is due = absurd (let g = sym (ap (λ (s : ExchangeState). due_in s (is_blocked w.setting.limits.nstart w.exchanges x) w.setting.limits.exchange_ms x) is) ∙ due in cc)
 
-    e : Deed
-    e = doing (moves number) (entry_of now draw tick (gives_up w now number))
+    e : Action
+    e = doing (moves number) (observation_of now draw tick (gives_up w now number))
 
     gives : Never (Ends number) history → IsOver w now x → IsGivingUp w.setting history e
     gives unended (rules.overdue late) =
         let f = turn-exchange w history c now at number x turn in
         let admitted = f.admitted in
-        overdue number (f.opened.opening.deed.entry.now + w.setting.limits.exchange_ms) (acting w history c now (OfExchange at number) turn.due e refl refl refl) refl
+        overdue number (f.opened.opening.action.observation.now + w.setting.limits.exchange_ms) (acting w history c now (OfExchange at number) turn.due e refl refl refl) refl
         (record { opened = f.opened; unended = unended; at_is = refl }) (omega arith) (record { sent = refl; bytes = refl })
     gives unended (rules.unheard is early fire) =
         let f = turn-exchange w history c now at number x turn in

@@ -28,15 +28,15 @@ use Rattle.coap_model.specs.Verdicts.{may_ask}
 use Rattle.coap_model.specs.State.{State, next_id, known_of, has_record_room, remembers, repeats, drops, reserved, has_ids, can_reply, ignores, rejects}
 use Rattle.coap_model.specs.Requests.{lacks_id, refuses, overloads}
 use Rattle.coap_model.specs.Step.{message_in}
-use Rattle.coap_model.specs.History.{Entry, no_item, Deed, comes_con, gives_id, ids_in, IsRequestOf}
+use Rattle.coap_model.specs.History.{Observation, no_item, Action, comes_con, gives_id, ids_in, IsRequestOf}
 use Rattle.coap_pending.specs.declared.ids.Ids.{Ids as Given}
 use Rattle.coap_pending.specs.Ids.{given_in, called}
 use Rattle.coap_model.specs.Justified.{Comes, IsNew, HasIdFor, SaysAgain, IsAwaited, Acknowledges, Closes, Closes, IsUnprocessable}
-use Rattle.coap_model.specs.Runs.{entry_of}
+use Rattle.coap_model.specs.Runs.{observation_of}
 use Rattle.coap_model.specs.Carries.{Ids, Bears}
 use Rattle.coap_model.proofs.Giving.{ids-kept, ids-given, room-called}
 use Rattle.coap_model.proofs.Spelled.{reset-is, own_reply-is, busy_reply-is, message_in-is, message_in-again}
-use Rattle.coap_model.proofs.Places.{doing, arrival-same}
+use Rattle.coap_model.proofs.Positions.{doing, arrival-same}
 use Rattle.coap_model.proofs.Verdicts.{deserved-code}
 use Rattle.coap_model.proofs.Rules.{by_response, recorded-kind, recorded-response, Asked, Recorded, IsFirst, IsNotCon, IsNothing, verdict_in, IsDenied, IsFull, head_of_read}
 use Rattle.coap_model.proofs.OwnReplies.{at_once-is, own-short, busy-short, reply-due, free-one, free-none}
@@ -64,12 +64,12 @@ request-came w client bytes m fits asked =
     record { brings = record { bytes = bytes; came = refl; spells = read.0; short = read.1 }; kind = tests.0; method = tests.1 }
 
 -- the next id is the next one according to the history
-pub id-same : (w : State) (history : List Deed) (c : Bears history w) → next_id w ≡ (w.setting.first_id + ids_in history) % 65536
+pub id-same : (w : State) (history : List Action) (c : Bears history w) → next_id w ≡ (w.setting.first_id + ids_in history) % 65536
 id-same w history c = c.ids.following
 
 -- ---- immediate replies
 
-module _ (w : State) (history : List Deed) (c : Bears history w) (now draw : ℕ) (client : Endpoint) (bytes : List ℕ) (m : Message) (onward : w.last ≤ now) (first : IsFirst w now client bytes m) where
+module _ (w : State) (history : List Action) (c : Bears history w) (now draw : ℕ) (client : Endpoint) (bytes : List ℕ) (m : Message) (onward : w.last ≤ now) (first : IsFirst w now client bytes m) where
   -- a new request, according to the history
   pub came : IsRequestOf w.setting client m (arrival client bytes)
   came = request-came w client bytes m first.fits first.asked
@@ -94,10 +94,10 @@ module _ (w : State) (history : List Deed) (c : Bears history w) (now draw : ℕ
   ids_after = if is_con m.kind then w.ids else called now w.ids
 
   -- a reply that takes an id has the next one
-  pub reply-ids : (e : Deed) (v : State) (reply : Message) → e.entry.now ≡ now → gives_id e.entry ≡ (if is_con m.kind then 0 else 1) → Spells e.entry.bytes (at_once m reply) → reply.id ≡ next_id w → can_reply w now m.kind ≡ true → v.setting.first_id ≡ w.setting.first_id → v.ids ≡ ids_after → Ids (e ∷ history) v
+  pub reply-ids : (e : Action) (v : State) (reply : Message) → e.observation.now ≡ now → gives_id e.observation ≡ (if is_con m.kind then 0 else 1) → Spells e.observation.bytes (at_once m reply) → reply.id ≡ next_id w → can_reply w now m.kind ≡ true → v.setting.first_id ≡ w.setting.first_id → v.ids ≡ ids_after → Ids (e ∷ history) v
   reply-ids e v reply moment gives spells next free first_id is = go (is_con m.kind) refl gives is
     where
-      go : (b : Bool) → is_con m.kind ≡ b → gives_id e.entry ≡ (if b then 0 else 1) → v.ids ≡ (if b then w.ids else called now w.ids) → Ids (e ∷ history) v
+      go : (b : Bool) → is_con m.kind ≡ b → gives_id e.observation ≡ (if b then 0 else 1) → v.ids ≡ (if b then w.ids else called now w.ids) → Ids (e ∷ history) v
       go true con none same = ids-kept history w v e c.clock c.ids (omega (arith, moment)) first_id none same
       go false non one same =
           let free_one : has_ids 1 w now ≡ true = rw non at free in
@@ -118,15 +118,15 @@ module _ (w : State) (history : List Deed) (c : Bears history w) (now draw : ℕ
 
   -- a refusal preserves what is carried
   pub keeps_refusing : (code : Code) → IsDenied w now m code → can_reply w now m.kind ≡ true
-      → Bears (doing no_item (entry_of now draw (arrival client bytes) (refuses w now client m code)) ∷ history) (remembers now client m (refuses w now client m code)).state
+      → Bears (doing no_item (observation_of now draw (arrival client bytes) (refuses w now client m code)) ∷ history) (remembers now client m (refuses w now client m code)).state
   keeps_refusing code denied free =
       let s = refuses w now client m code in
-      let e = doing no_item (entry_of now draw (arrival client bytes) s) in
+      let e = doing no_item (observation_of now draw (arrival client bytes) s) in
       let deserved = deserves w history c now m code denied in
       let some = deserved-code w.setting history now m c.routes code deserved in
       let reply = own_reply code [] (next_id w) m.token in
       let spells : Spells s.bytes (at_once m reply) = spelled (at_once m reply) (at_once-is m reply (own_reply-is code [] (next_id w) m.token some tt short_token)) in
-      let gives : gives_id e.entry ≡ (if is_con m.kind then 0 else 1) = ap (λ (b : Bool). if b then 0 else 1) takes-ids in
+      let gives : gives_id e.observation ≡ (if is_con m.kind then 0 else 1) = ap (λ (b : Bool). if b then 0 else 1) takes-ids in
       keeps_still w history c e ids_after w.store _ _ (record { act = refl; opens = refl; admits = refl; sends = refl; takes = refl; leaves_open = λ standing xs. refl; stands = λ standing. refl }) onward (reply-ids e _ reply refl gives spells refl free refl refl) (reply-room free)
       (store-otherwise w.setting history w.store e refl refl c.store)
       (first-remembered w history c now client bytes m onward draw no_item s first refl (λ most wide long. omega (arith, wide, own-short m code (next_id w) m.token short_token)))
@@ -134,13 +134,13 @@ module _ (w : State) (history : List Deed) (c : Bears history w) (now draw : ℕ
 
   -- so does a 5.03
   pub keeps_overloading : (key : CacheKey) → verdict_in w m ≡ may_ask key → IsFull w now client key m → can_reply w now m.kind ≡ true
-      → Bears (doing no_item (entry_of now draw (arrival client bytes) (overloads w now client m)) ∷ history) (remembers now client m (overloads w now client m)).state
+      → Bears (doing no_item (observation_of now draw (arrival client bytes) (overloads w now client m)) ∷ history) (remembers now client m (overloads w now client m)).state
   keeps_overloading key verdict full free =
       let s = overloads w now client m in
-      let e = doing no_item (entry_of now draw (arrival client bytes) s) in
+      let e = doing no_item (observation_of now draw (arrival client bytes) s) in
       let reply = busy_reply w.setting.limits.retry_s (next_id w) m.token in
       let spells : Spells s.bytes (at_once m reply) = spelled (at_once m reply) (at_once-is m reply (busy_reply-is w.setting.limits.retry_s (next_id w) m.token short_token)) in
-      let gives : gives_id e.entry ≡ (if is_con m.kind then 0 else 1) = ap (λ (b : Bool). if b then 0 else 1) takes-ids in
+      let gives : gives_id e.observation ≡ (if is_con m.kind then 0 else 1) = ap (λ (b : Bool). if b then 0 else 1) takes-ids in
       keeps_still w history c e ids_after w.store _ _ (record { act = refl; opens = refl; admits = refl; sends = refl; takes = refl; leaves_open = λ standing xs. refl; stands = λ standing. refl }) onward (reply-ids e _ reply refl gives spells refl free refl refl) (reply-room free)
       (store-otherwise w.setting history w.store e refl refl c.store)
       (first-remembered w history c now client bytes m onward draw no_item s first refl (λ most wide long. omega (arith, wide, busy-short m w.setting.limits.retry_s (next_id w) m.token short_token)))
@@ -148,10 +148,10 @@ module _ (w : State) (history : List Deed) (c : Bears history w) (now draw : ℕ
 
   -- and so does silence because no id is free
   pub keeps_lacking : can_reply w now m.kind ≡ false
-      → Bears (doing no_item (entry_of now draw (arrival client bytes) (lacks_id w now)) ∷ history) (remembers now client m (lacks_id w now)).state
+      → Bears (doing no_item (observation_of now draw (arrival client bytes) (lacks_id w now)) ∷ history) (remembers now client m (lacks_id w now)).state
   keeps_lacking free =
       let s = lacks_id w now in
-      let e = doing no_item (entry_of now draw (arrival client bytes) s) in
+      let e = doing no_item (observation_of now draw (arrival client bytes) s) in
       let lack = free-none w now m.kind came.kind free in
       keeps_still w history c e w.ids w.store _ _ (record { act = refl; opens = refl; admits = refl; sends = refl; takes = refl; leaves_open = λ standing xs. refl; stands = λ standing. refl }) onward (ids-kept history w _ e c.clock c.ids onward refl refl refl) (room-still w history c now onward)
       (store-otherwise w.setting history w.store e refl refl c.store)
@@ -167,28 +167,28 @@ recorded-came w source bytes m fits r =
     record { brings = record { bytes = bytes; came = refl; spells = read.0; short = read.1 }; recorded = r.recorded }
 
 -- repeating a reply for a duplicate preserves what is carried
-pub keeps_repeating : (w : State) (history : List Deed) (c : Bears history w) (now draw : ℕ) (source : Endpoint) (bytes : List ℕ) (m : Message) (known : Record) → w.last ≤ now → IsBytes bytes → Recorded w bytes m → known_of w now source m ≡ Some known
-    → Bears (doing no_item (entry_of now draw (arrival source bytes) (repeats w now source known.reply)) ∷ history) (repeats w now source known.reply).state
+pub keeps_repeating : (w : State) (history : List Action) (c : Bears history w) (now draw : ℕ) (source : Endpoint) (bytes : List ℕ) (m : Message) (known : Record) → w.last ≤ now → IsBytes bytes → Recorded w bytes m → known_of w now source m ≡ Some known
+    → Bears (doing no_item (observation_of now draw (arrival source bytes) (repeats w now source known.reply)) ∷ history) (repeats w now source known.reply).state
 keeps_repeating w history c now draw source bytes m known onward fits recorded found = go known.reply refl
   where
     same : record_of source m.id (remembered_at m.kind now history) ≡ Some known
     same = ap (record_of source m.id) (sym (known-is w history c now source bytes m onward m.kind (recorded-kind m recorded.recorded))) ∙ found
 
-    go : (reply : Option (List ℕ)) → known.reply ≡ reply → Bears (doing no_item (entry_of now draw (arrival source bytes) (repeats w now source reply)) ∷ history) (repeats w now source reply).state
+    go : (reply : Option (List ℕ)) → known.reply ≡ reply → Bears (doing no_item (observation_of now draw (arrival source bytes) (repeats w now source reply)) ∷ history) (repeats w now source reply).state
     go None is =
-        let e = doing no_item (entry_of now draw (arrival source bytes) (repeats w now source None)) in
+        let e = doing no_item (observation_of now draw (arrival source bytes) (repeats w now source None)) in
         keeps_quiet w history c e (record { act = refl; opens = refl; admits = refl; sends = refl; takes = refl; leaves_open = λ standing xs. refl; stands = λ standing. refl }) refl (λ k. refl) onward refl
-        (record { act = refl; source = source; message = m; known = known; comes = recorded-came w source bytes m fits recorded; found = same; says_again = subst (λ (o : Option (List ℕ)). SaysAgain source o e.entry) (sym is) (record { sent = refl; bytes = refl }) }, c.past)
+        (record { act = refl; source = source; message = m; known = known; comes = recorded-came w source bytes m fits recorded; found = same; says_again = subst (λ (o : Option (List ℕ)). SaysAgain source o e.observation) (sym is) (record { sent = refl; bytes = refl }) }, c.past)
     go (Some reply) is =
-        let e = doing no_item (entry_of now draw (arrival source bytes) (repeats w now source (Some reply))) in
+        let e = doing no_item (observation_of now draw (arrival source bytes) (repeats w now source (Some reply))) in
         keeps_quiet w history c e (record { act = refl; opens = refl; admits = refl; sends = refl; takes = refl; leaves_open = λ standing xs. refl; stands = λ standing. refl }) refl (λ k. refl) onward refl
-        (record { act = refl; source = source; message = m; known = known; comes = recorded-came w source bytes m fits recorded; found = same; says_again = subst (λ (o : Option (List ℕ)). SaysAgain source o e.entry) (sym is) (refl, refl) }, c.past)
+        (record { act = refl; source = source; message = m; known = known; comes = recorded-came w source bytes m fits recorded; found = same; says_again = subst (λ (o : Option (List ℕ)). SaysAgain source o e.observation) (sym is) (refl, refl) }, c.past)
 
 -- and so does silence if there is no room to remember what arrived
-pub keeps_dropping : (w : State) (history : List Deed) (c : Bears history w) (now draw : ℕ) (source : Endpoint) (bytes : List ℕ) (m : Message) → w.last ≤ now → IsBytes bytes → Recorded w bytes m → (is_response m.code ≡ true → (x : Numbered Exchange) × (awaiting w source m ≡ Some x)) → known_of w now source m ≡ None → has_record_room w now source m.kind ≡ false
-    → Bears (doing no_item (entry_of now draw (arrival source bytes) (drops w now)) ∷ history) (drops w now).state
+pub keeps_dropping : (w : State) (history : List Action) (c : Bears history w) (now draw : ℕ) (source : Endpoint) (bytes : List ℕ) (m : Message) → w.last ≤ now → IsBytes bytes → Recorded w bytes m → (is_response m.code ≡ true → (x : Numbered Exchange) × (awaiting w source m ≡ Some x)) → known_of w now source m ≡ None → has_record_room w now source m.kind ≡ false
+    → Bears (doing no_item (observation_of now draw (arrival source bytes) (drops w now)) ∷ history) (drops w now).state
 keeps_dropping w history c now draw source bytes m onward fits recorded wanted unknown full =
-    let e = doing no_item (entry_of now draw (arrival source bytes) (drops w now)) in
+    let e = doing no_item (observation_of now draw (arrival source bytes) (drops w now)) in
     let kind = recorded-kind m recorded.recorded in
     let same = known-is w history c now source bytes m onward m.kind kind in
     keeps_quiet w history c e (record { act = refl; opens = refl; admits = refl; sends = refl; takes = refl; leaves_open = λ standing xs. refl; stands = λ standing. refl }) refl (λ k. refl) onward refl (
@@ -217,7 +217,7 @@ request-read w source client bytes m r =
     (message_in-again w.setting.limits.datagram bytes m read short, and_from (brings_requests m.kind) (is_request m.code) r.kind r.method)
 
 -- what holds no other message can't be processed
-unprocessable : (w : State) (history : List Deed) (c : Bears history w) (e : Entry) (source : Endpoint) (bytes : List ℕ) → w.last ≤ e.now → e.event ≡ arrival source bytes → IsNothing w e.now source bytes → IsUnprocessable w.setting history e
+unprocessable : (w : State) (history : List Action) (c : Bears history w) (e : Observation) (source : Endpoint) (bytes : List ℕ) → w.last ≤ e.now → e.event ≡ arrival source bytes → IsNothing w e.now source bytes → IsUnprocessable w.setting history e
 unprocessable w history c e source bytes onward came none = record {
   no_request = λ client m r. let read = request-read w source client bytes m (subst (IsRequestOf w.setting client m) came r) in let test = (none m read.0).request in absurd (let both = sym test ∙ read.1 in cc);
   no_duplicate = λ other m comes. not-known w history c e.now source bytes onward none other m (subst (Comes w.setting other m) came comes);
@@ -227,17 +227,17 @@ unprocessable w history c e source bytes onward came none = record {
 }
 
 -- a Reset preserves what is carried
-pub keeps_rejecting : (w : State) (history : List Deed) (c : Bears history w) (now draw : ℕ) (source : Endpoint) (bytes : List ℕ) (head : Head) → w.last ≤ now → head_at bytes ≡ Some head → is_con head.kind ≡ true → IsNothing w now source bytes
-    → Bears (doing no_item (entry_of now draw (arrival source bytes) (rejects w now source head.id)) ∷ history) (rejects w now source head.id).state
+pub keeps_rejecting : (w : State) (history : List Action) (c : Bears history w) (now draw : ℕ) (source : Endpoint) (bytes : List ℕ) (head : Head) → w.last ≤ now → head_at bytes ≡ Some head → is_con head.kind ≡ true → IsNothing w now source bytes
+    → Bears (doing no_item (observation_of now draw (arrival source bytes) (rejects w now source head.id)) ∷ history) (rejects w now source head.id).state
 keeps_rejecting w history c now draw source bytes head onward is con none =
-    let e = doing no_item (entry_of now draw (arrival source bytes) (rejects w now source head.id)) in
+    let e = doing no_item (observation_of now draw (arrival source bytes) (rejects w now source head.id)) in
     keeps_quiet w history c e (record { act = refl; opens = refl; admits = refl; sends = refl; takes = refl; leaves_open = λ standing xs. refl; stands = λ standing. refl }) refl (λ k. refl) onward refl
-    (record { act = refl; source = source; bytes = bytes; head = head; came = refl; head_is = is; con = con_is head.kind con; unprocessable = unprocessable w history c e.entry source bytes onward refl none; tells = record { sent = refl; spells = spelled (reset head.id) (reset-is head.id) } }, c.past)
+    (record { act = refl; source = source; bytes = bytes; head = head; came = refl; head_is = is; con = con_is head.kind con; unprocessable = unprocessable w history c e.observation source bytes onward refl none; tells = record { sent = refl; spells = spelled (reset head.id) (reset-is head.id) } }, c.past)
 
 -- and so does doing nothing
-pub keeps_ignoring : (w : State) (history : List Deed) (c : Bears history w) (now draw : ℕ) (source : Endpoint) (bytes : List ℕ) → w.last ≤ now → IsNotCon bytes → IsNothing w now source bytes
-    → Bears (doing no_item (entry_of now draw (arrival source bytes) (ignores w now)) ∷ history) (ignores w now).state
+pub keeps_ignoring : (w : State) (history : List Action) (c : Bears history w) (now draw : ℕ) (source : Endpoint) (bytes : List ℕ) → w.last ≤ now → IsNotCon bytes → IsNothing w now source bytes
+    → Bears (doing no_item (observation_of now draw (arrival source bytes) (ignores w now)) ∷ history) (ignores w now).state
 keeps_ignoring w history c now draw source bytes onward quiet none =
-    let e = doing no_item (entry_of now draw (arrival source bytes) (ignores w now)) in
+    let e = doing no_item (observation_of now draw (arrival source bytes) (ignores w now)) in
     keeps_quiet w history c e (record { act = refl; opens = refl; admits = refl; sends = refl; takes = refl; leaves_open = λ standing xs. refl; stands = λ standing. refl }) refl (λ k. refl) onward refl
-    (record { act = refl; source = source; bytes = bytes; came = refl; no_con = λ head is con. absurd (let f = quiet head is in let g = sym f ∙ ap is_con con in cc); unprocessable = unprocessable w history c e.entry source bytes onward refl none; silent = record { sent = refl; bytes = refl } }, c.past)
+    (record { act = refl; source = source; bytes = bytes; came = refl; no_con = λ head is con. absurd (let f = quiet head is in let g = sym f ∙ ap is_con con in cc); unprocessable = unprocessable w history c e.observation source bytes onward refl none; silent = record { sent = refl; bytes = refl } }, c.past)

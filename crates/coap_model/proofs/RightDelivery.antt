@@ -24,23 +24,23 @@ use Rattle.coap_model.specs.Keys.{target_sent, key_sent}
 use Rattle.coap_model.specs.Verdicts.{may_ask, verdict_of}
 use Rattle.coap_model.specs.Standing.{Stage, Open, queued, sent, done, Standing, waits, told, stage_of, service_of}
 use Rattle.coap_model.specs.Due.{to_send, to_repeat, to_end, IsToServe, to_serve, to_serve_again, IsDueAt, IsSooner}
-use Rattle.coap_model.specs.History.{Act, no_item, admits, moves, serves, Deed, IsRequestOf, Sends, Asks, in_acknowledgement}
+use Rattle.coap_model.specs.History.{Act, no_item, admits, moves, serves, Action, IsRequestOf, Sends, Asks, in_acknowledgement}
 use Rattle.coap_model.specs.Cached.{empty}
 use Rattle.coap_model.specs.Justified.{got, IsDelivery, verdict_on}
 use Rattle.coap_model.specs.Forged.{setting, asked, answered, past, past_con, delivery, right, in_con}
-use Rattle.coap_model.proofs.Places.{here, admitted-number}
+use Rattle.coap_model.proofs.Positions.{here, admitted-number}
 use Rattle.coap_model.proofs.CacheExamples.{are-bytes, first_sent, first_got, get_read, get_spelled}
 
 -- a client's request in these bytes is accepted, with whatever is sent immediately
-abbrev opening : List ℕ → Option Endpoint → List ℕ → Deed
-opening came send bytes = record { entry = record { now = 0; draw = 0; event = arrival (client 1) came; report = record { send = send; outcome = Opened }; bytes = bytes }; act = admits 1 1 }
+abbrev opening : List ℕ → Option Endpoint → List ℕ → Action
+opening came send bytes = record { observation = record { now = 0; draw = 0; event = arrival (client 1) came; report = record { send = send; outcome = Opened }; bytes = bytes }; act = admits 1 1 }
 
 -- it is forwarded, and its answer arrives
-abbrev past_of : Deed → List Deed
+abbrev past_of : Action → List Action
 past_of o = answered ∷ asked ∷ o ∷ []
 
 -- the request was sent there, and never before
-abbrev asks_first : (o : Deed) → ((x : ℕ) → ¬ Sends 0 x (here [] o)) → Asks 0 1 (here (o ∷ []) asked)
+abbrev asks_first : (o : Action) → ((x : ℕ) → ¬ Sends 0 x (here [] o)) → Asks 0 1 (here (o ∷ []) asked)
 asks_first o unsent_there = record {
   sends = record { act = refl; outcome = refl; to = origin; sent = refl; message = get_for 1 1; spells = first_sent; token = refl };
   first = (unsent_there 1, tt);

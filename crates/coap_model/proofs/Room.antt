@@ -10,7 +10,7 @@ use Rattle.coap_pending.specs.Waiters.{is_of, is_waiting}
 use Rattle.coap_pending.specs.Ids.{given_in}
 use Rattle.coap_pending.specs.Table.{count}
 use Rattle.coap_model.specs.State.{State, exchanges_of, reserved, has_ids, has_exchange_room, has_waiter_room, has_room_to_join, has_room_to_open, waiters_of}
-use Rattle.coap_model.specs.History.{Deed}
+use Rattle.coap_model.specs.History.{Action}
 use Rattle.coap_model.specs.Standing as service
 use Rattle.coap_model.specs.Standing.{Open, Standing, is_queued, is_sent_to, open_in, standing_in, count_if, count_open, waiting_in, queued_in, outstanding_to, window_ids, HasIds, HasRoomToJoin, HasRoomToOpen}
 use Rattle.coap_model.specs.Carries.{stage_seen, standing_seen, Bears}
@@ -20,37 +20,37 @@ use Rattle.coap_model.proofs.Splitting.{both-below, not-both, one_false}
 -- ---- what is counted
 
 -- there are as many clients in the table as are pending
-pub waiters-length : (history : List Deed) (w : State) → Bears history w → length w.waiters ≡ length (standing_in history)
+pub waiters-length : (history : List Action) (w : State) → Bears history w → length w.waiters ≡ length (standing_in history)
 waiters-length history w c = sym (length-map w.waiters standing_seen) ∙ ap length c.whole.waiters
 
 -- there are as many exchanges in the table as are open
-pub exchanges-length : (history : List Deed) (w : State) → Bears history w → length w.exchanges ≡ length (open_in history)
+pub exchanges-length : (history : List Action) (w : State) → Bears history w → length w.exchanges ≡ length (open_in history)
 exchanges-length history w c = sym (length-map w.exchanges stage_seen) ∙ ap length c.whole.exchanges
 
 -- as many clients wait for an exchange
-pub waiting-count : (history : List Deed) (w : State) → Bears history w → count is_waiting w.waiters ≡ waiting_in history
+pub waiting-count : (history : List Action) (w : State) → Bears history w → count is_waiting w.waiters ≡ waiting_in history
 waiting-count history w c = counted-seen standing_seen is_waiting (λ s. service.is_waiting s.service) (λ v. waiting-same v.1.state) w.waiters ∙ ap (count_if (λ (s : Standing). service.is_waiting s.service)) c.whole.waiters
 
 -- as many requests are queued
-pub queued-count : (history : List Deed) (w : State) → Bears history w → count exchanges.is_queued w.exchanges ≡ queued_in history
+pub queued-count : (history : List Action) (w : State) → Bears history w → count exchanges.is_queued w.exchanges ≡ queued_in history
 queued-count history w c = counted-seen stage_seen exchanges.is_queued (λ o. is_queued o.stage) (λ x. queued-same x.1) w.exchanges ∙ ap (count_open is_queued) c.whole.exchanges
 
 -- and as many requests to an endpoint are sent
-pub sent-count : (to : Endpoint) (history : List Deed) (w : State) → Bears history w → count (exchanges.is_sent_to to) w.exchanges ≡ outstanding_to to history
+pub sent-count : (to : Endpoint) (history : List Action) (w : State) → Bears history w → count (exchanges.is_sent_to to) w.exchanges ≡ outstanding_to to history
 sent-count to history w c = counted-seen stage_seen (exchanges.is_sent_to to) (λ o. is_sent_to to o.stage) (λ x. sent-same to x.1) w.exchanges ∙ ap (count_open (is_sent_to to)) c.whole.exchanges
 
 -- as many exchanges were opened by a client
-pub exchanges-count : (client : Endpoint) (history : List Deed) (w : State) → Bears history w → exchanges_of client w ≡ service.exchanges_of client history
+pub exchanges-count : (client : Endpoint) (history : List Action) (w : State) → Bears history w → exchanges_of client w ≡ service.exchanges_of client history
 exchanges-count client history w c = counted-seen stage_seen (exchanges.is_opened_by client) (λ o. same_endpoint o.client client) (λ x. refl) w.exchanges ∙ ap (count_if (λ (o : Open). same_endpoint o.client client)) c.whole.exchanges
 
 -- and as many pending requests are its
-pub waiters-count : (client : Endpoint) (history : List Deed) (w : State) → Bears history w → waiters_of client w ≡ service.waiters_of client history
+pub waiters-count : (client : Endpoint) (history : List Action) (w : State) → Bears history w → waiters_of client w ≡ service.waiters_of client history
 waiters-count client history w c = counted-seen standing_seen (is_of client) (λ s. same_endpoint s.client client) (λ v. refl) w.waiters ∙ ap (count_if (λ (s : Standing). same_endpoint s.client client)) c.whole.waiters
 
 -- ---- ids
 
 -- so as many ids are used and reserved
-pub ids-sum : (k now : ℕ) (history : List Deed) (w : State) → Bears history w → w.last ≤ now → given_in now w.ids + reserved w + k ≡ window_ids (now / 247000) history + (waiting_in history + queued_in history) + k
+pub ids-sum : (k now : ℕ) (history : List Action) (w : State) → Bears history w → w.last ≤ now → given_in now w.ids + reserved w + k ≡ window_ids (now / 247000) history + (waiting_in history + queued_in history) + k
 ids-sum k now history w c onward =
     let last = c.clock.last in
     let g = c.ids.given now (omega arith) in
@@ -59,16 +59,16 @@ ids-sum k now history w c onward =
     omega arith
 
 -- if ids are free according to the tables, they are according to the history
-pub ids-free : (k now : ℕ) (history : List Deed) (w : State) → Bears history w → w.last ≤ now → has_ids k w now ≡ true → HasIds k now history
+pub ids-free : (k now : ℕ) (history : List Action) (w : State) → Bears history w → w.last ≤ now → has_ids k w now ≡ true → HasIds k now history
 ids-free k now history w c onward e = record { free = let sum = ids-sum k now history w c onward in let le = leb-true (given_in now w.ids + reserved w + k) 32768 e in omega arith }
 
 -- and if not, they aren't
-pub ids-none : (k now : ℕ) (history : List Deed) (w : State) → Bears history w → w.last ≤ now → has_ids k w now ≡ false → HasIds k now history → ⊥
+pub ids-none : (k now : ℕ) (history : List Action) (w : State) → Bears history w → w.last ≤ now → has_ids k w now ≡ false → HasIds k now history → ⊥
 ids-none k now history w c onward e h = let sum = ids-sum k now history w c onward in let lt = leb-false (given_in now w.ids + reserved w + k) 32768 e in let free = h.free in omega arith
 
 -- ---- capacity for a client and for an exchange
 
-module _ (client : Endpoint) (history : List Deed) (w : State) (c : Bears history w) where
+module _ (client : Endpoint) (history : List Action) (w : State) (c : Bears history w) where
   -- if the tables have room for one more request of a client, there is room according to the history
   waiter-there : has_waiter_room w client ≡ true → (length (standing_in history) < w.setting.limits.waiters) × (service.waiters_of client history < w.setting.limits.client_waiters)
   waiter-there e = both-below (waiters-length history w c) (waiters-count client history w c) refl refl e
@@ -85,7 +85,7 @@ module _ (client : Endpoint) (history : List Deed) (w : State) (c : Bears histor
   exchange-none : has_exchange_room w client ≡ false → length (open_in history) < w.setting.limits.exchanges → service.exchanges_of client history < w.setting.limits.client_exchanges → ⊥
   exchange-none e less fewer = not-both (exchanges-length history w c) (exchanges-count client history w c) refl refl e less fewer
 
-module _ (now : ℕ) (client : Endpoint) (history : List Deed) (w : State) (c : Bears history w) (onward : w.last ≤ now) where
+module _ (now : ℕ) (client : Endpoint) (history : List Action) (w : State) (c : Bears history w) (onward : w.last ≤ now) where
   -- if the tables have room for one more client at an exchange, there is room according to the
   -- history
   pub join-there : has_room_to_join w now client ≡ true → HasRoomToJoin w.setting.limits now client history

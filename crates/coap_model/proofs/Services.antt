@@ -9,16 +9,16 @@ use Rattle.coap_model.specs.declared.report.Outcome.TheVariants.{Joined, Opened,
 use Rattle.coap_model.specs.Setting.{Setting}
 use Rattle.coap_endpoint.specs.declared.endpoint.Endpoint.{Endpoint}
 use Rattle.coap_model.specs.Events.{Event, arrival, tick}
-use Rattle.coap_model.specs.History.{Act, no_item, admits, moves, serves, Deed, Somewhere, Serves, admits_one, closes_unused, is_con_datagram}
+use Rattle.coap_model.specs.History.{Act, no_item, admits, moves, serves, Action, Somewhere, Serves, admits_one, closes_unused, is_con_datagram}
 use Rattle.coap_model.specs.Standing.{Service, Standing, waits, told, others_than, as_told, waiting_since, admitted, served, closed, standing_by, standing_in, service_of}
 use Rattle.coap_model.specs.Due.{IsToServe, IsToServeAgain}
 use Rattle.coap_model.proofs.Lists.{find-holds, All-map, All-filter}
-use Rattle.coap_model.proofs.Places.{here, same_serves, Never-at}
+use Rattle.coap_model.proofs.Positions.{here, same_serves, Never-at}
 
 -- ---- what holds of the pending clients
 
--- What held of each pending client holds, as it changes, of each one after a deed: of one that is
--- admitted, of one that is sent its answer, and of each one that the deed leaves as it is.
+-- What held of each pending client holds, as it changes, of each one after an action: of one that
+-- is admitted, of one that is sent its answer, and of each one that the action leaves as it is.
 pub All-standing : (P Q : Standing → Type 0) (o : Outcome) (act : Act) (event : Event) (bytes : List ℕ) (xs : List Standing)
     → ((client : Endpoint) (came : List ℕ) (v x : ℕ) → event ≡ arrival client came → admits_one o ≡ 1 → act ≡ admits v x → Q (record { number = v; client = client; service = waits x }))
     → ((v : ℕ) → o ≡ Delivered → is_con_datagram bytes ≡ true → act ≡ serves v → (s : Standing) → P s → s.number ≡ v → Q (record s { service = told }))
@@ -30,7 +30,7 @@ All-standing P Q o act event bytes xs new this others all = by_outcome o refl
     kept : (closes_unused o bytes ≡ false) → AllByRecursion Q xs
     kept stays = All-weaken P Q xs (λ s h. others s h (λ gone same. let e = sym stays ∙ gone in cc)) all
 
-    -- nor is one if the deed isn't of a client
+    -- nor is one if the action isn't of a client
     apart : ((v : ℕ) → act ≢ serves v) → AllByRecursion Q xs
     apart other = All-weaken P Q xs (λ s h. others s h (λ gone same. other s.number same)) all
 
@@ -84,7 +84,7 @@ All-standing P Q o act event bytes xs new this others all = by_outcome o refl
     by_outcome _ is = kept (ap (λ (q : Outcome). closes_unused q bytes) is)
 
 -- what holds of each pending client holds of the one that is found by its number
-pub standing-holds : (P : Standing → Type 0) (v : ℕ) (service : Service) (history : List Deed) → AllByRecursion P (standing_in history) → service_of v history ≡ Some service → (s : Standing) × P s × (s.number ≡ v) × (s.service ≡ service)
+pub standing-holds : (P : Standing → Type 0) (v : ℕ) (service : Service) (history : List Action) → AllByRecursion P (standing_in history) → service_of v history ≡ Some service → (s : Standing) × P s × (s.number ≡ v) × (s.service ≡ service)
 standing-holds P v service history all e = go (find (λ (s : Standing). s.number == v) (standing_in history)) refl e
   where
     go : (f : Option Standing) → find (λ (s : Standing). s.number == v) (standing_in history) ≡ f → option_map (λ (s : Standing). s.service) f ≡ Some service → (s : Standing) × P s × (s.number ≡ v) × (s.service ≡ service)
@@ -94,26 +94,26 @@ standing-holds P v service history all e = go (find (λ (s : Standing). s.number
 -- ---- which clients were served
 
 -- a client that was served stays so as the history grows
-served-later : {v : ℕ} {history : List Deed} (d : Deed) → Somewhere (Serves v) history → Somewhere (Serves v) (d ∷ history)
-served-later d s = record { place = s.place; is_there = inr s.is_there; holds = s.holds }
+served-later : {v : ℕ} {history : List Action} (d : Action) → Somewhere (Serves v) history → Somewhere (Serves v) (d ∷ history)
+served-later d s = record { position = s.position; is_there = inr s.is_there; holds = s.holds }
 
 -- each client that hasn't acknowledged its answer yet was served
-all-served : (history : List Deed) → AllByRecursion (λ s. s.service ≡ told → Somewhere (Serves s.number) history) (standing_in history)
+all-served : (history : List Action) → AllByRecursion (λ s. s.service ≡ told → Somewhere (Serves s.number) history) (standing_in history)
 all-served [] = tt
 all-served (d ∷ past) =
-    All-standing (λ s. s.service ≡ told → Somewhere (Serves s.number) past) (λ s. s.service ≡ told → Somewhere (Serves s.number) (d ∷ past)) d.entry.report.outcome d.act d.entry.event d.entry.bytes (standing_in past)
+    All-standing (λ s. s.service ≡ told → Somewhere (Serves s.number) past) (λ s. s.service ≡ told → Somewhere (Serves s.number) (d ∷ past)) d.observation.report.outcome d.act d.observation.event d.observation.bytes (standing_in past)
     (λ client came v x brings one is e. absurd cc)
-    (λ v is con act s h same e. record { place = here past d; is_there = inl refl; holds = record { act = act ∙ ap serves (sym same); outcome = is } })
+    (λ v is con act s h same e. record { position = here past d; is_there = inl refl; holds = record { act = act ∙ ap serves (sym same); outcome = is } })
     (λ s h stays e. served-later d (h e))
     (all-served past)
 
 -- a client that hasn't acknowledged its answer yet was served
-pub told-served : (v : ℕ) (history : List Deed) → service_of v history ≡ Some told → Somewhere (Serves v) history
+pub told-served : (v : ℕ) (history : List Action) → service_of v history ≡ Some told → Somewhere (Serves v) history
 told-served v history e =
     let h = standing-holds (λ s. s.service ≡ told → Somewhere (Serves s.number) history) v told history (all-served history) e in
     subst (λ (n : ℕ). Somewhere (Serves n) history) h.2 (h.1 h.3)
 
 -- so a client that is due to be served again isn't due to be served first
-pub serves-apart : {A : Type 0} {setting : Setting} {past : List Deed} {v u m n : ℕ} → v ≡ u → IsToServeAgain past v m → IsToServe setting past u n → A
+pub serves-apart : {A : Type 0} {setting : Setting} {past : List Action} {v u m n : ℕ} → v ≡ u → IsToServeAgain past v m → IsToServe setting past u n → A
 serves-apart {past = past} {v = v} {u = u} same again first =
-    absurd (let s = told-served u past (ap (λ (k : ℕ). service_of k past) (sym same) ∙ again.service) in Never-at (Serves u) past s.place first.unserved s.is_there s.holds)
+    absurd (let s = told-served u past (ap (λ (k : ℕ). service_of k past) (sym same) ∙ again.service) in Never-at (Serves u) past s.position first.unserved s.is_there s.holds)

@@ -11,11 +11,11 @@ use Rattle.coap_model.specs.declared.report.Outcome.{Outcome}
 use Rattle.coap_model.specs.declared.report.Outcome.TheVariants.{Opened, Answered, Acked, SentRequest, GaveUp, Delivered}
 use Rattle.coap_model.specs.Setting.{Setting}
 use Rattle.coap_model.specs.Events.{Event, arrival, tick}
-use Rattle.coap_model.specs.History.{Act, admits, moves, Deed, Place, IsPlaceOf, Never, opened_in, ends, Sends, Ends}
+use Rattle.coap_model.specs.History.{Act, admits, moves, Action, Position, IsPositionOf, Never, opened_in, ends, Sends, Ends}
 use Rattle.coap_model.specs.Standing.{Standing, Stage, queued, sent, acked, done, Open, staged, waits_for, awaited, open_since, open_by, open_in, standing_in, stage_of}
 use Rattle.coap_model.specs.Justified.{IsOpening, IsSettled, Settles, a_request, an_answer, IsForwarding, IsGivingUp, overdue, unheard, unacknowledged, JustifiedBy, AllJustified}
 use Rattle.coap_model.proofs.Lists.{find-holds, All-filter}
-use Rattle.coap_model.proofs.Places.{here, same_moves, same_admits, never-from, justified-at, opened-number}
+use Rattle.coap_model.proofs.Positions.{here, same_moves, same_admits, never-from, justified-at, opened-number}
 use Rattle.coap_model.proofs.Owing.{taken-so}
 
 -- ---- what holds of the open exchanges
@@ -34,9 +34,9 @@ All-staged P Q x stage (o ∷ xs) this others all = (go (o.number == x) refl, Al
     go true e = this o all.0 (eqb-true o.number x e)
     go false e = others o all.0 (eqb-false o.number x e)
 
--- What held of all open exchanges holds, as they change, of all after a deed: of a new one, of the
--- one that is sent, of the one that is acknowledged, of the one that ends, and of each one that the
--- deed leaves as it is.
+-- What held of all open exchanges holds, as they change, of all after an action: of a new one, of
+-- the one that is sent, of the one that is acknowledged, of the one that ends, and of each one that
+-- the action leaves as it is.
 pub All-open : (P Q : Open → Type 0) (o : Outcome) (act : Act) (event : Event) (send : Option Endpoint) (standing : List Standing) (xs : List Open)
     → ((client : Endpoint) (came : List ℕ) (v x : ℕ) → event ≡ arrival client came → o ≡ Opened → act ≡ admits v x → Q (record { number = x; client = client; stage = queued }))
     → ((x : ℕ) (to : Endpoint) → o ≡ SentRequest → act ≡ moves x → send ≡ Some to → (q : Open) → P q → q.number ≡ x → Q (record q { stage = sent to }))
@@ -72,7 +72,7 @@ pub record HasStage (P : Open → Type 0) (x : ℕ) (stage : Stage) : Type 0 whe
   pub stage_is : found.stage ≡ stage
 
 -- an exchange that has a stage is one of them
-pub stage-holds : (P : Open → Type 0) (x : ℕ) (stage : Stage) (history : List Deed) → AllByRecursion P (open_in history) → stage_of x history ≡ Some stage → HasStage P x stage
+pub stage-holds : (P : Open → Type 0) (x : ℕ) (stage : Stage) (history : List Action) → AllByRecursion P (open_in history) → stage_of x history ≡ Some stage → HasStage P x stage
 stage-holds P x stage history all e = go (find (λ (q : Open). q.number == x) (open_in history)) refl e
   where
     go : (f : Option Open) → find (λ (q : Open). q.number == x) (open_in history) ≡ f → option_map (λ (q : Open). q.stage) f ≡ Some stage → HasStage P x stage
@@ -84,10 +84,10 @@ stage-holds P x stage history all e = go (find (λ (q : Open). q.number == x) (o
 -- ---- numbers
 
 -- no open exchange has a number above those that were used
-pub open-numbers : (setting : Setting) (history : List Deed) → AllJustified setting history → AllByRecursion (λ o. o.number ≤ opened_in history) (open_in history)
+pub open-numbers : (setting : Setting) (history : List Action) → AllJustified setting history → AllByRecursion (λ o. o.number ≤ opened_in history) (open_in history)
 open-numbers setting [] all = tt
 open-numbers setting (d ∷ past) all =
-    All-open (λ o. o.number ≤ opened_in past) (λ o. o.number ≤ opened_in (d ∷ past)) d.entry.report.outcome d.act d.entry.event d.entry.report.send (standing_in (d ∷ past)) (open_in past)
+    All-open (λ o. o.number ≤ opened_in past) (λ o. o.number ≤ opened_in (d ∷ past)) d.observation.report.outcome d.act d.observation.event d.observation.report.send (standing_in (d ∷ past)) (open_in past)
     (λ client came v x brings is act. new v x is act)
     (λ x to is act sent_to q h same. omega (arith, h))
     (λ x is act q h same. omega (arith, h))
@@ -95,46 +95,46 @@ open-numbers setting (d ∷ past) all =
     (λ q h not. omega (arith, h))
     (open-numbers setting past all.1)
   where
-    new : (v x : ℕ) → d.entry.report.outcome ≡ Opened → d.act ≡ admits v x → x ≤ opened_in (d ∷ past)
+    new : (v x : ℕ) → d.observation.report.outcome ≡ Opened → d.act ≡ admits v x → x ≤ opened_in (d ∷ past)
     new v x is act =
         let j : IsOpening setting past d = subst (λ (o : Outcome). JustifiedBy o setting past d) is all.0 in
         let number = (same_admits v _ x _ (sym act ∙ j.act)).1 in
         rw is (omega (arith, number))
 
--- what is before a place is justified
-pub all-before : (setting : Setting) (history : List Deed) (p : Place) → AllJustified setting history → IsPlaceOf history p → AllJustified setting p.before
+-- what is before a position is justified
+pub all-before : (setting : Setting) (history : List Action) (p : Position) → AllJustified setting history → IsPositionOf history p → AllJustified setting p.before
 all-before setting [] p all at = absurd at
 all-before setting (d ∷ past) p all at =
     ⊎_elim
-    (λ (same : record { before = past; deed = d } ≡ p). subst (λ (q : Place). AllJustified setting q.before) same all.1)
-    (λ (there : IsPlaceOf past p). all-before setting past p all.1 there)
+    (λ (same : record { before = past; action = d } ≡ p). subst (λ (q : Position). AllJustified setting q.before) same all.1)
+    (λ (there : IsPositionOf past p). all-before setting past p all.1 there)
     at
 
--- no more exchanges were opened before a place
-pub opened-before : (history : List Deed) (p : Place) → IsPlaceOf history p → opened_in p.before ≤ opened_in history
+-- no more exchanges were opened before a position
+pub opened-before : (history : List Action) (p : Position) → IsPositionOf history p → opened_in p.before ≤ opened_in history
 opened-before [] p at = absurd at
 opened-before (d ∷ past) p at =
     ⊎_elim
-    (λ (same : record { before = past; deed = d } ≡ p). let before : opened_in past ≡ opened_in p.before = ap (λ (q : Place). opened_in q.before) same in omega (arith, before))
-    (λ (there : IsPlaceOf past p). omega (arith, opened-before past p there))
+    (λ (same : record { before = past; action = d } ≡ p). let before : opened_in past ≡ opened_in p.before = ap (λ (q : Position). opened_in q.before) same in omega (arith, before))
+    (λ (there : IsPositionOf past p). omega (arith, opened-before past p there))
     at
 
 -- an exchange whose request is sent was opened before
-pub sent-number : (setting : Setting) (history : List Deed) (p : Place) (x : ℕ) → AllJustified setting history → IsPlaceOf history p → Sends setting.salt x p → x ≤ opened_in p.before
+pub sent-number : (setting : Setting) (history : List Action) (p : Position) (x : ℕ) → AllJustified setting history → IsPositionOf history p → Sends setting.salt x p → x ≤ opened_in p.before
 sent-number setting history p x all at s =
-    let j : IsForwarding setting p.before p.deed = justified-at setting history p SentRequest all at s.outcome in
+    let j : IsForwarding setting p.before p.action = justified-at setting history p SentRequest all at s.outcome in
     let same = same_moves x j.exchange (sym s.act ∙ j.act) in
     let number = opened-number j.to_send.opened in
     omega (arith, same, number.1)
 
 -- so was one that ends
-pub ended-number : (setting : Setting) (history : List Deed) (p : Place) (x : ℕ) → AllJustified setting history → IsPlaceOf history p → Ends x p → x ≤ opened_in p.before
-ended-number setting history p x all at e = go p.deed.entry.report.outcome e.outcome (justified-at setting history p p.deed.entry.report.outcome all at refl)
+pub ended-number : (setting : Setting) (history : List Action) (p : Position) (x : ℕ) → AllJustified setting history → IsPositionOf history p → Ends x p → x ≤ opened_in p.before
+ended-number setting history p x all at e = go p.action.observation.report.outcome e.outcome (justified-at setting history p p.action.observation.report.outcome all at refl)
   where
     before : AllJustified setting p.before
     before = all-before setting history p all at
 
-    given_up : IsGivingUp setting p.before p.deed → x ≤ opened_in p.before
+    given_up : IsGivingUp setting p.before p.action → x ≤ opened_in p.before
     given_up (overdue y m acting act to_end come silent) =
         let same = same_moves x y (sym e.act ∙ act) in
         let number = opened-number to_end.opened in
@@ -145,9 +145,9 @@ ended-number setting history p x all at e = go p.deed.entry.report.outcome e.out
         omega (arith, same, h.holds, h.number)
     given_up (unacknowledged v acting act again stops silent) = absurd (let f = sym e.act ∙ act in cc)
 
-    go : (o : Outcome) → ends o ≡ true → JustifiedBy o setting p.before p.deed → x ≤ opened_in p.before
+    go : (o : Outcome) → ends o ≡ true → JustifiedBy o setting p.before p.action → x ≤ opened_in p.before
     go (Answered s) is j =
-        let g = (taken-so s setting p.before p.deed j).gets in
+        let g = (taken-so s setting p.before p.action j).gets in
         let m = g.meets in
         let same = same_moves x _ (sym e.act ∙ g.act) in
         let number = sent-number setting p.before m.asking _ before m.was_asked m.asks.sends in
@@ -158,43 +158,43 @@ ended-number setting history p x all at e = go p.deed.entry.report.outcome e.out
 -- ---- stages
 
 -- the request of an exchange was sent to an endpoint
-pub record WasSentTo (salt : ℕ) (history : List Deed) (x : ℕ) (to : Endpoint) : Type 0 where
-  pub place : Place
-  pub is_there : IsPlaceOf history place
-  pub sends : Sends salt x place
+pub record WasSentTo (salt : ℕ) (history : List Action) (x : ℕ) (to : Endpoint) : Type 0 where
+  pub position : Position
+  pub is_there : IsPositionOf history position
+  pub sends : Sends salt x position
   pub to_is : sends.to ≡ to
 
 -- how far an exchange has come: the request of one that waits for its turn was never sent, the
 -- request of one that waits for an acknowledgement was sent to the endpoint of its stage, and one
 -- that isn't done hasn't ended
-pub record HasCome (salt : ℕ) (history : List Deed) (o : Open) : Type 0 where
+pub record HasCome (salt : ℕ) (history : List Action) (o : Open) : Type 0 where
   pub unsent : o.stage ≡ queued → Never (Sends salt o.number) history
   pub was_sent : (to : Endpoint) → o.stage ≡ sent to → WasSentTo salt history o.number to
   pub unended : o.stage ≢ done → Never (Ends o.number) history
 
 -- what was sent stays so as the history grows
-sent-later : {salt : ℕ} {history : List Deed} {x : ℕ} {to : Endpoint} (d : Deed) → WasSentTo salt history x to → WasSentTo salt (d ∷ history) x to
-sent-later d w = record { place = w.place; is_there = inr w.is_there; sends = w.sends; to_is = w.to_is }
+sent-later : {salt : ℕ} {history : List Action} {x : ℕ} {to : Endpoint} (d : Action) → WasSentTo salt history x to → WasSentTo salt (d ∷ history) x to
+sent-later d w = record { position = w.position; is_there = inr w.is_there; sends = w.sends; to_is = w.to_is }
 
 -- an exchange that waits for its turn hasn't ended
-queued-come : (setting : Setting) (history : List Deed) (x : ℕ) → AllJustified setting history → AllByRecursion (HasCome setting.salt history) (open_in history) → stage_of x history ≡ Some queued → Never (Ends x) history
+queued-come : (setting : Setting) (history : List Action) (x : ℕ) → AllJustified setting history → AllByRecursion (HasCome setting.salt history) (open_in history) → stage_of x history ≡ Some queued → Never (Ends x) history
 queued-come setting history x all come stage =
     let h = stage-holds (HasCome setting.salt history) x queued history come stage in
     subst (λ (n : ℕ). Never (Ends n) history) h.number (h.holds.unended (λ e. let f = sym h.stage_is ∙ e in cc))
 
 -- nor has one that waits for an acknowledgement
-sent-come : (setting : Setting) (history : List Deed) (x : ℕ) (to : Endpoint) → AllJustified setting history → AllByRecursion (HasCome setting.salt history) (open_in history) → stage_of x history ≡ Some (sent to) → Never (Ends x) history
+sent-come : (setting : Setting) (history : List Action) (x : ℕ) (to : Endpoint) → AllJustified setting history → AllByRecursion (HasCome setting.salt history) (open_in history) → stage_of x history ≡ Some (sent to) → Never (Ends x) history
 sent-come setting history x to all come stage =
     let h = stage-holds (HasCome setting.salt history) x (sent to) history come stage in
     subst (λ (n : ℕ). Never (Ends n) history) h.number (h.holds.unended (λ e. let f = sym h.stage_is ∙ e in cc))
 
 -- all open exchanges have come as far as their stages say
-pub all-come : (setting : Setting) (history : List Deed) → AllJustified setting history → AllByRecursion (HasCome setting.salt history) (open_in history)
+pub all-come : (setting : Setting) (history : List Action) → AllJustified setting history → AllByRecursion (HasCome setting.salt history) (open_in history)
 all-come setting [] all = tt
 all-come setting (d ∷ past) all =
-    All-open (HasCome setting.salt past) (HasCome setting.salt (d ∷ past)) d.entry.report.outcome d.act d.entry.event d.entry.report.send (standing_in (d ∷ past)) (open_in past) new (sending (all-come setting past all.1)) (acking (all-come setting past all.1)) ending others (all-come setting past all.1)
+    All-open (HasCome setting.salt past) (HasCome setting.salt (d ∷ past)) d.observation.report.outcome d.act d.observation.event d.observation.report.send (standing_in (d ∷ past)) (open_in past) new (sending (all-come setting past all.1)) (acking (all-come setting past all.1)) ending others (all-come setting past all.1)
   where
-    new : (client : Endpoint) (came : List ℕ) (v x : ℕ) → d.entry.event ≡ arrival client came → d.entry.report.outcome ≡ Opened → d.act ≡ admits v x → HasCome setting.salt (d ∷ past) (record { number = x; client = client; stage = queued })
+    new : (client : Endpoint) (came : List ℕ) (v x : ℕ) → d.observation.event ≡ arrival client came → d.observation.report.outcome ≡ Opened → d.act ≡ admits v x → HasCome setting.salt (d ∷ past) (record { number = x; client = client; stage = queued })
     new client came v x brings is act =
         let j : IsOpening setting past d = subst (λ (o : Outcome). JustifiedBy o setting past d) is all.0 in
         let number = (same_admits v _ x _ (sym act ∙ j.act)).1 in
@@ -210,7 +210,7 @@ all-come setting (d ∷ past) all =
           );
         }
 
-    sending : AllByRecursion (HasCome setting.salt past) (open_in past) → (x : ℕ) (to : Endpoint) → d.entry.report.outcome ≡ SentRequest → d.act ≡ moves x → d.entry.report.send ≡ Some to → (q : Open) → HasCome setting.salt past q → q.number ≡ x → HasCome setting.salt (d ∷ past) (record q { stage = sent to })
+    sending : AllByRecursion (HasCome setting.salt past) (open_in past) → (x : ℕ) (to : Endpoint) → d.observation.report.outcome ≡ SentRequest → d.act ≡ moves x → d.observation.report.send ≡ Some to → (q : Open) → HasCome setting.salt past q → q.number ≡ x → HasCome setting.salt (d ∷ past) (record q { stage = sent to })
     sending come x to is act sent_to q h same =
         let j : IsForwarding setting past d = subst (λ (o : Outcome). JustifiedBy o setting past d) is all.0 in
         let number : x ≡ j.exchange = same_moves x j.exchange (sym act ∙ j.act) in
@@ -219,7 +219,7 @@ all-come setting (d ∷ past) all =
         record {
           unsent = λ e. absurd cc;
           was_sent = λ at e. record {
-            place = here past d;
+            position = here past d;
             is_there = inl refl;
             sends = record {
               act = act ∙ ap moves (sym same);
@@ -235,7 +235,7 @@ all-come setting (d ∷ past) all =
           unended = λ not. ((λ s. let e = ap ends (sym is) ∙ s.outcome in cc), subst (λ (n : ℕ). Never (Ends n) past) back was);
         }
 
-    acking : AllByRecursion (HasCome setting.salt past) (open_in past) → (x : ℕ) → d.entry.report.outcome ≡ Acked → d.act ≡ moves x → (q : Open) → HasCome setting.salt past q → q.number ≡ x → HasCome setting.salt (d ∷ past) (record q { stage = acked })
+    acking : AllByRecursion (HasCome setting.salt past) (open_in past) → (x : ℕ) → d.observation.report.outcome ≡ Acked → d.act ≡ moves x → (q : Open) → HasCome setting.salt past q → q.number ≡ x → HasCome setting.salt (d ∷ past) (record q { stage = acked })
     acking come x is act q h same =
         let j : IsSettled setting past d = subst (λ (o : Outcome). JustifiedBy o setting past d) is all.0 in
         record {
@@ -251,10 +251,10 @@ all-come setting (d ∷ past) all =
             subst (λ (n : ℕ). Never (Ends n) past) (sym number ∙ sym same) (sent-come setting past exchange u.to all.1 come u.stage)
         was (an_answer client is_act closes) = absurd (let e = sym act ∙ is_act in cc)
 
-    ending : (x : ℕ) → ends d.entry.report.outcome ≡ true → d.act ≡ moves x → (q : Open) → HasCome setting.salt past q → q.number ≡ x → HasCome setting.salt (d ∷ past) (record q { stage = done })
+    ending : (x : ℕ) → ends d.observation.report.outcome ≡ true → d.act ≡ moves x → (q : Open) → HasCome setting.salt past q → q.number ≡ x → HasCome setting.salt (d ∷ past) (record q { stage = done })
     ending x is act q h same = record { unsent = λ e. absurd cc; was_sent = λ to e. absurd cc; unended = λ not. absurd (not refl) }
 
-    others : (q : Open) → HasCome setting.salt past q → (((d.entry.report.outcome ≡ SentRequest) × (d.entry.report.send ≢ None)) ⊎ (ends d.entry.report.outcome ≡ true) → d.act ≢ moves q.number) → HasCome setting.salt (d ∷ past) q
+    others : (q : Open) → HasCome setting.salt past q → (((d.observation.report.outcome ≡ SentRequest) × (d.observation.report.send ≢ None)) ⊎ (ends d.observation.report.outcome ≡ true) → d.act ≢ moves q.number) → HasCome setting.salt (d ∷ past) q
     others q h not =
         record {
           unsent = λ e. ((λ s. not (inl (s.outcome, λ none. let f = sym none ∙ s.sent in cc)) s.act), h.unsent e);
@@ -263,13 +263,13 @@ all-come setting (d ∷ past) all =
         }
 
 -- the request of one that waits for its turn was never sent
-pub queued-unsent : (setting : Setting) (history : List Deed) (x : ℕ) → AllJustified setting history → stage_of x history ≡ Some queued → Never (Sends setting.salt x) history
+pub queued-unsent : (setting : Setting) (history : List Action) (x : ℕ) → AllJustified setting history → stage_of x history ≡ Some queued → Never (Sends setting.salt x) history
 queued-unsent setting history x all stage =
     let h = stage-holds (HasCome setting.salt history) x queued history (all-come setting history all) stage in
     subst (λ (n : ℕ). Never (Sends setting.salt n) history) h.number (h.holds.unsent h.stage_is)
 
 -- the request of one that waits for an acknowledgement was sent to the endpoint of its stage
-pub stage-sent : (setting : Setting) (history : List Deed) (x : ℕ) (to : Endpoint) → AllJustified setting history → stage_of x history ≡ Some (sent to) → WasSentTo setting.salt history x to
+pub stage-sent : (setting : Setting) (history : List Action) (x : ℕ) (to : Endpoint) → AllJustified setting history → stage_of x history ≡ Some (sent to) → WasSentTo setting.salt history x to
 stage-sent setting history x to all is =
     let h = stage-holds (HasCome setting.salt history) x (sent to) history (all-come setting history all) is in
     subst (λ (n : ℕ). WasSentTo setting.salt history n to) h.number (h.holds.was_sent to h.stage_is)

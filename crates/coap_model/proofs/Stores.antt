@@ -21,22 +21,22 @@ use Rattle.coap_model.specs.declared.report.Storing.TheVariants.{Kept, TooLarge}
 use Rattle.coap_model.specs.Setting.{Setting}
 use Rattle.coap_model.specs.Keys.{request_key}
 use Rattle.coap_model.specs.Answers.{marked_all}
-use Rattle.coap_model.specs.History.{Deed, Brings, takes, Gets}
+use Rattle.coap_model.specs.History.{Action, Brings, takes, Gets}
 use Rattle.coap_model.specs.Pairs.{Pairs, Both}
 use Rattle.coap_model.specs.Changed.{key_asked, IsTold}
 use Rattle.coap_model.specs.Cached.{Cached, cached_key, cached_size, entry_of_cached, entry_got, kept_for, store_limits, leaves, IsCacheOf, empty, kept, too_large, hit, otherwise, WasCacheAt, IsStored, IsStoreOf, IsEntryOf}
 use Rattle.coap_model.proofs.Changing.{told-stays, told-on}
-use Rattle.coap_model.proofs.Places.{here, index_below}
+use Rattle.coap_model.proofs.Positions.{here, index_below}
 use Rattle.coap_model.proofs.Pairs.{Pairs-length, Pairs-weaken, Pairs-distinct, Pairs-total, Pairs-of_key, Pairs-others, Pairs-used, Pairs-put}
 
 -- ---- the entries of a store
 
 -- they have the same keys
-same-key : {setting : Setting} {history : List Deed} (s : Entry) (c : Cached) → IsStored setting history s c → entry_key s ≡ cached_key c
+same-key : {setting : Setting} {history : List Action} (s : Entry) (c : Cached) → IsStored setting history s c → entry_key s ≡ cached_key c
 same-key s c is = ap entry_key is.same
 
 -- and the same sizes
-same-size : {setting : Setting} {history : List Deed} (s : Entry) (c : Cached) → IsStored setting history s c → entry_size s ≡ cached_size c
+same-size : {setting : Setting} {history : List Action} (s : Entry) (c : Cached) → IsStored setting history s c → entry_size s ≡ cached_size c
 same-size s c is = ap entry_size is.same
 
 -- ---- marks
@@ -80,10 +80,10 @@ pub store-empty : (setting : Setting) → IsStoreOf setting [] []
 store-empty setting = record { cached = []; is_cache = empty; each = tt }
 
 -- an entry of the store stays right if no answer is accepted
-stored-stays : {setting : Setting} {past : List Deed} (d : Deed) → takes d.entry.report.outcome ≡ false → (s : Entry) (c : Cached) → IsStored setting past s c → IsStored setting (d ∷ past) s c
+stored-stays : {setting : Setting} {past : List Action} (d : Action) → takes d.observation.report.outcome ≡ false → (s : Entry) (c : Cached) → IsStored setting past s c → IsStored setting (d ∷ past) s c
 stored-stays {setting} {past} d none s c is = record { same = is.same; was_asked = inr is.was_asked; told = told-stays s.1.marked setting c.key.target c.asking past d none is.told }
 
-module _ (setting : Setting) (past : List Deed) (d : Deed) {x : ℕ} (gets : Gets setting x (here past d)) where
+module _ (setting : Setting) (past : List Action) (d : Action) {x : ℕ} (gets : Gets setting x (here past d)) where
   -- what the answer changes
   abbrev pub changed_here : List Target
   changed_here = changed_by (key_asked gets).target gets.meets.message
@@ -111,7 +111,7 @@ module _ (setting : Setting) (past : List Deed) (d : Deed) {x : ℕ} (gets : Get
       go (s ∷ ss) (c ∷ cs) p = (stored-on s c p.0, go ss cs p.1)
 
   -- an answer that is kept comes first
-  pub store-kept : (store : List Entry) (former : List Cached) (new : Entry) → d.entry.report.outcome ≡ Answered Kept → WasCacheAt setting gets.meets.asking.before x former → IsStored setting (d ∷ past) new (entry_got former gets)
+  pub store-kept : (store : List Entry) (former : List Cached) (new : Entry) → d.observation.report.outcome ≡ Answered Kept → WasCacheAt setting gets.meets.asking.before x former → IsStored setting (d ∷ past) new (entry_got former gets)
       → IsStoreOf setting past store → IsStoreOf setting (d ∷ past) (put entry_key entry_size setting.limits.cache_bytes setting.limits.cache_entries new (marked_all changed_here store))
   store-kept store former new is was same s =
       let first = entry_got former gets in
@@ -124,22 +124,22 @@ module _ (setting : Setting) (past : List Deed) (d : Deed) {x : ℕ} (gets : Get
       }
 
   -- one that is too large removes the entry with its key
-  pub store-too_large : (store : List Entry) → d.entry.report.outcome ≡ Answered TooLarge → IsStoreOf setting past store → IsStoreOf setting (d ∷ past) (others entry_key (key_asked gets) (marked_all changed_here store))
+  pub store-too_large : (store : List Entry) → d.observation.report.outcome ≡ Answered TooLarge → IsStoreOf setting past store → IsStoreOf setting (d ∷ past) (others entry_key (key_asked gets) (marked_all changed_here store))
   store-too_large store is s =
       record { cached = others cached_key (key_asked gets) s.cached; is_cache = too_large d x gets is s.is_cache; each = Pairs-others (IsStored setting (d ∷ past)) entry_key cached_key same-key (key_asked gets) (marked_all changed_here store) s.cached (marked-on store s.cached s.each) }
 
   -- one that isn't stored leaves the entries, except for the marks
-  pub store-marked : (store : List Entry) → leaves d.entry.report.outcome ≡ true → IsStoreOf setting past store → IsStoreOf setting (d ∷ past) (marked_all changed_here store)
+  pub store-marked : (store : List Entry) → leaves d.observation.report.outcome ≡ true → IsStoreOf setting past store → IsStoreOf setting (d ∷ past) (marked_all changed_here store)
   store-marked store leaving s = record { cached = s.cached; is_cache = otherwise d leaving s.is_cache; each = marked-on store s.cached s.each }
 
 -- what accepts no answer, and moves nothing, leaves the store as it is
-pub store-otherwise : (setting : Setting) (past : List Deed) (store : List Entry) (d : Deed) → leaves d.entry.report.outcome ≡ true → takes d.entry.report.outcome ≡ false → IsStoreOf setting past store → IsStoreOf setting (d ∷ past) store
+pub store-otherwise : (setting : Setting) (past : List Action) (store : List Entry) (d : Action) → leaves d.observation.report.outcome ≡ true → takes d.observation.report.outcome ≡ false → IsStoreOf setting past store → IsStoreOf setting (d ∷ past) store
 store-otherwise setting past store d leaving none s = record { cached = s.cached; is_cache = otherwise d leaving s.is_cache; each = Pairs-weaken (IsStored setting past) (IsStored setting (d ∷ past)) store s.cached (stored-stays d none) s.each }
 
 -- ---- what is found
 
 -- the entry of the store for a key corresponds to the entry of the cache
-pub found-cached : (setting : Setting) (history : List Deed) (store : List Entry) (cached : List Cached) (key : CacheKey) (stored : Entry) → Pairs (IsStored setting history) store cached → of_key entry_key key store ≡ Some stored → IsEntryOf setting history cached key stored
+pub found-cached : (setting : Setting) (history : List Action) (store : List Entry) (cached : List Cached) (key : CacheKey) (stored : Entry) → Pairs (IsStored setting history) store cached → of_key entry_key key store ≡ Some stored → IsEntryOf setting history cached key stored
 found-cached setting history store cached key stored each found = go (of_key cached_key key cached) refl (subst (λ (s : Option Entry). Both (IsStored setting history) s (of_key cached_key key cached)) found (Pairs-of_key (IsStored setting history) entry_key cached_key same-key key store cached each))
   where
     go : (c : Option Cached) → of_key cached_key key cached ≡ c → Both (IsStored setting history) (Some stored) c → IsEntryOf setting history cached key stored
@@ -147,13 +147,13 @@ found-cached setting history store cached key stored each found = go (of_key cac
     go (Some c) e both = record { entry = c; is_there = e; key_is = of_key-key cached_key key cached c e; stored_is = both }
 
 -- the entry of the store for the entry of the cache with a key
-pub record IsKeptIn (setting : Setting) (history : List Deed) (store : List Entry) (key : CacheKey) (c : Cached) : Type 0 where
+pub record IsKeptIn (setting : Setting) (history : List Action) (store : List Entry) (key : CacheKey) (c : Cached) : Type 0 where
   pub entry : Entry
   pub is_there : of_key entry_key key store ≡ Some entry
   pub stored : IsStored setting history entry c
 
 -- the entry of the cache for a key is in the store
-pub cached-found : (setting : Setting) (history : List Deed) (store : List Entry) (cached : List Cached) (key : CacheKey) (c : Cached) → Pairs (IsStored setting history) store cached → of_key cached_key key cached ≡ Some c → IsKeptIn setting history store key c
+pub cached-found : (setting : Setting) (history : List Action) (store : List Entry) (cached : List Cached) (key : CacheKey) (c : Cached) → Pairs (IsStored setting history) store cached → of_key cached_key key cached ≡ Some c → IsKeptIn setting history store key c
 cached-found setting history store cached key c each found = go (of_key entry_key key store) refl (subst (λ (f : Option Cached). Both (IsStored setting history) (of_key entry_key key store) f) found (Pairs-of_key (IsStored setting history) entry_key cached_key same-key key store cached each))
   where
     go : (s : Option Entry) → of_key entry_key key store ≡ s → Both (IsStored setting history) s (Some c) → IsKeptIn setting history store key c
@@ -161,7 +161,7 @@ cached-found setting history store cached key c each found = go (of_key entry_ke
     go (Some s) e both = record { entry = s; is_there = e; stored = both }
 
 -- if the store has no entry for a key, the cache has none
-pub none-found : (setting : Setting) (history : List Deed) (store : List Entry) (cached : List Cached) (key : CacheKey) → Pairs (IsStored setting history) store cached → of_key entry_key key store ≡ None → of_key cached_key key cached ≡ None
+pub none-found : (setting : Setting) (history : List Action) (store : List Entry) (cached : List Cached) (key : CacheKey) → Pairs (IsStored setting history) store cached → of_key entry_key key store ≡ None → of_key cached_key key cached ≡ None
 none-found setting history store cached key each none = go (of_key cached_key key cached) refl (subst (λ (s : Option Entry). Both (IsStored setting history) s (of_key cached_key key cached)) none (Pairs-of_key (IsStored setting history) entry_key cached_key same-key key store cached each))
   where
     go : (c : Option Cached) → of_key cached_key key cached ≡ c → Both (IsStored setting history) None c → of_key cached_key key cached ≡ None
@@ -169,7 +169,7 @@ none-found setting history store cached key each none = go (of_key cached_key ke
     go (Some c) e both = absurd both
 
 -- the response that is stored for a key is the one that is kept for it
-pub stored-kept : (setting : Setting) (history : List Deed) (store : List Entry) (cached : List Cached) (key : CacheKey) → Pairs (IsStored setting history) store cached → option_map (λ (e : Entry). e.1.response) (of_key entry_key key store) ≡ kept_for key cached
+pub stored-kept : (setting : Setting) (history : List Action) (store : List Entry) (cached : List Cached) (key : CacheKey) → Pairs (IsStored setting history) store cached → option_map (λ (e : Entry). e.1.response) (of_key entry_key key store) ≡ kept_for key cached
 stored-kept setting history store cached key each = go (of_key entry_key key store) (of_key cached_key key cached) (Pairs-of_key (IsStored setting history) entry_key cached_key same-key key store cached each)
   where
     go : (s : Option Entry) (c : Option Cached) → Both (IsStored setting history) s c → option_map (λ (e : Entry). e.1.response) s ≡ option_map (λ (k : Cached). k.response) c
@@ -190,12 +190,12 @@ stored-found key store stored found = go (of_key entry_key key store) refl found
         is ∙ (λ i. Some (its_key i, its_stored i))
 
 -- a request that is answered from the cache moves the entry with its key to the front
-pub store-hit : (setting : Setting) (past : List Deed) (store : List Entry) (d : Deed) (client : Endpoint) (request : Message) (target : Target) (stored : Entry) → d.entry.report.outcome ≡ Hit → Brings setting.limits.datagram client request d.entry.event → request_target setting.routes request ≡ Ok target → of_key entry_key (request_key target request) store ≡ Some stored
+pub store-hit : (setting : Setting) (past : List Action) (store : List Entry) (d : Action) (client : Endpoint) (request : Message) (target : Target) (stored : Entry) → d.observation.report.outcome ≡ Hit → Brings setting.limits.datagram client request d.observation.event → request_target setting.routes request ≡ Ok target → of_key entry_key (request_key target request) store ≡ Some stored
     → IsStoreOf setting past store → IsStoreOf setting (d ∷ past) (used entry_key (request_key target request) store)
 store-hit setting past store d client request target stored is came to found s =
     let key = request_key target request in
     let f = found-cached setting past store s.cached key stored s.each found in
-    let none : takes d.entry.report.outcome ≡ false = ap takes is in
+    let none : takes d.observation.report.outcome ≡ false = ap takes is in
     record {
       cached = used cached_key key s.cached;
       is_cache = hit d client request target f.entry is came to f.is_there s.is_cache;
@@ -227,7 +227,7 @@ all-plain [] = tt
 all-plain (c ∷ cs) = (refl, all-plain cs)
 
 -- the cache of a history is within the limits, and has at most one entry for a key
-pub cache-within : (setting : Setting) (history : List Deed) (cached : List Cached) → IsCacheOf setting history cached → IsStore (store_limits setting) (map entry_of_cached cached)
+pub cache-within : (setting : Setting) (history : List Action) (cached : List Cached) → IsCacheOf setting history cached → IsStore (store_limits setting) (map entry_of_cached cached)
 cache-within setting _ _ empty = record { distinct = refl; within_bytes = omega arith; within_entries = omega arith }
 cache-within setting _ _ (kept {past = past} {cached = cs} {former = former} d x gets opening is was opens at c) =
     let limits = store_limits setting in
@@ -244,7 +244,7 @@ cache-within setting _ _ (hit {past = past} {cached = cs} d client request targe
 cache-within setting _ _ (otherwise {past = past} {cached = cs} d leaving c) = cache-within setting past cs c
 
 -- so it has no more entries and bytes than the store may have
-pub cache-few : (setting : Setting) (history : List Deed) (cached : List Cached) → IsCacheOf setting history cached → (length cached ≤ setting.limits.cache_entries) × (total cached_size cached ≤ setting.limits.cache_bytes)
+pub cache-few : (setting : Setting) (history : List Action) (cached : List Cached) → IsCacheOf setting history cached → (length cached ≤ setting.limits.cache_entries) × (total cached_size cached ≤ setting.limits.cache_bytes)
 cache-few setting history cached c =
     let within = cache-within setting history cached c in
     let plain = all-plain cached in
@@ -255,7 +255,7 @@ cache-few setting history cached c =
     )
 
 -- and so is a store that corresponds to it
-pub store-within : (setting : Setting) (history : List Deed) (store : List Entry) → IsStoreOf setting history store → IsStore (store_limits setting) store
+pub store-within : (setting : Setting) (history : List Action) (store : List Entry) → IsStoreOf setting history store → IsStore (store_limits setting) store
 store-within setting history store s =
     let within = cache-within setting history s.cached s.is_cache in
     let plain = all-plain s.cached in

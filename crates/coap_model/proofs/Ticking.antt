@@ -9,7 +9,7 @@ use Rattle.coap_model.specs.Events.{Event, tick}
 use Rattle.coap_model.specs.State.{State, Step}
 use Rattle.coap_model.specs.Step.{step_of}
 use Rattle.coap_model.specs.Ticks.{moment_of, next_due, item_due, if_due, on_item}
-use Rattle.coap_model.specs.History.{Entry, Deed}
+use Rattle.coap_model.specs.History.{Observation, Action}
 use Rattle.coap_model.specs.Carries.{Bears, Carries}
 use Rattle.coap_model.proofs.Idling.{not-stuck}
 use Rattle.coap_model.proofs.Rules.{Rule, refusing, lacking, overloading, hitting, joining, opening, repeating, dropping, answering, answering_con, acknowledging, closing, rejecting, ignoring, forwarding, resending, giving_up, delivering, redelivering, abandoning, idling, stuck, rule_of}
@@ -31,7 +31,7 @@ idle-later w now draw at grown e later = go (item_due w) e
     go (Some i) f = let early : leb (moment_of i) now ≡ false = lt-leb _ _ (let same = same_Some (moment_of i) at f in omega (arith, same, later)) in rw early refl
 
 -- a tick with something due does something
-acts : {w : State} {now draw : ℕ} {grown : Bool} {event : Event} {s : Step} (history : List Deed) → Bears history w → Rule w now draw grown event s → event ≡ tick → if_due now (item_due w) ≢ None → s.report.outcome ≢ Idle
+acts : {w : State} {now draw : ℕ} {grown : Bool} {event : Event} {s : Step} (history : List Action) → Bears history w → Rule w now draw grown event s → event ≡ tick → if_due now (item_due w) ≢ None → s.report.outcome ≢ Idle
 acts history c (refusing client bytes m code first denied free) ticked due = λ o. cc
 acts history c (lacking client bytes m first free) ticked due = λ o. cc
 acts history c (overloading client bytes m key first verdict lacks free) ticked due = λ o. cc
@@ -55,8 +55,8 @@ acts history c (abandoning at number v bytes id timer turn fire) ticked due = λ
 acts history c (idling nothing) ticked due = λ o. due nothing
 acts {w = w} {now = now} history c (stuck s) ticked due = λ o. not-stuck w history c now s
 
-pub acts-due : (w : State) (history : List Entry) (now draw at : ℕ) (grown : Bool) → Carries history w → next_due w ≡ Some at → at ≤ now → (step_of w now draw grown tick).report.outcome ≢ Idle
-acts-due w history now draw at grown c e come = acts c.deeds c.bears (rule_of w now draw grown tick tt) refl (some (item_due w) e)
+pub acts-due : (w : State) (history : List Observation) (now draw at : ℕ) (grown : Bool) → Carries history w → next_due w ≡ Some at → at ≤ now → (step_of w now draw grown tick).report.outcome ≢ Idle
+acts-due w history now draw at grown c e come = acts c.actions c.bears (rule_of w now draw grown tick tt) refl (some (item_due w) e)
   where
     some : (o : Option DueItem) → option_map moment_of o ≡ Some at → if_due now o ≢ None
     some None f none = absurd cc

@@ -14,16 +14,16 @@ use Rattle.coap_model.specs.Standing.{sent, stage_of}
 use Rattle.coap_model.specs.Carries.{stage_at, IsExchangeOf, Bears}
 use Rattle.coap_model.specs.Due.{IsToSend}
 use Rattle.coap_model.specs.Justified.{InTime}
-use Rattle.coap_model.specs.History.{Deed, Place}
+use Rattle.coap_model.specs.History.{Action, Position}
 use Rattle.coap_model.proofs.Acting.{due_of, min-cases, stage-is, turn-is, exchange-turn}
 use Rattle.coap_model.proofs.Lists.{Has, Has-all}
 use Rattle.coap_model.proofs.FirstDue.{first_due-holds}
-use Rattle.coap_model.proofs.Places.{one-opened}
+use Rattle.coap_model.proofs.Positions.{one-opened}
 use Rattle.coap_model.proofs.Room.{sent-count}
 use Rattle.coap_model.proofs.Rules.{IsTurnOf}
 use Rattle.coap_model.proofs.Tables.{item-Has, item-holds, one-item}
 
-module _ (w : State) (history : List Deed) (c : Bears history w) (now at number : ℕ) (x : Exchange) (turn : IsTurnOf w now at number x) where
+module _ (w : State) (history : List Action) (c : Bears history w) (now at number : ℕ) (x : Exchange) (turn : IsTurnOf w now at number x) where
   -- the exchange is in the table
   pub turn-there : Has (number, x) w.exchanges
   turn-there = item-Has number w.exchanges x turn.found
@@ -42,8 +42,8 @@ module _ (w : State) (history : List Deed) (c : Bears history w) (now at number 
   pub turn-in_time : now < deadline w.setting.limits.exchange_ms x → InTime w.setting history number now
   turn-in_time early m end =
       let f = turn-exchange in
-      let place = (one-opened refl f.opened end.opened).0 in
-      let moment : x.admitted ≡ end.opened.opening.deed.entry.now = f.admitted ∙ ap (λ (p : Place). p.deed.entry.now) place in
+      let position = (one-opened refl f.opened end.opened).0 in
+      let moment : x.admitted ≡ end.opened.opening.action.observation.now = f.admitted ∙ ap (λ (p : Position). p.action.observation.now) position in
       let is = end.at_is in
       omega (arith, early, moment, is)
 

@@ -22,7 +22,7 @@ use Rattle.coap_forward.specs.Forms.{forwarded, form_fits}
 use Rattle.coap_model.specs.Keys.{request_key}
 use Rattle.coap_model.specs.Verdicts.{Verdict, refused_with, may_ask, refusal_of, verdict_of_target, verdict_of_options, verdict_of}
 use Rattle.coap_model.specs.Setting.{Setting}
-use Rattle.coap_model.specs.History.{Deed}
+use Rattle.coap_model.specs.History.{Action}
 use Rattle.coap_model.specs.Justified.{Deserves, by_verdict, by_length}
 
 -- which requests may be forwarded: those with a known method that pass the screening, with their
@@ -89,6 +89,6 @@ module _ (routes : Routes) (m : Message) (are : AreRoutes routes) where
   refused-code code e = subst (Right routes m) e verdict-right
 
 -- nor is a code that a request deserves
-pub deserved-code : (setting : Setting) (past : List Deed) (now : ℕ) (m : Message) → AreRoutes setting.routes → (code : Code) → Deserves setting past now m code → code.0 ≢ 0
+pub deserved-code : (setting : Setting) (past : List Action) (now : ℕ) (m : Message) → AreRoutes setting.routes → (code : Code) → Deserves setting past now m code → code.0 ≢ 0
 deserved-code setting past now m are code (by_verdict verdict) = refused-code setting.routes m are code verdict
 deserved-code setting past now m are code (by_length key verdict miss fits is) = λ zero. let big : REQUEST_ENTITY_TOO_LARGE.0 ≡ 0 = ap (λ (c : Code). c.0) (sym is) ∙ zero in absurd (omega arith)

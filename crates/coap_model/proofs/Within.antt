@@ -1,4 +1,4 @@
--- The limits hold at each place of a history: those of all clients, and those of each one.
+-- The limits hold at each position of a history: those of all clients, and those of each one.
 use Rattle.std.proofs.Common.{◌≡◌, ⊎_elim, ℕ, ◌+◌, ◌<◌, ◌≤◌, Bool, true, false, cond, List, [], ◌∷◌, ◌++◌, length, map, Option, Some, None, refl, sym, ap, ◌∙◌, subst, arith}
 use Rattle.std.specs.Prelude.{◌&&◌, ◌==◌, not, filter, if◌then◌else◌}
 use Rattle.std.specs.List.{list_any}
@@ -21,7 +21,7 @@ use Rattle.coap_model.specs.declared.report.Outcome.{Outcome}
 use Rattle.coap_model.specs.declared.report.Outcome.TheVariants.{Joined, Opened, Answered, Acked, SentRequest, GaveUp, Delivered}
 use Rattle.coap_model.specs.Setting.{Setting}
 use Rattle.coap_model.specs.Events.{Event, arrival, tick}
-use Rattle.coap_model.specs.History.{Act, admits, moves, serves, Deed, Place, IsPlaceOf, IsRequestOf, admits_one, last_of, IsInOrder, is_con_datagram}
+use Rattle.coap_model.specs.History.{Act, admits, moves, serves, Action, Position, IsPositionOf, IsRequestOf, admits_one, last_of, IsInOrder, is_con_datagram}
 use Rattle.coap_model.specs.Standing.{Standing, Stage, Open, others_than, as_told, waiting_since, standing_by, standing_in, waits_for, told, open_since, at_stage, sent, done, acked, open_by, open_in, exchanges_of, waiters_of}
 use Rattle.coap_model.specs.Remembered.{is_remembered, goes_with, kept_of, kept_at, kept_by, kept_in, most_of_client, most_remembered, remembered_at, remembered_for, remembered_of}
 use Rattle.coap_model.specs.Justified.{IsOpening, JustifiedBy, AllJustified}
@@ -29,7 +29,7 @@ use Rattle.coap_model.specs.Word.{until, IsCacheWithin, IsWithin}
 use Rattle.coap_model.proofs.Arrivals.{head_kind}
 use Rattle.coap_model.proofs.Duplicates.{goes-same}
 use Rattle.coap_model.proofs.Owned.{filtered-count, owned, AreFew, few-changed, few-left, few-more}
-use Rattle.coap_model.proofs.Places.{arrival-same, justified-at}
+use Rattle.coap_model.proofs.Positions.{arrival-same, justified-at}
 use Rattle.coap_model.proofs.Repeats.{new-here}
 use Rattle.coap_model.proofs.Stages.{all-before}
 
@@ -81,19 +81,19 @@ standing-few n Delivered (serves v) event bytes standing opens joins few = go (i
     go false = fewer _ standing n few
 standing-few n _ _ event bytes standing opens joins few = few
 
--- so the limit holds at each place
-pub open-within : (setting : Setting) (history : List Deed) → AllJustified setting history → length (open_in history) ≤ setting.limits.exchanges
+-- so the limit holds at each position
+pub open-within : (setting : Setting) (history : List Action) → AllJustified setting history → length (open_in history) ≤ setting.limits.exchanges
 open-within setting [] all = omega arith
 open-within setting (d ∷ past) all =
-    open-few setting.limits.exchanges d.entry.report.outcome d.act d.entry.event d.entry.report.send (standing_in (d ∷ past)) (open_in past)
+    open-few setting.limits.exchanges d.observation.report.outcome d.act d.observation.event d.observation.report.send (standing_in (d ∷ past)) (open_in past)
     (λ is. let j = subst (λ (o : Outcome). JustifiedBy o setting past d) is all.0 in j.room.shared.exchange)
     (open-within setting past all.1)
 
 -- and so does the limit for clients
-pub standing-within : (setting : Setting) (history : List Deed) → AllJustified setting history → length (standing_in history) ≤ setting.limits.waiters
+pub standing-within : (setting : Setting) (history : List Action) → AllJustified setting history → length (standing_in history) ≤ setting.limits.waiters
 standing-within setting [] all = omega arith
 standing-within setting (d ∷ past) all =
-    standing-few setting.limits.waiters d.entry.report.outcome d.act d.entry.event d.entry.bytes (standing_in past)
+    standing-few setting.limits.waiters d.observation.report.outcome d.act d.observation.event d.observation.bytes (standing_in past)
     (λ is. let j = subst (λ (o : Outcome). JustifiedBy o setting past d) is all.0 in j.room.shared.waiter)
     (λ is. let j = subst (λ (o : Outcome). JustifiedBy o setting past d) is all.0 in j.room.shared.waiter)
     (standing-within setting past all.1)
@@ -164,146 +164,146 @@ standing-own n Delivered (serves v) event bytes xs room few = go (is_con_datagra
 standing-own n _ _ event bytes xs room few = few
 
 -- a client that is admitted had room for one more request
-admitted-room : (setting : Setting) (past : List Deed) (d : Deed) (o : Outcome) → JustifiedBy o setting past d → admits_one o ≡ 1 → (source : Endpoint) (bytes : List ℕ) → d.entry.event ≡ arrival source bytes → waiters_of source past < setting.limits.client_waiters
+admitted-room : (setting : Setting) (past : List Action) (d : Action) (o : Outcome) → JustifiedBy o setting past d → admits_one o ≡ 1 → (source : Endpoint) (bytes : List ℕ) → d.observation.event ≡ arrival source bytes → waiters_of source past < setting.limits.client_waiters
 admitted-room setting past d Joined j one source bytes came = subst (λ (e : Endpoint). waiters_of e past < setting.limits.client_waiters) (sent-by source bytes j.asked came) j.room.own.waiter
 admitted-room setting past d Opened j one source bytes came = subst (λ (e : Endpoint). waiters_of e past < setting.limits.client_waiters) (sent-by source bytes j.asked came) j.room.own.waiter
 admitted-room setting past d _ j one source bytes came = absurd (omega (arith, one))
 
--- so the limit of exchanges holds at each place for each client
-pub open-own-within : (setting : Setting) (history : List Deed) → AllJustified setting history → AreFew opener setting.limits.client_exchanges (open_in history)
+-- so the limit of exchanges holds at each position for each client
+pub open-own-within : (setting : Setting) (history : List Action) → AllJustified setting history → AreFew opener setting.limits.client_exchanges (open_in history)
 open-own-within setting [] all = λ client. omega arith
 open-own-within setting (d ∷ past) all =
-    open-own setting.limits.client_exchanges d.entry.report.outcome d.act d.entry.event d.entry.report.send (standing_in (d ∷ past)) (open_in past) room (open-own-within setting past all.1)
+    open-own setting.limits.client_exchanges d.observation.report.outcome d.act d.observation.event d.observation.report.send (standing_in (d ∷ past)) (open_in past) room (open-own-within setting past all.1)
   where
-    room : d.entry.report.outcome ≡ Opened → (source : Endpoint) (bytes : List ℕ) → d.entry.event ≡ arrival source bytes → exchanges_of source past < setting.limits.client_exchanges
+    room : d.observation.report.outcome ≡ Opened → (source : Endpoint) (bytes : List ℕ) → d.observation.event ≡ arrival source bytes → exchanges_of source past < setting.limits.client_exchanges
     room is source bytes came =
         let j : IsOpening setting past d = subst (λ (o : Outcome). JustifiedBy o setting past d) is all.0 in
         subst (λ (e : Endpoint). exchanges_of e past < setting.limits.client_exchanges) (sent-by source bytes j.asked came) j.room.own.exchange
 
 -- and so does that of pending requests
-pub standing-own-within : (setting : Setting) (history : List Deed) → AllJustified setting history → AreFew asker setting.limits.client_waiters (standing_in history)
+pub standing-own-within : (setting : Setting) (history : List Action) → AllJustified setting history → AreFew asker setting.limits.client_waiters (standing_in history)
 standing-own-within setting [] all = λ client. omega arith
 standing-own-within setting (d ∷ past) all =
-    standing-own setting.limits.client_waiters d.entry.report.outcome d.act d.entry.event d.entry.bytes (standing_in past) (admitted-room setting past d d.entry.report.outcome all.0) (standing-own-within setting past all.1)
+    standing-own setting.limits.client_waiters d.observation.report.outcome d.act d.observation.event d.observation.bytes (standing_in past) (admitted-room setting past d d.observation.report.outcome all.0) (standing-own-within setting past all.1)
 
 -- ---- what is remembered
 
--- an entry adds no record, or one for which there was room
-data LeavesFew (setting : Setting) (kind : Kind) (past : List Deed) (d : Deed) : List Record → Type 0 where
+-- an observation adds no record, or one for which there was room
+data LeavesFew (setting : Setting) (kind : Kind) (past : List Action) (d : Action) : List Record → Type 0 where
   nothing : LeavesFew setting kind past d []
   one : (r : Record)
-      → length (remembered_at kind d.entry.now past) < most_remembered kind setting.limits
-      → remembered_of r.from kind d.entry.now past < most_of_client kind setting.limits
+      → length (remembered_at kind d.observation.now past) < most_remembered kind setting.limits
+      → remembered_of r.from kind d.observation.now past < most_of_client kind setting.limits
       → LeavesFew setting kind past d (r ∷ [])
 
--- so does a justified deed
-leaves-few : (setting : Setting) (kind : Kind) (past : List Deed) (d : Deed) → JustifiedBy d.entry.report.outcome setting past d → LeavesFew setting kind past d (kept_by kind d.entry)
-leaves-few setting kind past d j = go d.entry.event refl
+-- so does a justified action
+leaves-few : (setting : Setting) (kind : Kind) (past : List Action) (d : Action) → JustifiedBy d.observation.report.outcome setting past d → LeavesFew setting kind past d (kept_by kind d.observation)
+leaves-few setting kind past d j = go d.observation.event refl
   where
-    headed : (source : Endpoint) (bytes : List ℕ) → d.entry.event ≡ arrival source bytes → (o : Option Head) → head_at bytes ≡ o → LeavesFew setting kind past d (kept_of kind d.entry.report.outcome d.entry.now d.entry.bytes source o)
+    headed : (source : Endpoint) (bytes : List ℕ) → d.observation.event ≡ arrival source bytes → (o : Option Head) → head_at bytes ≡ o → LeavesFew setting kind past d (kept_of kind d.observation.report.outcome d.observation.now d.observation.bytes source o)
     headed source bytes came None is = nothing
-    headed source bytes came (Some head) is = test (goes_with kind head.kind && is_remembered d.entry.report.outcome head.kind) refl
+    headed source bytes came (Some head) is = test (goes_with kind head.kind && is_remembered d.observation.report.outcome head.kind) refl
       where
-        test : (b : Bool) → (goes_with kind head.kind && is_remembered d.entry.report.outcome head.kind) ≡ b → LeavesFew setting kind past d (if b then record { from = source; id = head.id; at = d.entry.now; reply = told_again head.kind d.entry.bytes } ∷ [] else [])
+        test : (b : Bool) → (goes_with kind head.kind && is_remembered d.observation.report.outcome head.kind) ≡ b → LeavesFew setting kind past d (if b then record { from = source; id = head.id; at = d.observation.now; reply = told_again head.kind d.observation.bytes } ∷ [] else [])
         test false none = nothing
         test true kept =
-            let parts = and_parts (goes_with kind head.kind) (is_remembered d.entry.report.outcome head.kind) kept in
-            let new = new-here d.entry.report.outcome setting past d source bytes head j came is parts.1 in
+            let parts = and_parts (goes_with kind head.kind) (is_remembered d.observation.report.outcome head.kind) kept in
+            let new = new-here d.observation.report.outcome setting past d source bytes head j came is parts.1 in
             let same : new.message.kind ≡ kind = head_kind new.brings came is ∙ goes-same kind head.kind parts.0 in
             let from : new.source ≡ source = (arrival-same new.source source new.brings.bytes bytes (sym new.brings.came ∙ came)).0 in
             one _
-            (subst (λ (k : Kind). length (remembered_at k d.entry.now past) < most_remembered k setting.limits) same new.room.shared)
-            (subst (λ (e : Endpoint). remembered_of e kind d.entry.now past < most_of_client kind setting.limits) from (subst (λ (k : Kind). remembered_of new.source k d.entry.now past < most_of_client k setting.limits) same new.room.own))
+            (subst (λ (k : Kind). length (remembered_at k d.observation.now past) < most_remembered k setting.limits) same new.room.shared)
+            (subst (λ (e : Endpoint). remembered_of e kind d.observation.now past < most_of_client kind setting.limits) from (subst (λ (k : Kind). remembered_of new.source k d.observation.now past < most_of_client k setting.limits) same new.room.own))
 
-    go : (event : Event) → d.entry.event ≡ event → LeavesFew setting kind past d (kept_at kind d.entry.report.outcome d.entry.now d.entry.bytes event)
+    go : (event : Event) → d.observation.event ≡ event → LeavesFew setting kind past d (kept_at kind d.observation.report.outcome d.observation.now d.observation.bytes event)
     go (arrival source bytes) came = headed source bytes came (head_at bytes) refl
     go tick came = nothing
 
 -- no more is remembered at a moment than at an earlier one
-remembered-later : (kind : Kind) (history : List Deed) (now later : ℕ) → now ≤ later → length (remembered_at kind later history) ≤ length (remembered_at kind now history)
+remembered-later : (kind : Kind) (history : List Action) (now later : ℕ) → now ≤ later → length (remembered_at kind later history) ≤ length (remembered_at kind now history)
 remembered-later kind history now later onward =
     let same = living-again (remembered_for kind) now later (kept_in kind history) onward in
     let few = length-living (remembered_for kind) later (living (remembered_for kind) now (kept_in kind history)) in
     omega (arith, ap (λ (rs : List Record). length rs) same, few)
 
--- what is remembered after a deed is what was remembered at its moment, and what it adds
-remembered-split : (kind : Kind) (past : List Deed) (d : Deed) → remembered_at kind d.entry.now (d ∷ past) ≡ remembered_at kind d.entry.now past ++ living (remembered_for kind) d.entry.now (kept_by kind d.entry)
-remembered-split kind past d = filter-append (is_living (remembered_for kind) d.entry.now) (kept_in kind past) (kept_by kind d.entry)
+-- what is remembered after an action is what was remembered at its moment, and what it adds
+remembered-split : (kind : Kind) (past : List Action) (d : Action) → remembered_at kind d.observation.now (d ∷ past) ≡ remembered_at kind d.observation.now past ++ living (remembered_for kind) d.observation.now (kept_by kind d.observation)
+remembered-split kind past d = filter-append (is_living (remembered_for kind) d.observation.now) (kept_in kind past) (kept_by kind d.observation)
 
 -- and no more than the limit
-pub remembered-within : (setting : Setting) (kind : Kind) (history : List Deed) → AllJustified setting history → IsInOrder history → length (remembered_at kind (last_of history) history) ≤ most_remembered kind setting.limits
+pub remembered-within : (setting : Setting) (kind : Kind) (history : List Action) → AllJustified setting history → IsInOrder history → length (remembered_at kind (last_of history) history) ≤ most_remembered kind setting.limits
 remembered-within setting kind [] all ordered = omega arith
 remembered-within setting kind (d ∷ past) all ordered =
-    let now = d.entry.now in
+    let now = d.observation.now in
     let split = ap (λ (rs : List Record). length rs) (remembered-split kind past d) in
-    let both = length-append (living (remembered_for kind) now (kept_in kind past)) (living (remembered_for kind) now (kept_by kind d.entry)) in
+    let both = length-append (living (remembered_for kind) now (kept_in kind past)) (living (remembered_for kind) now (kept_by kind d.observation)) in
     let before = remembered-within setting kind past all.1 ordered.1 in
     let later = remembered-later kind past (last_of past) now ordered.0 in
-    go (kept_by kind d.entry) (leaves-few setting kind past d all.0) (omega (arith, before, later)) (omega (arith, split, both))
+    go (kept_by kind d.observation) (leaves-few setting kind past d all.0) (omega (arith, before, later)) (omega (arith, split, both))
   where
-    go : (left : List Record) → LeavesFew setting kind past d left → length (remembered_at kind d.entry.now past) ≤ most_remembered kind setting.limits
-        → length (remembered_at kind d.entry.now (d ∷ past)) ≡ length (remembered_at kind d.entry.now past) + length (living (remembered_for kind) d.entry.now left)
-        → length (remembered_at kind d.entry.now (d ∷ past)) ≤ most_remembered kind setting.limits
+    go : (left : List Record) → LeavesFew setting kind past d left → length (remembered_at kind d.observation.now past) ≤ most_remembered kind setting.limits
+        → length (remembered_at kind d.observation.now (d ∷ past)) ≡ length (remembered_at kind d.observation.now past) + length (living (remembered_for kind) d.observation.now left)
+        → length (remembered_at kind d.observation.now (d ∷ past)) ≤ most_remembered kind setting.limits
     go _ nothing few sum = omega (arith, few, sum)
-    go _ (one r room own) few sum = let more = length-living (remembered_for kind) d.entry.now (r ∷ []) in omega (arith, room, sum, more)
+    go _ (one r room own) few sum = let more = length-living (remembered_for kind) d.observation.now (r ∷ []) in omega (arith, room, sum, more)
 
 -- ---- what is remembered of one endpoint
 
 -- it is what is its of all that is remembered
-pub remembered-owned : (source : Endpoint) (kind : Kind) (now : ℕ) (history : List Deed) → remembered_of source kind now history ≡ owned sender source (remembered_at kind now history)
+pub remembered-owned : (source : Endpoint) (kind : Kind) (now : ℕ) (history : List Action) → remembered_of source kind now history ≡ owned sender source (remembered_at kind now history)
 remembered-owned source kind now history = filtered-count (is_from source) (remembered_at kind now history)
 
 -- as time passes, no endpoint gets more of it than it may have
-pub remembered-own-later : (kind : Kind) (history : List Deed) (most now later : ℕ) → now ≤ later → AreFew sender most (remembered_at kind now history) → AreFew sender most (remembered_at kind later history)
+pub remembered-own-later : (kind : Kind) (history : List Action) (most now later : ℕ) → now ≤ later → AreFew sender most (remembered_at kind now history) → AreFew sender most (remembered_at kind later history)
 remembered-own-later kind history most now later onward few =
     subst (AreFew sender most) (living-again (remembered_for kind) now later (kept_in kind history) onward)
     (few-left sender most (is_living (remembered_for kind) later) (remembered_at kind now history) few)
 
--- nor by a deed
-remembered-own-on : (setting : Setting) (kind : Kind) (past : List Deed) (d : Deed) → JustifiedBy d.entry.report.outcome setting past d → last_of past ≤ d.entry.now → AreFew sender (most_of_client kind setting.limits) (remembered_at kind (last_of past) past)
-    → AreFew sender (most_of_client kind setting.limits) (remembered_at kind d.entry.now (d ∷ past))
+-- nor by an action
+remembered-own-on : (setting : Setting) (kind : Kind) (past : List Action) (d : Action) → JustifiedBy d.observation.report.outcome setting past d → last_of past ≤ d.observation.now → AreFew sender (most_of_client kind setting.limits) (remembered_at kind (last_of past) past)
+    → AreFew sender (most_of_client kind setting.limits) (remembered_at kind d.observation.now (d ∷ past))
 remembered-own-on setting kind past d j onward few =
-    subst (AreFew sender most) (sym (remembered-split kind past d)) (go (kept_by kind d.entry) (leaves-few setting kind past d j))
+    subst (AreFew sender most) (sym (remembered-split kind past d)) (go (kept_by kind d.observation) (leaves-few setting kind past d j))
   where
     most : ℕ
     most = most_of_client kind setting.limits
 
-    still : AreFew sender most (remembered_at kind d.entry.now past)
-    still = remembered-own-later kind past most (last_of past) d.entry.now onward few
+    still : AreFew sender most (remembered_at kind d.observation.now past)
+    still = remembered-own-later kind past most (last_of past) d.observation.now onward few
 
-    none : AreFew sender most (remembered_at kind d.entry.now past ++ [])
-    none = subst (AreFew sender most) (sym (append-nil (remembered_at kind d.entry.now past))) still
+    none : AreFew sender most (remembered_at kind d.observation.now past ++ [])
+    none = subst (AreFew sender most) (sym (append-nil (remembered_at kind d.observation.now past))) still
 
-    go : (left : List Record) → LeavesFew setting kind past d left → AreFew sender most (remembered_at kind d.entry.now past ++ living (remembered_for kind) d.entry.now left)
+    go : (left : List Record) → LeavesFew setting kind past d left → AreFew sender most (remembered_at kind d.observation.now past ++ living (remembered_for kind) d.observation.now left)
     go _ nothing = none
-    go _ (one r room own) = living_or_not (is_living (remembered_for kind) d.entry.now r)
+    go _ (one r room own) = living_or_not (is_living (remembered_for kind) d.observation.now r)
       where
-        living_or_not : (b : Bool) → AreFew sender most (remembered_at kind d.entry.now past ++ cond b (r ∷ []) [])
-        living_or_not true = few-more sender most (remembered_at kind d.entry.now past) r (let same = remembered-owned r.from kind d.entry.now past in omega (arith, own, same)) still
+        living_or_not : (b : Bool) → AreFew sender most (remembered_at kind d.observation.now past ++ cond b (r ∷ []) [])
+        living_or_not true = few-more sender most (remembered_at kind d.observation.now past) r (let same = remembered-owned r.from kind d.observation.now past in omega (arith, own, same)) still
         living_or_not false = none
 
--- so it is within its limit at each place
-pub remembered-own-within : (setting : Setting) (kind : Kind) (history : List Deed) → AllJustified setting history → IsInOrder history → AreFew sender (most_of_client kind setting.limits) (remembered_at kind (last_of history) history)
+-- so it is within its limit at each position
+pub remembered-own-within : (setting : Setting) (kind : Kind) (history : List Action) → AllJustified setting history → IsInOrder history → AreFew sender (most_of_client kind setting.limits) (remembered_at kind (last_of history) history)
 remembered-own-within setting kind [] all ordered = λ client. omega arith
 remembered-own-within setting kind (d ∷ past) all ordered = remembered-own-on setting kind past d all.0 ordered.0 (remembered-own-within setting kind past all.1 ordered.1)
 
 -- ---- all of them
 
--- the deeds up to a place are justified
-pub upto-justified : (setting : Setting) (history : List Deed) (p : Place) → AllJustified setting history → IsPlaceOf history p → AllJustified setting (until p)
-upto-justified setting history p all at = (justified-at setting history p p.deed.entry.report.outcome all at refl, all-before setting history p all at)
+-- the actions up to a position are justified
+pub upto-justified : (setting : Setting) (history : List Action) (p : Position) → AllJustified setting history → IsPositionOf history p → AllJustified setting (until p)
+upto-justified setting history p all at = (justified-at setting history p p.action.observation.report.outcome all at refl, all-before setting history p all at)
 
 -- and they are in order
-pub upto-ordered : (history : List Deed) (p : Place) → IsInOrder history → IsPlaceOf history p → IsInOrder (until p)
+pub upto-ordered : (history : List Action) (p : Position) → IsInOrder history → IsPositionOf history p → IsInOrder (until p)
 upto-ordered [] p ordered at = absurd at
 upto-ordered (d ∷ past) p ordered at =
     ⊎_elim
-    (λ (same : record { before = past; deed = d } ≡ p). subst (λ (q : Place). IsInOrder (until q)) same ordered)
-    (λ (there : IsPlaceOf past p). upto-ordered past p ordered.1 there)
+    (λ (same : record { before = past; action = d } ≡ p). subst (λ (q : Position). IsInOrder (until q)) same ordered)
+    (λ (there : IsPositionOf past p). upto-ordered past p ordered.1 there)
     at
 
 -- so all limits hold there
-pub within-at : (setting : Setting) (p : Place) → AllJustified setting (until p) → IsInOrder (until p) → IsCacheWithin setting (until p) → IsWithin setting (until p)
+pub within-at : (setting : Setting) (p : Position) → AllJustified setting (until p) → IsInOrder (until p) → IsCacheWithin setting (until p) → IsWithin setting (until p)
 within-at setting p all ordered cache =
     record {
       exchanges = open-within setting (until p) all;

@@ -1,4 +1,4 @@
--- A proxy keeps its promise: the promise in short, at each place of a history.
+-- A proxy keeps its promise: the promise in short, at each position of a history.
 use Rattle.std.proofs.Common.{◌≡◌, inl, inr, ℕ, List, [], ◌∷◌, Option, Some, subst}
 use Rattle.coap_message.specs.Message.{Message}
 use Rattle.coap_endpoint.specs.declared.endpoint.Endpoint.{Endpoint}
@@ -9,7 +9,7 @@ use Rattle.coap_model.specs.declared.report.Outcome.{Outcome}
 use Rattle.coap_model.specs.declared.report.Outcome.TheVariants.{Again, Hit}
 use Rattle.coap_model.specs.Setting.{Setting}
 use Rattle.coap_model.specs.State.{State}
-use Rattle.coap_model.specs.History.{Entry, Deed, Place, IsPlaceOf, IsInOrder}
+use Rattle.coap_model.specs.History.{Observation, Action, Position, IsPositionOf, IsInOrder}
 use Rattle.coap_model.specs.Cached.{Cached, cached_key, IsCacheOf}
 use Rattle.coap_model.specs.Duplicates.{Repeats}
 use Rattle.coap_model.specs.Justified.{known_of, Comes, SaysAgain, IsRepetition, IsHit, JustifiedBy, AllJustified}
@@ -22,17 +22,17 @@ use Rattle.coap_model.proofs.Carrying.{starts}
 use Rattle.coap_model.proofs.Giving.{ids-differ}
 use Rattle.coap_model.proofs.Obtaining.{found-obtained}
 use Rattle.coap_model.proofs.OwedThere.{owed-at, again-there}
-use Rattle.coap_model.proofs.Places.{one-brought, justified-at}
+use Rattle.coap_model.proofs.Positions.{one-brought, justified-at}
 use Rattle.coap_model.proofs.Repeats.{told-there}
 use Rattle.coap_model.proofs.Running.{runs_carry}
 use Rattle.coap_model.proofs.Stages.{all-before}
 use Rattle.coap_model.proofs.Stores.{cache-few, store-within}
 use Rattle.coap_model.proofs.Within.{upto-justified, upto-ordered, within-at}
 
--- ---- each place
+-- ---- each position
 
 -- a hit is a reply from the cache
-from-cache : (setting : Setting) (p : Place) → AreRoutes setting.routes → AllJustified setting p.before → IsHit setting p.before p.deed → IsFromCache setting p.before p.deed.entry
+from-cache : (setting : Setting) (p : Position) → AreRoutes setting.routes → AllJustified setting p.before → IsHit setting p.before p.action → IsFromCache setting p.before p.action.observation
 from-cache setting p routes all hit =
     record {
       client = hit.client;
@@ -49,25 +49,25 @@ from-cache setting p routes all hit =
       shows = hit.tells;
     }
 
--- a message that repeats a place gets what was sent there
-again-at : (setting : Setting) (p former : Place) (source : Endpoint) (m : Message) → AllJustified setting (until p) → IsInOrder (until p) → p.deed.entry.report.outcome ≡ Again → IsPlaceOf p.before former → Comes setting source m p.deed.entry.event → Repeats p.deed.entry.now source m former
-    → IsToldAgain source m former p.deed.entry
+-- a message that repeats a position gets what was sent there
+again-at : (setting : Setting) (p former : Position) (source : Endpoint) (m : Message) → AllJustified setting (until p) → IsInOrder (until p) → p.action.observation.report.outcome ≡ Again → IsPositionOf p.before former → Comes setting source m p.action.observation.event → Repeats p.action.observation.now source m former
+    → IsToldAgain source m former p.action.observation
 again-at setting p former source m all ordered is at comes repeats =
-    let j : IsRepetition setting p.before p.deed = subst (λ (o : Outcome). JustifiedBy o setting p.before p.deed) is all.0 in
+    let j : IsRepetition setting p.before p.action = subst (λ (o : Outcome). JustifiedBy o setting p.before p.action) is all.0 in
     let same = one-brought j.comes.brings comes.brings in
-    let found = subst (λ (e : Endpoint). known_of p.before p.deed.entry.now e m ≡ Some j.known) same.0 (subst (λ (n : Message). known_of p.before p.deed.entry.now j.source n ≡ Some j.known) same.1 j.found) in
-    let reply = told-there setting p.before p.deed.entry.now source m all.1 ordered.1 ordered.0 former j.known at repeats found in
+    let found = subst (λ (e : Endpoint). known_of p.before p.action.observation.now e m ≡ Some j.known) same.0 (subst (λ (n : Message). known_of p.before p.action.observation.now j.source n ≡ Some j.known) same.1 j.found) in
+    let reply = told-there setting p.before p.action.observation.now source m all.1 ordered.1 ordered.0 former j.known at repeats found in
     record {
       outcome = is;
-      again = subst (λ (e : Endpoint). SaysAgain e (told_again m.kind former.deed.entry.bytes) p.deed.entry) same.0 (subst (λ (r : Option (List ℕ)). SaysAgain j.source r p.deed.entry) reply j.says_again);
+      again = subst (λ (e : Endpoint). SaysAgain e (told_again m.kind former.action.observation.bytes) p.action.observation) same.0 (subst (λ (r : Option (List ℕ)). SaysAgain j.source r p.action.observation) reply j.says_again);
     }
 
--- a history that has a cache had one at each place, which was within its limits
-cache-at : (setting : Setting) (history : List Deed) (cached : List Cached) (p : Place) → IsCacheOf setting history cached → IsPlaceOf history p → IsCacheWithin setting (until p)
+-- a history that has a cache had one at each position, which was within its limits
+cache-at : (setting : Setting) (history : List Action) (cached : List Cached) (p : Position) → IsCacheOf setting history cached → IsPositionOf history p → IsCacheWithin setting (until p)
 cache-at setting [] cached p c at = absurd at
 cache-at setting (d ∷ past) cached p c (inl here) =
     let few = cache-few setting (d ∷ past) cached c in
-    subst (λ (q : Place). IsCacheWithin setting (until q)) here (record { cached = cached; is_cache = c; entries = few.0; bytes = few.1 })
+    subst (λ (q : Position). IsCacheWithin setting (until q)) here (record { cached = cached; is_cache = c; entries = few.0; bytes = few.1 })
 cache-at setting (d ∷ past) cached p c (inr there) =
     let before = cache-before c in
     cache-at setting past before.0 p before.1 there
@@ -75,24 +75,24 @@ cache-at setting (d ∷ past) cached p c (inr there) =
 -- ---- the promise is kept
 
 -- a proxy keeps its promise for any history that it carries
-pub keeps-word : (history : List Entry) (w : State) → Carries history w → KeepsItsWord history w
+pub keeps-word : (history : List Observation) (w : State) → Carries history w → KeepsItsWord history w
 keeps-word history w c =
     let setting = w.setting in
-    let upto = λ (p : Place) (at : IsPlaceOf c.deeds p). upto-justified setting c.deeds p c.bears.past at in
-    let ordered = λ (p : Place) (at : IsPlaceOf c.deeds p). upto-ordered c.deeds p c.bears.clock.in_order at in
+    let upto = λ (p : Position) (at : IsPositionOf c.actions p). upto-justified setting c.actions p c.bears.past at in
+    let ordered = λ (p : Position) (at : IsPositionOf c.actions p). upto-ordered c.actions p c.bears.clock.in_order at in
     record {
-      deeds = c.deeds;
+      actions = c.actions;
       told = c.told;
       justified = c.bears.past;
       store = c.bears.store;
-      entries = (store-within w.setting c.deeds w.store c.bears.store).within_entries;
-      cached_bytes = (store-within w.setting c.deeds w.store c.bears.store).within_bytes;
-      within = λ p at. within-at setting p (upto p at) (ordered p at) (cache-at setting c.deeds c.bears.store.cached p c.bears.store.is_cache at);
-      ids = ids-differ w.setting.first_id c.deeds c.bears.ids.are_ids c.bears.ids.windows c.bears.clock.in_order;
-      from_cache = λ p at is. from-cache setting p c.bears.routes (all-before setting c.deeds p c.bears.past at) (justified-at setting c.deeds p Hit c.bears.past at is);
+      entries = (store-within w.setting c.actions w.store c.bears.store).within_entries;
+      cached_bytes = (store-within w.setting c.actions w.store c.bears.store).within_bytes;
+      within = λ p at. within-at setting p (upto p at) (ordered p at) (cache-at setting c.actions c.bears.store.cached p c.bears.store.is_cache at);
+      ids = ids-differ w.setting.first_id c.actions c.bears.ids.are_ids c.bears.ids.windows c.bears.clock.in_order;
+      from_cache = λ p at is. from-cache setting p c.bears.routes (all-before setting c.actions p c.bears.past at) (justified-at setting c.actions p Hit c.bears.past at is);
       duplicates = λ p former source m at before comes repeats.
           again-at setting p former source m (upto p at) (ordered p at)
-          (again-there setting p former source m (owed-at setting c.deeds p (all-owed setting c.deeds c.bears.past) at) comes before repeats)
+          (again-there setting p former source m (owed-at setting c.actions p (all-owed setting c.actions c.bears.past) at) comes before repeats)
           before comes repeats;
     }
 

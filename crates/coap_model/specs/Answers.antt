@@ -15,7 +15,7 @@ use Rattle.coap_model.specs.declared.report.Storing.{Storing}
 use Rattle.coap_model.specs.declared.report.Storing.TheVariants.{Kept, TooLarge, NoMemory, NotStored}
 use Rattle.coap_forward.specs.Answers.{answer_of, is_storable}
 use Rattle.coap_forward.specs.Changes.{changed_by}
-use Rattle.coap_model.specs.State.{State, Step, later, takes_up}
+use Rattle.coap_model.specs.State.{State, Step, later, accepts}
 
 -- ---- changes
 
@@ -63,7 +63,7 @@ entry_made w now x a = (
 -- acknowledged
 abbrev pub answers_so : State → ℕ → Arrived → Storing → List Entry → Step
 answers_so w now a storing store =
-    takes_up (Answered storing) a.source a.message (record (later w now) {
+    accepts (Answered storing) a.source a.message (record (later w now) {
       exchanges = changed_at a.exchange.0 (answered a.answer) w.exchanges;
       store = store;
     })

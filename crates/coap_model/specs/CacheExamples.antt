@@ -20,7 +20,7 @@ use Rattle.coap_forward.specs.Answers.{answer_of}
 use Rattle.coap_model.specs.Examples.{origin, client, get_t, answer, bare_get}
 use Rattle.coap_model.specs.LimitExamples as limited
 use Rattle.coap_model.specs.OptionExamples.{key_of_temp}
-use Rattle.coap_model.specs.History.{no_item, admits, moves, Deed}
+use Rattle.coap_model.specs.History.{no_item, admits, moves, Action}
 use Rattle.coap_model.specs.Forged as forged
 use Rattle.coap_model.specs.Forged.{setting, opened, asked}
 use Rattle.coap_forward.specs.Answers.{is_storable}
@@ -67,11 +67,11 @@ entry_for segment came =
         target = record key_of_temp.target { path = (segment ∷ []) ∷ [] };
       };
       response = content_for 1 1;
-      asking = record { before = opened ∷ []; deed = asked };
+      asking = record { before = opened ∷ []; action = asked };
       getting =
           record {
             before = asked ∷ opened ∷ [];
-            deed = record asked { entry = record asked.entry { now = came } };
+            action = record asked { observation = record asked.observation { now = came } };
           };
     }
 
@@ -91,10 +91,10 @@ kept_within bytes entries new cached =
 -- ---- histories
 
 -- an answer from the origin server for an exchange
-abbrev pub answered : ℕ → ℕ → ℕ → Outcome → Deed
+abbrev pub answered : ℕ → ℕ → ℕ → Outcome → Action
 answered now id exchange outcome =
     record {
-      entry = record forged.answered.entry {
+      observation = record forged.answered.observation {
         now = now;
         event = arrival origin (limited.got id exchange);
         report = record { send = None; outcome = outcome };
@@ -103,14 +103,14 @@ answered now id exchange outcome =
     }
 
 -- an answer is kept
-abbrev pub kept_past : List Deed
+abbrev pub kept_past : List Action
 kept_past = answered 5 1 1 (Answered Kept) ∷ asked ∷ opened ∷ []
 
 -- another client sends the same request
-abbrev pub hits : Deed
+abbrev pub hits : Action
 hits =
     record {
-      entry = record opened.entry {
+      observation = record opened.observation {
         now = 10;
         event = arrival (client 2) (get_t []);
         report = record { send = Some (client 2); outcome = Hit };
@@ -118,26 +118,30 @@ hits =
       act = no_item;
     }
 
-abbrev pub hit_past : List Deed
+abbrev pub hit_past : List Action
 hit_past = hits ∷ kept_past
 
 -- a new exchange is opened for the same
-abbrev pub opens_again : Deed
+abbrev pub opens_again : Action
 opens_again =
     record {
-      entry = record opened.entry { now = 12; event = arrival (client 3) (get_t []) };
+      observation = record opened.observation { now = 12; event = arrival (client 3) (get_t []) };
       act = admits 2 2;
     }
 
-abbrev pub opened_past : List Deed
+abbrev pub opened_past : List Action
 opened_past = opens_again ∷ hit_past
 
 -- and its request is sent to the origin server
-abbrev pub asks_again : Deed
+abbrev pub asks_again : Action
 asks_again =
-    record { entry = record asked.entry { now = 15; bytes = limited.asked 3 2 }; act = moves 2 }
+    record {
+      observation = record asked.observation
+          { now = 15; bytes = limited.asked 3 2 };
+      act = moves 2;
+    }
 
-abbrev pub asked_past : List Deed
+abbrev pub asked_past : List Action
 asked_past = asks_again ∷ opened_past
 
 -- the entry of the first answer, and of the second
@@ -146,9 +150,9 @@ first_entry =
     record {
       key = key_of_temp;
       response = content_for 1 1;
-      asking = record { before = opened ∷ []; deed = asked };
+      asking = record { before = opened ∷ []; action = asked };
       getting =
-          record { before = asked ∷ opened ∷ []; deed = answered 5 1 1 (Answered Kept) };
+          record { before = asked ∷ opened ∷ []; action = answered 5 1 1 (Answered Kept) };
     }
 
 abbrev pub second_entry : Cached
@@ -156,8 +160,8 @@ second_entry =
     record {
       key = key_of_temp;
       response = content_for 3 2;
-      asking = record { before = opened_past; deed = asks_again };
-      getting = record { before = asked_past; deed = answered 20 3 2 (Answered Kept) };
+      asking = record { before = opened_past; action = asks_again };
+      getting = record { before = asked_past; action = answered 20 3 2 (Answered Kept) };
     }
 
 -- the entry of a store for the first

@@ -20,15 +20,15 @@ use Rattle.coap_model.specs.declared.report.Storing.TheVariants.{Kept, TooLarge,
 use Rattle.coap_model.specs.Setting.{Setting}
 use Rattle.coap_model.specs.Keys.{request_key}
 use Rattle.coap_forward.specs.Answers.{answer_of, fits, is_passed_on, taken_of}
-use Rattle.coap_model.specs.History.{Deed, Place, index, IsPlaceOf, Brings, Opens, Gets}
+use Rattle.coap_model.specs.History.{Action, Position, index, IsPositionOf, Brings, Opens, Gets}
 use Rattle.coap_model.specs.Changed.{asked_of, key_asked, to_get, Unchanged, IsTold}
 use Rattle.coap_model.specs.Pairs.{Pairs}
 
 -- ---- what may be kept
 
--- a GET with this key was sent at one place, and its response arrived at the other; the target
+-- a GET with this key was sent at one position, and its response arrived at the other; the target
 -- wasn't changed between them
-pub record IsFetched (setting : Setting) (key : CacheKey) (asking getting : Place) : Type 0 where
+pub record IsFetched (setting : Setting) (key : CacheKey) (asking getting : Position) : Type 0 where
   pub exchange : ℕ
   pub gets : Gets setting exchange getting
   pub asking_is : gets.meets.asking ≡ asking
@@ -45,17 +45,18 @@ pub record IsLasting (response : Message) : Type 0 where
 -- The response was obtained for this key: it arrived for a GET with the key, or it was obtained for
 -- the key before, and a 2.03 that renews it arrived for a GET with its tag. Each renewal was
 -- requested after what it renews had arrived.
-pub data IsObtained (setting : Setting) (key : CacheKey) : Message → Place → Place → Type 0 where
-  first_hand : {response : Message} {asking getting : Place}
+pub data IsObtained (setting : Setting) (key : CacheKey) : Message → Position → Position
+    → Type 0 where
+  first_hand : {response : Message} {asking getting : Position}
       (fetched : IsFetched setting key asking getting)
       → response ≡ taken_of true fetched.gets.meets.message
       → IsLasting response
       → IsObtained setting key response asking getting
-  validated : {response old : Message} {asking getting old_asking old_getting : Place}
+  validated : {response old : Message} {asking getting old_asking old_getting : Position}
       (fetched : IsFetched setting key asking getting)
       (tag : List ℕ)
       → IsObtained setting key old old_asking old_getting
-      → IsPlaceOf asking.before old_getting
+      → IsPositionOf asking.before old_getting
       → tag_of old.options ≡ Some tag
       → tags_of (asked_of fetched.gets) ≡ tag ∷ []
       → is_validated old (taken_of true fetched.gets.meets.message) ≡ true
@@ -66,12 +67,12 @@ pub data IsObtained (setting : Setting) (key : CacheKey) : Message → Place →
 
 -- ---- the cache
 
--- an entry of the cache: a response, with the places where it was requested and where it arrived
+-- an entry of the cache: a response, with the positions where it was requested and where it arrived
 pub record Cached : Type 0 where
   pub key : CacheKey
   pub response : Message
-  pub asking : Place
-  pub getting : Place
+  pub asking : Position
+  pub getting : Position
 
 -- the entry of a store for it, with or without a mark
 abbrev pub entry_marked : Bool → Cached → entries.Entry
@@ -81,7 +82,7 @@ entry_marked marked c = (
     response = c.response;
     asked = index c.asking;
     got_no = index c.getting;
-    got = c.getting.deed.entry.now;
+    got = c.getting.action.observation.now;
     marked = marked;
   },
 )
@@ -106,14 +107,14 @@ abbrev pub cached_with : Setting → Cached → List Cached → List Cached
 cached_with setting new cached =
     put cached_key cached_size setting.limits.cache_bytes setting.limits.cache_entries new cached
 
--- the entry for a response that arrives at the newest place
-abbrev pub cached_here : CacheKey → Message → Place → List Deed → Deed → Cached
+-- the entry for a response that arrives at the newest position
+abbrev pub cached_here : CacheKey → Message → Position → List Action → Action → Cached
 cached_here key response asking past d =
     record {
       key = key;
       response = response;
       asking = asking;
-      getting = record { before = past; deed = d };
+      getting = record { before = past; action = d };
     }
 
 abbrev pub leaves_stored : Storing → Bool
@@ -157,16 +158,16 @@ copied (tag ∷ tags) key former = kept_for key former
 
 -- the answer that arrived there, if this was the cache when the exchange was opened
 abbrev pub answer_got :
-    {setting : Setting} {x : ℕ} {p : Place} → List Cached → Gets setting x p → Answer
+    {setting : Setting} {x : ℕ} {p : Position} → List Cached → Gets setting x p → Answer
 answer_got {setting = setting} {p = p} former gets =
     answer_of setting.limits.datagram (to_get gets)
-    (copied (tags_of (asked_of gets)) (key_asked gets) former) p.deed.entry.now
+    (copied (tags_of (asked_of gets)) (key_asked gets) former) p.action.observation.now
     gets.meets.message
 
 -- its entry, if it is kept
 abbrev pub entry_got :
-    {setting : Setting} {x : ℕ} {past : List Deed} {d : Deed} → List Cached
-    → Gets setting x (record { before = past; deed = d }) → Cached
+    {setting : Setting} {x : ℕ} {past : List Action} {d : Action} → List Cached
+    → Gets setting x (record { before = past; action = d }) → Cached
 entry_got {past = past} {d = d} former gets =
     cached_here (key_asked gets) (answer_got former gets).message gets.meets.asking past d
 
@@ -174,44 +175,44 @@ entry_got {past = past} {d = d} former gets =
 
 -- The cache of a history, the most recently used first. There is a case for each way in which an
 -- entry moves.
-pub data IsCacheOf (setting : Setting) : List Deed → List Cached → Type 0 where
+pub data IsCacheOf (setting : Setting) : List Action → List Cached → Type 0 where
   empty : IsCacheOf setting [] []
   -- an answer is kept: it is put in front. What it renews was in the cache when its exchange was
   -- opened, and may have been evicted since.
-  kept : {past : List Deed} {cached former : List Cached} (d : Deed) (x : ℕ)
-      (gets : Gets setting x (record { before = past; deed = d })) (opening : Place)
-      → d.entry.report.outcome ≡ Answered Kept
-      → IsPlaceOf gets.meets.asking.before opening
+  kept : {past : List Action} {cached former : List Cached} (d : Action) (x : ℕ)
+      (gets : Gets setting x (record { before = past; action = d })) (opening : Position)
+      → d.observation.report.outcome ≡ Answered Kept
+      → IsPositionOf gets.meets.asking.before opening
       → Opens x opening
       → IsCacheOf setting opening.before former
       → IsCacheOf setting past cached
       → IsCacheOf setting (d ∷ past) (cached_with setting (entry_got former gets) cached)
   -- an answer alone is larger than the limit: the entry with its key is removed
-  too_large : {past : List Deed} {cached : List Cached} (d : Deed) (x : ℕ)
-      (gets : Gets setting x (record { before = past; deed = d }))
-      → d.entry.report.outcome ≡ Answered TooLarge
+  too_large : {past : List Action} {cached : List Cached} (d : Action) (x : ℕ)
+      (gets : Gets setting x (record { before = past; action = d }))
+      → d.observation.report.outcome ≡ Answered TooLarge
       → IsCacheOf setting past cached
       → IsCacheOf setting (d ∷ past) (others cached_key (key_asked gets) cached)
   -- a request is answered from the cache: the entry with its key moves to the front
-  hit : {past : List Deed} {cached : List Cached} (d : Deed) (client : Endpoint)
+  hit : {past : List Action} {cached : List Cached} (d : Action) (client : Endpoint)
       (request : Message) (target : Target) (entry : Cached)
-      → d.entry.report.outcome ≡ Hit
-      → Brings setting.limits.datagram client request d.entry.event
+      → d.observation.report.outcome ≡ Hit
+      → Brings setting.limits.datagram client request d.observation.event
       → request_target setting.routes request ≡ Ok target
       → of_key cached_key (request_key target request) cached ≡ Some entry
       → IsCacheOf setting past cached
       → IsCacheOf setting (d ∷ past) (used cached_key (request_key target request) cached)
   -- every other outcome leaves the cache as it is
-  otherwise : {past : List Deed} {cached : List Cached} (d : Deed)
-      → leaves d.entry.report.outcome ≡ true
+  otherwise : {past : List Action} {cached : List Cached} (d : Action)
+      → leaves d.observation.report.outcome ≡ true
       → IsCacheOf setting past cached
       → IsCacheOf setting (d ∷ past) cached
 
 -- this was the cache when the exchange with this number was opened
-pub record WasCacheAt (setting : Setting) (past : List Deed) (x : ℕ) (former : List Cached)
+pub record WasCacheAt (setting : Setting) (past : List Action) (x : ℕ) (former : List Cached)
     : Type 0 where
-  pub opening : Place
-  pub was_opened : IsPlaceOf past opening
+  pub opening : Position
+  pub was_opened : IsPositionOf past opening
   pub opens : Opens x opening
   pub is_cache : IsCacheOf setting opening.before former
 
@@ -224,28 +225,29 @@ StandsFirst x (y ∷ ys) = y ≡ x
 
 -- an entry of the store corresponds to the entry of the cache, and is marked exactly if its target
 -- was changed since it was requested
-pub record IsStored (setting : Setting) (history : List Deed) (stored : entries.Entry) (c : Cached)
+pub record IsStored (setting : Setting) (history : List Action) (stored : entries.Entry)
+    (c : Cached)
     : Type 0 where
   pub same : stored ≡ entry_marked stored.1.marked c
-  pub was_asked : IsPlaceOf history c.asking
+  pub was_asked : IsPositionOf history c.asking
   pub told : IsTold stored.1.marked setting c.key.target c.asking history
 
 -- the store corresponds to the cache of the history, entry by entry
-pub record IsStoreOf (setting : Setting) (history : List Deed) (store : List entries.Entry)
+pub record IsStoreOf (setting : Setting) (history : List Action) (store : List entries.Entry)
     : Type 0 where
   pub cached : List Cached
   pub is_cache : IsCacheOf setting history cached
   pub each : Pairs (IsStored setting history) store cached
 
 -- an entry that was obtained in the history
-pub record WasObtained (setting : Setting) (history : List Deed) (c : Cached) : Type 0 where
-  pub was_asked : IsPlaceOf history c.asking
-  pub was_got : IsPlaceOf history c.getting
+pub record WasObtained (setting : Setting) (history : List Action) (c : Cached) : Type 0 where
+  pub was_asked : IsPositionOf history c.asking
+  pub was_got : IsPositionOf history c.getting
   pub obtained : IsObtained setting c.key c.response c.asking c.getting
 
 -- what is stored for a key corresponds to the cache's entry with the key
 pub record IsEntryOf
-    (setting : Setting) (history : List Deed) (cached : List Cached) (key : CacheKey)
+    (setting : Setting) (history : List Action) (cached : List Cached) (key : CacheKey)
     (stored : entries.Entry)
     : Type 0 where
   pub entry : Cached

@@ -33,7 +33,7 @@ use Rattle.coap_model.specs.Verdicts.{may_ask}
 use Rattle.coap_model.specs.State.{State, reserved}
 use Rattle.coap_model.specs.Standing.{Stage, Service, Standing, Open, queued, sent, acked, done, waits, told, open_in, standing_in, window_ids}
 use Rattle.coap_model.specs.Schedules.{IsSchedule, oldest, sends_by}
-use Rattle.coap_model.specs.History.{Entry, Act, moves, serves, Deed, told_by, Place, index, IsPlaceOf, Never, Somewhere, opened_in, admitted_in, ids_in, Opens, Admits, Sends, Serves, Asks, Ends, WasOpened, WasAdmitted, last_of, IsInOrder, AreIds}
+use Rattle.coap_model.specs.History.{Observation, Act, moves, serves, Action, told_by, Position, index, IsPositionOf, Never, Somewhere, opened_in, admitted_in, ids_in, Opens, Admits, Sends, Serves, Asks, Ends, WasOpened, WasAdmitted, last_of, IsInOrder, AreIds}
 use Rattle.coap_model.specs.Changed.{IsTold}
 use Rattle.coap_model.specs.Cached.{Cached, kept_for, copied, IsCacheOf, WasCacheAt, IsStoreOf}
 use Rattle.coap_model.specs.Remembered.{most_of_client, most_remembered, remembered_at, remembered_for}
@@ -41,18 +41,18 @@ use Rattle.coap_model.specs.Justified.{verdict_on, EndsWith, AllJustified}
 
 -- ---- the clock, the numbers and the ids
 
-pub record Clock (history : List Deed) (w : State) : Type 0 where
+pub record Clock (history : List Action) (w : State) : Type 0 where
   pub events : w.events ≡ length history
   pub last : w.last ≡ last_of history
   pub in_order : IsInOrder history
 
-pub record Numbers (history : List Deed) (w : State) : Type 0 where
+pub record Numbers (history : List Action) (w : State) : Type 0 where
   pub opened : w.opened ≡ opened_in history
   pub admitted : w.admitted ≡ admitted_in history
 
 -- The table of Message IDs has the next one, and how many were given out in the window of a moment;
 -- at most half of all ids are given out in one window.
-pub record Ids (history : List Deed) (w : State) : Type 0 where
+pub record Ids (history : List Action) (w : State) : Type 0 where
   pub following : w.ids.following ≡ (w.setting.first_id + ids_in history) % 65536
   pub given :
       (now : ℕ)
@@ -95,7 +95,7 @@ HasExchange (Waiting exchange) exchanges = HasNumber exchange exchanges
 HasExchange (Delivering bytes id timer) exchanges = Unit {0}
 
 -- Nothing is missing in the tables, and nothing is in them twice.
-pub record AreWhole (history : List Deed) (w : State) : Type 0 where
+pub record AreWhole (history : List Action) (w : State) : Type 0 where
   pub exchanges : map stage_seen w.exchanges ≡ open_in history
   pub waiters : map standing_seen w.waiters ≡ standing_in history
   pub rising : IsRising 0 w.exchanges
@@ -114,7 +114,7 @@ pub record AreWhole (history : List Deed) (w : State) : Type 0 where
 -- ---- what is sent
 
 -- the timer after these transmissions, listed with the last one first
-abbrev pub IsTimer : Timer → List Entry → Type 0
+abbrev pub IsTimer : Timer → List Observation → Type 0
 IsTimer t [] = ⊥
 IsTimer t (e ∷ es) =
     (t.sends ≡ length es + 1)
@@ -123,18 +123,18 @@ IsTimer t (e ∷ es) =
     × (t.due ≡ e.now + t.timeout)
 
 -- each of them was this datagram, to this endpoint
-abbrev pub AreOfBytes : Endpoint → List ℕ → List Entry → Type 0
+abbrev pub AreOfBytes : Endpoint → List ℕ → List Observation → Type 0
 AreOfBytes to bytes es =
     AllByRecursion (λ e. (e.report.send ≡ Some to) × (e.bytes ≡ bytes)) es
 
 -- the request of the exchange was sent in the history, with this key, and is retransmitted by this
 -- schedule
 pub record WasAsked
-    (setting : Setting) (history : List Deed) (x : ℕ) (key : CacheKey) (form : List ℕ)
+    (setting : Setting) (history : List Action) (x : ℕ) (key : CacheKey) (form : List ℕ)
     (s : Sending)
     : Type 0 where
-  pub asking : Place
-  pub was_asked : IsPlaceOf history asking
+  pub asking : Position
+  pub was_asked : IsPositionOf history asking
   pub asks : Asks setting.salt x asking
   pub asked_key : key_sent asks.sends.to asks.sends.message ≡ key
   pub to : asks.sends.to ≡ key.target.at
@@ -145,13 +145,14 @@ pub record WasAsked
 
 -- if there is a sending, the request of the exchange was sent in the history
 abbrev pub WasSent :
-    Setting → List Deed → ℕ → CacheKey → List ℕ → Option Sending → Type 0
+    Setting → List Action → ℕ → CacheKey → List ℕ → Option Sending → Type 0
 WasSent setting history x key form None = Unit {0}
 WasSent setting history x key form (Some s) = WasAsked setting history x key form s
 
 -- ---- exchanges
 
-pub record IsQueued (setting : Setting) (history : List Deed) (x : Numbered Exchange) : Type 0 where
+pub record IsQueued (setting : Setting) (history : List Action) (x : Numbered Exchange)
+    : Type 0 where
   pub unsent : x.1.sending ≡ None
   pub untainted : x.1.tainted ≡ false
   pub never_sent : Never (Sends setting.salt x.0) history
@@ -162,7 +163,7 @@ pub record IsQueued (setting : Setting) (history : List Deed) (x : Numbered Exch
 -- for its key when the exchange was opened, and the taint says whether its target was changed since
 -- it was sent.
 pub record IsInFlight
-    (setting : Setting) (history : List Deed) (x : Numbered Exchange) : Type 0 where
+    (setting : Setting) (history : List Action) (x : Numbered Exchange) : Type 0 where
   pub sending : Sending
   pub sending_is : x.1.sending ≡ Some sending
   pub asked : WasAsked setting history x.0 x.1.key x.1.form sending
@@ -178,18 +179,18 @@ pub record IsInFlight
 
 -- the exchange ended in the history, with this answer
 pub record IsDone
-    (setting : Setting) (history : List Deed) (x : Numbered Exchange) (answer : Answer)
+    (setting : Setting) (history : List Action) (x : Numbered Exchange) (answer : Answer)
     : Type 0 where
-  pub ending : Place
-  pub was_ended : IsPlaceOf history ending
+  pub ending : Position
+  pub was_ended : IsPositionOf history ending
   pub ends : Ends x.0 ending
   pub with : EndsWith setting x.0 x.1.key ending answer
-  pub got : answer.got ≡ ending.deed.entry.now
+  pub got : answer.got ≡ ending.action.observation.now
   -- its request was sent in the history, unless it was never sent
   pub was_sent : WasSent setting history x.0 x.1.key x.1.form x.1.sending
 
 -- the state of the exchange agrees with the history
-abbrev pub IsState : Setting → List Deed → Numbered Exchange → ExchangeState → Type 0
+abbrev pub IsState : Setting → List Action → Numbered Exchange → ExchangeState → Type 0
 IsState setting history x Queued = IsQueued setting history x
 IsState setting history x Sent = IsInFlight setting history x
 IsState setting history x Acked = IsInFlight setting history x
@@ -206,10 +207,10 @@ form_id (Some s) = s.id
 
 -- the exchange is the one that the history opened under its number
 pub record IsExchangeOf
-    (setting : Setting) (history : List Deed) (x : Numbered Exchange) : Type 0 where
+    (setting : Setting) (history : List Action) (x : Numbered Exchange) : Type 0 where
   pub opened : WasOpened setting history x.0
   pub client_is : x.1.client ≡ opened.client
-  pub admitted : x.1.admitted ≡ opened.opening.deed.entry.now
+  pub admitted : x.1.admitted ≡ opened.opening.action.observation.now
   pub verdict : verdict_on setting opened.request ≡ may_ask x.1.key
   pub method : x.1.is_get ≡ is_get opened.request.code
   pub former : List Cached
@@ -232,7 +233,7 @@ pub record IsExchangeOf
 
 -- a client waits: it was admitted to this exchange, which hadn't ended then
 pub record IsWaiting
-    (setting : Setting) (history : List Deed) (v : Numbered Waiter) (exchange : ℕ)
+    (setting : Setting) (history : List Action) (v : Numbered Waiter) (exchange : ℕ)
     : Type 0 where
   pub admitted : WasAdmitted setting history v.0
   pub exchange_is : admitted.exchange ≡ exchange
@@ -252,39 +253,39 @@ pub record IsWaiting
 -- A client was served once, in a Confirmable message: in these bytes, with this id, by this
 -- schedule. The token and the tags of its request are dropped.
 pub record IsDelivering
-    (setting : Setting) (history : List Deed) (v : Numbered Waiter) (bytes : List ℕ) (id : ℕ)
+    (setting : Setting) (history : List Action) (v : Numbered Waiter) (bytes : List ℕ) (id : ℕ)
     (timer : Timer)
     : Type 0 where
   pub admitted : WasAdmitted setting history v.0
   pub timer_is : IsTimer timer (sends_by (serves v.0) history)
   pub bytes_are : AreOfBytes v.1.client bytes (sends_by (serves v.0) history)
-  pub serving : Place
-  pub was_served : IsPlaceOf history serving
+  pub serving : Position
+  pub was_served : IsPositionOf history serving
   pub is_serving : Serves v.0 serving
-  pub only : (p : Place) → IsPlaceOf history p → Serves v.0 p → p ≡ serving
-  pub sent : serving.deed.entry.report.send ≡ Some v.1.client
+  pub only : (p : Position) → IsPositionOf history p → Serves v.0 p → p ≡ serving
+  pub sent : serving.action.observation.report.send ≡ Some v.1.client
   pub answer : Message
-  pub spells : Spells serving.deed.entry.bytes answer
+  pub spells : Spells serving.action.observation.bytes answer
   pub id_is : id ≡ answer.id
-  pub started : timer.started ≡ serving.deed.entry.now
+  pub started : timer.started ≡ serving.action.observation.now
   -- no longer than the limit of datagrams, or than 128 bytes, whichever is greater
   pub short : (most : ℕ) → 128 ≤ most → setting.limits.datagram ≤ most → length bytes ≤ most
   pub token_gone : v.1.token ≡ []
   pub tags_gone : v.1.tags ≡ []
 
-abbrev pub IsWaiterIn : Setting → List Deed → Numbered Waiter → WaiterState → Type 0
+abbrev pub IsWaiterIn : Setting → List Action → Numbered Waiter → WaiterState → Type 0
 IsWaiterIn setting history v (Waiting exchange) = IsWaiting setting history v exchange
 IsWaiterIn setting history v (Delivering bytes id timer) =
     IsDelivering setting history v bytes id timer
 
 -- the waiter is the one that the history admitted under its number
-abbrev pub IsWaiterOf : Setting → List Deed → Numbered Waiter → Type 0
+abbrev pub IsWaiterOf : Setting → List Action → Numbered Waiter → Type 0
 IsWaiterOf setting history v = IsWaiterIn setting history v v.1.state
 
 -- ---- numbers that aren't used yet
 
 -- no exchange that wasn't opened was sent or ended, and no client that wasn't admitted was served
-pub record AreUnused (setting : Setting) (history : List Deed) : Type 0 where
+pub record AreUnused (setting : Setting) (history : List Action) : Type 0 where
   pub exchanges :
       (x : ℕ)
       → opened_in history < x
@@ -294,14 +295,14 @@ pub record AreUnused (setting : Setting) (history : List Deed) : Type 0 where
   pub deliveries : (v : ℕ) → admitted_in history < v → sends_by (serves v) history ≡ []
 
 -- every message is retransmitted by its schedule
-abbrev pub AreSchedules : List Deed → Type 0
+abbrev pub AreSchedules : List Action → Type 0
 AreSchedules history = (act : Act) → IsSchedule (sends_by act history)
 
 -- ---- the messages that are remembered
 
 -- The living records are those that the history implies, and they are within their limits.
 pub record AreRemembered
-    (setting : Setting) (history : List Deed) (kind : Kind) (records : Records)
+    (setting : Setting) (history : List Action) (kind : Kind) (records : Records)
     : Type 0 where
   pub same :
       (now : ℕ)
@@ -331,25 +332,25 @@ pub record IsWithin (w : State) : Type 0 where
 
 -- ---- all of it
 
--- the tables agree with these deeds
-pub record Bears (deeds : List Deed) (w : State) : Type 0 where
+-- the tables agree with these actions
+pub record Bears (actions : List Action) (w : State) : Type 0 where
   pub routes : AreRoutes w.setting.routes
-  pub clock : Clock deeds w
-  pub numbers : Numbers deeds w
-  pub ids : Ids deeds w
-  pub unused : AreUnused w.setting deeds
-  pub schedules : AreSchedules deeds
-  pub whole : AreWhole deeds w
-  pub exchanges : AllByRecursion (IsExchangeOf w.setting deeds) w.exchanges
-  pub waiters : AllByRecursion (IsWaiterOf w.setting deeds) w.waiters
-  pub store : IsStoreOf w.setting deeds w.store
-  pub con_records : AreRemembered w.setting deeds Con w.con_records
-  pub non_records : AreRemembered w.setting deeds Non w.non_records
+  pub clock : Clock actions w
+  pub numbers : Numbers actions w
+  pub ids : Ids actions w
+  pub unused : AreUnused w.setting actions
+  pub schedules : AreSchedules actions
+  pub whole : AreWhole actions w
+  pub exchanges : AllByRecursion (IsExchangeOf w.setting actions) w.exchanges
+  pub waiters : AllByRecursion (IsWaiterOf w.setting actions) w.waiters
+  pub store : IsStoreOf w.setting actions w.store
+  pub con_records : AreRemembered w.setting actions Con w.con_records
+  pub non_records : AreRemembered w.setting actions Non w.non_records
   pub within : IsWithin w
-  pub past : AllJustified w.setting deeds
+  pub past : AllJustified w.setting actions
 
--- the tables agree with some deeds whose entries are this history
-pub record Carries (history : List Entry) (w : State) : Type 0 where
-  pub deeds : List Deed
-  pub told : told_by deeds ≡ history
-  pub bears : Bears deeds w
+-- the tables agree with some actions whose observations are this history
+pub record Carries (history : List Observation) (w : State) : Type 0 where
+  pub actions : List Action
+  pub told : told_by actions ≡ history
+  pub bears : Bears actions w

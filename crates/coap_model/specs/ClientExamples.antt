@@ -9,11 +9,11 @@ use Rattle.coap_model.specs.declared.report.Outcome.TheVariants.{Again, NoRecord
 use Rattle.coap_model.specs.declared.report.Storing.TheVariants.{NotStored}
 use Rattle.coap_model.specs.State.{State}
 use Rattle.coap_model.specs.Runs.{Turn}
-use Rattle.coap_model.specs.History.{no_item, admits, Deed}
+use Rattle.coap_model.specs.History.{no_item, admits, Action}
 use Rattle.coap_model.specs.Examples.{Sent, origin, client, from, tick_at, nothing, to, get_t, get_t_as, answer}
 use Rattle.coap_model.specs.LimitExamples.{proxy_of, asked, got_stale, stale_for_client, get_u, not_found, busy}
 use Rattle.coap_model.specs.DuplicateExamples.{con_u, con_not_found}
-use Rattle.coap_model.specs.ReliableExamples.{get_part, asked_part, first_sent, Acting, deeds_of}
+use Rattle.coap_model.specs.ReliableExamples.{get_part, asked_part, first_sent, Acting, actions_of}
 
 -- ---- proxies
 
@@ -60,7 +60,7 @@ one_each_sent =
     nothing Opened ∷ try_again (client 1) 1 ∷ nothing Joined ∷ nothing Opened
     ∷ try_again (client 3) 2 ∷ []
 
--- the same with what each entry acted on, and the deeds
+-- the same with what each observation acted on, and the actions
 abbrev pub one_each_acting : List Acting
 one_each_acting =
     record { turn = from 0 (client 1) (get_t []); act = admits 1 1 }
@@ -69,8 +69,8 @@ one_each_acting =
     ∷ record { turn = from 0 (client 2) (get_part 1 0x78); act = admits 3 2 }
     ∷ record { turn = from 0 (client 3) (get_part 1 0x79); act = no_item } ∷ []
 
-abbrev pub one_each_deeds : List Deed
-one_each_deeds = deeds_of two_exchanges [] one_each_acting
+abbrev pub one_each_actions : List Action
+one_each_actions = actions_of two_exchanges [] one_each_acting
 
 -- Two exchanges for a client are two. A POST counts like a GET, and an address and a port are
 -- another client each.

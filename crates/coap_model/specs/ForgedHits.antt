@@ -9,16 +9,16 @@ use Rattle.coap_model.specs.declared.report.Outcome.TheVariants.{Answered, Hit}
 use Rattle.coap_model.specs.declared.report.Storing.TheVariants.{Kept, NotStored}
 use Rattle.coap_model.specs.Events.{arrival}
 use Rattle.coap_model.specs.Examples.{origin, client, get_t, answer}
-use Rattle.coap_model.specs.History.{Entry, no_item, moves, Deed}
+use Rattle.coap_model.specs.History.{Observation, no_item, moves, Action}
 use Rattle.coap_model.specs.Forged.{opened, asked}
 use Rattle.coap_model.specs.CacheExamples.{answered, opens_again, asks_again, asked_past}
 
 -- a client sends the same request again, and gets the first answer with this many seconds of its
 -- Max-Age left
-abbrev pub reply : ℕ → ℕ → Deed
+abbrev pub reply : ℕ → ℕ → Action
 reply now left =
     record {
-      entry = record {
+      observation = record {
         now = now;
         draw = 0;
         event = arrival (client 4) (get_t []);
@@ -43,10 +43,10 @@ changed_message =
       payload = [];
     }
 
-abbrev pub change : Deed
+abbrev pub change : Action
 change =
     record {
-      entry = record {
+      observation = record {
         now = 20;
         draw = 0;
         event = arrival origin change_told;
@@ -56,20 +56,21 @@ change =
       act = moves 2;
     }
 
-abbrev pub changed_past : List Deed
+abbrev pub changed_past : List Action
 changed_past = change ∷ asked_past
 
 -- the same, but the first exchange has no answer yet
-abbrev pub overtaken_past : List Deed
+abbrev pub overtaken_past : List Action
 overtaken_past = change ∷ asks_again ∷ opens_again ∷ asked ∷ opened ∷ []
 
 -- its answer arrives, and is kept
-abbrev pub keeps_overtaken : Deed
+abbrev pub keeps_overtaken : Action
 keeps_overtaken = answered 25 1 1 (Answered Kept)
 
 -- ---- a promise that isn't kept
 
 -- two exchanges are opened, for two paths, although there is room for one
-abbrev pub opens_two : List Entry
+abbrev pub opens_two : List Observation
 opens_two =
-    record opened.entry { event = arrival (client 2) (get_t (1 ∷ 0x78 ∷ [])) } ∷ opened.entry ∷ []
+    record opened.observation
+    { event = arrival (client 2) (get_t (1 ∷ 0x78 ∷ [])) } ∷ opened.observation ∷ []

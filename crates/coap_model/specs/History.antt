@@ -1,5 +1,6 @@
--- What the traffic alone shows: which entry of a history opened an exchange, sent its request, got
--- its answer, or admitted a client. This file names no table. A history has its newest entry first.
+-- What the traffic alone shows: which observation of a history opened an exchange, sent its
+-- request, got its answer, or admitted a client. This file names no table. A history has its newest
+-- observation first.
 use Rattle.std.specs.Prelude.{◌≡◌, ◌⊎◌, ℕ, ◌+◌, ◌%◌, ◌≤◌, List, [], ◌∷◌, length, map, Bool, true, false, not, if◌then◌else◌, Some}
 use Rattle.coap_message.specs.declared.kind.Kind.TheVariants.{Ack, Rst}
 use Rattle.coap_message.specs.declared.code.TheConstants.Code.{EMPTY}
@@ -20,14 +21,14 @@ use Rattle.coap_message.specs.Codes.{is_request, is_response}
 use Rattle.coap_forward.specs.Messages.{is_con, brings_requests, token_of}
 
 -- one step as seen from outside, with all the input that it read
-pub record Entry : Type 0 where
+pub record Observation : Type 0 where
   pub now : ℕ
   pub draw : ℕ
   pub event : Event
   pub report : Report
   pub bytes : List ℕ
 
--- what an entry acted on: no item of the tables, or an exchange or a waiter, by its number
+-- what an observation acted on: no item of the tables, or an exchange or a waiter, by its number
 pub data Act : Type 0 where
   no_item : Act
   -- a waiter was admitted to an exchange
@@ -37,45 +38,45 @@ pub data Act : Type 0 where
   -- a waiter was served, or its answer was retransmitted, or acknowledged, or given up
   serves : ℕ → Act
 
--- an entry, and what it acted on
-pub record Deed : Type 0 where
-  pub entry : Entry
+-- an observation, and what it acted on
+pub record Action : Type 0 where
+  pub observation : Observation
   pub act : Act
 
--- the entries of deeds
-abbrev pub told_by : List Deed → List Entry
-told_by deeds = map (λ d. d.entry) deeds
+-- the observations of actions
+abbrev pub told_by : List Action → List Observation
+told_by actions = map (λ d. d.observation) actions
 
--- a deed, and all that came before it
-pub record Place : Type 0 where
-  pub before : List Deed
-  pub deed : Deed
+-- an action, and all that came before it
+pub record Position : Type 0 where
+  pub before : List Action
+  pub action : Action
 
--- how many entries came before this one
-abbrev pub index : Place → ℕ
+-- how many observations came before this one
+abbrev pub index : Position → ℕ
 index p = length p.before
 
--- the place is in the history
-abbrev pub IsPlaceOf : List Deed → Place → Type 0
-IsPlaceOf [] p = ⊥
-IsPlaceOf (d ∷ past) p = (record { before = past; deed = d } ≡ p) ⊎ IsPlaceOf past p
+-- the position is in the history
+abbrev pub IsPositionOf : List Action → Position → Type 0
+IsPositionOf [] p = ⊥
+IsPositionOf (d ∷ past) p = (record { before = past; action = d } ≡ p) ⊎ IsPositionOf past p
 
--- it holds at no place of the history
-abbrev pub Never : (Place → Type 0) → List Deed → Type 0
+-- it holds at no position of the history
+abbrev pub Never : (Position → Type 0) → List Action → Type 0
 Never P [] = Unit {0}
-Never P (d ∷ past) = ¬ P (record { before = past; deed = d }) × Never P past
+Never P (d ∷ past) = ¬ P (record { before = past; action = d }) × Never P past
 
--- it holds at some place of the history
-pub record Somewhere (P : Place → Type 0) (history : List Deed) : Type 0 where
-  pub place : Place
-  pub is_there : IsPlaceOf history place
-  pub holds : P place
+-- it holds at some position of the history
+pub record Somewhere (P : Position → Type 0) (history : List Action) : Type 0 where
+  pub position : Position
+  pub is_there : IsPositionOf history position
+  pub holds : P position
 
 -- ---- counting
 
-abbrev pub count_in : (Outcome → ℕ) → List Deed → ℕ
+abbrev pub count_in : (Outcome → ℕ) → List Action → ℕ
 count_in counts [] = 0
-count_in counts (d ∷ past) = count_in counts past + counts d.entry.report.outcome
+count_in counts (d ∷ past) = count_in counts past + counts d.observation.report.outcome
 
 abbrev pub opens_one : Outcome → ℕ
 opens_one Ignored = 0
@@ -146,7 +147,7 @@ ids_given con GaveUp = 0
 ids_given con Delivered = 1
 ids_given con Idle = 0
 
-abbrev pub gives_id : Entry → ℕ
+abbrev pub gives_id : Observation → ℕ
 gives_id e = ids_given (comes_con e.event) e.report.outcome
 
 abbrev pub has_grown : Storing → Bool
@@ -178,26 +179,27 @@ grown_of Idle = true
 
 -- the number of exchanges that were opened, of waiters that were admitted, and of ids that were
 -- given out
-abbrev pub opened_in : List Deed → ℕ
+abbrev pub opened_in : List Action → ℕ
 opened_in history = count_in opens_one history
 
-abbrev pub admitted_in : List Deed → ℕ
+abbrev pub admitted_in : List Action → ℕ
 admitted_in history = count_in admits_one history
 
-abbrev pub ids_in : List Deed → ℕ
+abbrev pub ids_in : List Action → ℕ
 ids_in [] = 0
-ids_in (d ∷ past) = ids_in past + gives_id d.entry
+ids_in (d ∷ past) = ids_in past + gives_id d.observation
 
--- ---- what an entry did
+-- ---- what an observation did
 
--- the entry opened the exchange with this number: it is the x-th entry that opened one
-abbrev pub Opens : ℕ → Place → Type 0
-Opens x p = (p.deed.entry.report.outcome ≡ Opened) × (x ≡ opened_in p.before + 1)
+-- the observation opened the exchange with this number: it is the x-th observation that opened one
+abbrev pub Opens : ℕ → Position → Type 0
+Opens x p = (p.action.observation.report.outcome ≡ Opened) × (x ≡ opened_in p.before + 1)
 
--- the entry admitted the waiter with this number to an exchange: it is the v-th that admitted one
-pub record Admits (v x : ℕ) (p : Place) : Type 0 where
-  pub act : p.deed.act ≡ admits v x
-  pub outcome : admits_one p.deed.entry.report.outcome ≡ 1
+-- the observation admitted the waiter with this number to an exchange: it is the v-th that admitted
+-- one
+pub record Admits (v x : ℕ) (p : Position) : Type 0 where
+  pub act : p.action.act ≡ admits v x
+  pub outcome : admits_one p.action.observation.report.outcome ≡ 1
   pub number : v ≡ admitted_in p.before + 1
 
 -- an event brings a message from a source, in a datagram that isn't too long
@@ -215,36 +217,36 @@ pub record IsRequestOf
   pub method : is_request request.code ≡ true
 
 -- the request that opened the exchange with this number
-pub record WasOpened (setting : Setting) (past : List Deed) (x : ℕ) : Type 0 where
-  pub opening : Place
+pub record WasOpened (setting : Setting) (past : List Action) (x : ℕ) : Type 0 where
+  pub opening : Position
   pub client : Endpoint
   pub request : Message
-  pub was_opened : IsPlaceOf past opening
+  pub was_opened : IsPositionOf past opening
   pub opens : Opens x opening
-  pub asked : IsRequestOf setting client request opening.deed.entry.event
+  pub asked : IsRequestOf setting client request opening.action.observation.event
 
 -- the request that admitted the waiter with this number to an exchange
-pub record WasAdmitted (setting : Setting) (past : List Deed) (v : ℕ) : Type 0 where
+pub record WasAdmitted (setting : Setting) (past : List Action) (v : ℕ) : Type 0 where
   pub exchange : ℕ
-  pub admission : Place
+  pub admission : Position
   pub client : Endpoint
   pub request : Message
-  pub was_admitted : IsPlaceOf past admission
+  pub was_admitted : IsPositionOf past admission
   pub admits : Admits v exchange admission
-  pub asked : IsRequestOf setting client request admission.deed.entry.event
+  pub asked : IsRequestOf setting client request admission.action.observation.event
 
 -- the request of this exchange was sent there for the first time: its token is in the datagram
-pub record Sends (salt x : ℕ) (p : Place) : Type 0 where
-  pub act : p.deed.act ≡ moves x
-  pub outcome : p.deed.entry.report.outcome ≡ SentRequest
+pub record Sends (salt x : ℕ) (p : Position) : Type 0 where
+  pub act : p.action.act ≡ moves x
+  pub outcome : p.action.observation.report.outcome ≡ SentRequest
   pub to : Endpoint
-  pub sent : p.deed.entry.report.send ≡ Some to
+  pub sent : p.action.observation.report.send ≡ Some to
   pub message : Message
-  pub spells : Spells p.deed.entry.bytes message
+  pub spells : Spells p.action.observation.bytes message
   pub token : message.token ≡ token_of salt x
 
 -- the request of the exchange was sent there, and never before
-pub record Asks (salt x : ℕ) (p : Place) : Type 0 where
+pub record Asks (salt x : ℕ) (p : Position) : Type 0 where
   pub sends : Sends salt x p
   pub first : Never (Sends salt x) p.before
 
@@ -266,9 +268,9 @@ pub data Matches (token : List ℕ) (id : ℕ) (m : Message) : Type 0 where
 
 -- an event brings an answer to the request of this exchange, from the endpoint that the request was
 -- sent to
-pub record Meets (setting : Setting) (x : ℕ) (past : List Deed) (event : Event) : Type 0 where
-  pub asking : Place
-  pub was_asked : IsPlaceOf past asking
+pub record Meets (setting : Setting) (x : ℕ) (past : List Action) (event : Event) : Type 0 where
+  pub asking : Position
+  pub was_asked : IsPositionOf past asking
   pub asks : Asks setting.salt x asking
   pub message : Message
   pub brings : Brings setting.limits.datagram asks.sends.to message event
@@ -295,16 +297,16 @@ takes Delivered = false
 takes Idle = false
 
 -- the answer of this exchange arrived there
-pub record Gets (setting : Setting) (x : ℕ) (p : Place) : Type 0 where
-  pub act : p.deed.act ≡ moves x
-  pub outcome : takes p.deed.entry.report.outcome ≡ true
-  pub meets : Meets setting x p.before p.deed.entry.event
+pub record Gets (setting : Setting) (x : ℕ) (p : Position) : Type 0 where
+  pub act : p.action.act ≡ moves x
+  pub outcome : takes p.action.observation.report.outcome ≡ true
+  pub meets : Meets setting x p.before p.action.observation.event
   pub bytes : IsBytes meets.brings.bytes
 
 -- the exchange was given up there
-pub record GivesUp (x : ℕ) (p : Place) : Type 0 where
-  pub act : p.deed.act ≡ moves x
-  pub outcome : p.deed.entry.report.outcome ≡ GaveUp
+pub record GivesUp (x : ℕ) (p : Position) : Type 0 where
+  pub act : p.action.act ≡ moves x
+  pub outcome : p.action.observation.report.outcome ≡ GaveUp
 
 -- the outcomes that end an exchange: it is answered or given up
 abbrev pub ends : Outcome → Bool
@@ -327,14 +329,14 @@ ends Delivered = false
 ends Idle = false
 
 -- the exchange was answered or given up there
-pub record Ends (x : ℕ) (p : Place) : Type 0 where
-  pub act : p.deed.act ≡ moves x
-  pub outcome : ends p.deed.entry.report.outcome ≡ true
+pub record Ends (x : ℕ) (p : Position) : Type 0 where
+  pub act : p.action.act ≡ moves x
+  pub outcome : ends p.action.observation.report.outcome ≡ true
 
 -- the waiter was served there
-pub record Serves (v : ℕ) (p : Place) : Type 0 where
-  pub act : p.deed.act ≡ serves v
-  pub outcome : p.deed.entry.report.outcome ≡ Delivered
+pub record Serves (v : ℕ) (p : Position) : Type 0 where
+  pub act : p.action.act ≡ serves v
+  pub outcome : p.action.observation.report.outcome ≡ Delivered
 
 -- a client is finished: its answer was acknowledged, or isn't retransmitted any more, or was sent
 -- in a message that isn't Confirmable
@@ -358,31 +360,31 @@ closes_unused Delivered bytes = not (is_con_datagram bytes)
 closes_unused Idle bytes = false
 
 -- the waiter was finished there
-pub record LetsGo (v : ℕ) (p : Place) : Type 0 where
-  pub act : p.deed.act ≡ serves v
-  pub outcome : closes_unused p.deed.entry.report.outcome p.deed.entry.bytes ≡ true
+pub record LetsGo (v : ℕ) (p : Position) : Type 0 where
+  pub act : p.action.act ≡ serves v
+  pub outcome : closes_unused p.action.observation.report.outcome p.action.observation.bytes ≡ true
 
 -- ---- moments and ids
 
-abbrev pub last_of : List Deed → ℕ
+abbrev pub last_of : List Action → ℕ
 last_of [] = 0
-last_of (d ∷ past) = d.entry.now
+last_of (d ∷ past) = d.observation.now
 
 -- moments never decrease
-abbrev pub IsInOrder : List Deed → Type 0
+abbrev pub IsInOrder : List Action → Type 0
 IsInOrder [] = Unit {0}
-IsInOrder (d ∷ past) = (last_of past ≤ d.entry.now) × IsInOrder past
+IsInOrder (d ∷ past) = (last_of past ≤ d.observation.now) × IsInOrder past
 
--- the entry gave out this id
-pub record Gives (id : ℕ) (e : Entry) : Type 0 where
+-- the observation gave out this id
+pub record Gives (id : ℕ) (e : Observation) : Type 0 where
   pub gives : gives_id e ≡ 1
   pub message : Message
   pub spells : Spells e.bytes message
   pub id_is : message.id ≡ id
 
 -- ids count up from the first, and wrap to 0 after 65,535 (RFC 7252, 4.4)
-abbrev pub AreIds : ℕ → List Deed → Type 0
+abbrev pub AreIds : ℕ → List Action → Type 0
 AreIds first [] = Unit {0}
 AreIds first (d ∷ past) =
-    (gives_id d.entry ≡ 1 → Gives ((first + ids_in past) % 65536) d.entry)
+    (gives_id d.observation ≡ 1 → Gives ((first + ids_in past) % 65536) d.observation)
     × AreIds first past

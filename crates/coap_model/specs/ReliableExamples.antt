@@ -12,7 +12,7 @@ use Rattle.coap_model.specs.Events.{tick}
 use Rattle.coap_model.specs.State.{State}
 use Rattle.coap_model.specs.Runs.{Turn, answer_at}
 use Rattle.coap_model.specs.Step.{step_of}
-use Rattle.coap_model.specs.History.{Act, no_item, admits, moves, serves, Deed}
+use Rattle.coap_model.specs.History.{Act, no_item, admits, moves, serves, Action}
 use Rattle.coap_model.specs.Examples.{Sent, origin, client, from, tick_at, nothing, to, proxy, get_t_as, get_t, answer, first_answer}
 use Rattle.coap_model.specs.LimitExamples.{proxy_of, asked, got, for_client, get_u, not_found}
 use Rattle.coap_model.specs.FormExamples.{after}
@@ -304,18 +304,18 @@ after_the_greatest_sent =
 
 -- ---- the definitions of the history
 
--- a turn, and what its entry acts on
+-- a turn, and what its observation acts on
 pub record Acting : Type 0 where
   pub turn : Turn
   pub act : Act
 
--- the deeds of a proxy at these turns, after others
-abbrev pub deeds_of : State → List Deed → List Acting → List Deed
-deeds_of w past [] = past
-deeds_of w past (a ∷ more) =
-    deeds_of (step_of w a.turn.now a.turn.draw true a.turn.event).state
+-- the actions of a proxy at these turns, after others
+abbrev pub actions_of : State → List Action → List Acting → List Action
+actions_of w past [] = past
+actions_of w past (a ∷ more) =
+    actions_of (step_of w a.turn.now a.turn.draw true a.turn.event).state
     (record {
-      entry = answer_at w a.turn.now a.turn.draw true a.turn.event;
+      observation = answer_at w a.turn.now a.turn.draw true a.turn.event;
       act = a.act;
     } ∷ past) more
 
@@ -336,8 +336,8 @@ then_answered = sent_twice
     ∷ record { turn = tick_at 3000; act = moves 2 }
     ∷ record { turn = tick_at 3000; act = serves 1 } ∷ []
 
-abbrev pub history_of : List Acting → List Deed
-history_of acting = deeds_of proxy [] acting
+abbrev pub history_of : List Acting → List Action
+history_of acting = actions_of proxy [] acting
 
 -- refusals at the last moment of the first window, and at the first of the second
 abbrev pub two_windows : List Acting

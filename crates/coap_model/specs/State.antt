@@ -100,8 +100,8 @@ unprocessed w now source kind id = if is_con kind then rejects w now source id e
 
 -- a message is accepted, and no reply is sent yet: a Confirmable one is acknowledged (RFC 7252, 4.2
 -- and 5.2.2)
-abbrev pub takes_up : Outcome → Endpoint → Message → State → Step
-takes_up outcome source m w =
+abbrev pub accepts : Outcome → Endpoint → Message → State → Step
+accepts outcome source m w =
     if is_con m.kind
     then says outcome source (acknowledgement m.id) w
     else silent outcome w

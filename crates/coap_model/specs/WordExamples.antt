@@ -1,5 +1,5 @@
--- Histories and entries that break one word of the promise in short, and are right except for that.
--- The bytes are encoded per RFC 7252 (3, 3.1, 5.10).
+-- Histories and observations that break one word of the promise in short, and are right except for
+-- that. The bytes are encoded per RFC 7252 (3, 3.1, 5.10).
 use Rattle.std.specs.Prelude.{ℕ, List, [], ◌∷◌, ◌++◌, codes, Option, Some, None}
 use Rattle.coap_message.specs.declared.code.TheConstants.Code.{GET, CONTENT, VALID, NOT_FOUND}
 use Rattle.coap_message.specs.declared.kind.Kind.TheVariants.{Ack, Con}
@@ -20,46 +20,46 @@ use Rattle.coap_model.specs.Runs.{Turn}
 use Rattle.coap_model.specs.Examples.{origin, client, from, tick_at, proxy, get_t_as, get_temp, answer, answered_by, content, bare_get}
 use Rattle.coap_model.specs.LimitExamples as limited
 use Rattle.coap_model.specs.OptionExamples.{key_of_temp}
-use Rattle.coap_model.specs.History.{Entry, moves, serves, Deed, Place}
+use Rattle.coap_model.specs.History.{Observation, moves, serves, Action, Position}
 use Rattle.coap_model.specs.Forged as forged
 use Rattle.coap_model.specs.Forged.{setting, opened, opened_con, opened_too, asked}
 use Rattle.coap_model.specs.CacheExamples.{opens_again, asks_again}
 use Rattle.coap_model.specs.ForgedHits.{reply}
 
-abbrev pub at : List Deed → Deed → Place
-at before deed = record { before = before; deed = deed }
+abbrev pub at : List Action → Action → Position
+at before action = record { before = before; action = action }
 
 -- ---- replies from the cache
 
 -- a reply to the request of `reply`, with these bytes for this endpoint
-abbrev pub replied : ℕ → Endpoint → List ℕ → Entry
+abbrev pub replied : ℕ → Endpoint → List ℕ → Observation
 replied now to bytes =
-    record (reply now 0).entry {
-      report = record (reply now 0).entry.report { send = Some to };
+    record (reply now 0).observation {
+      report = record (reply now 0).observation.report { send = Some to };
       bytes = bytes;
     }
 
 -- the entry is stale by a millisecond, and is sent with a Max-Age of 0
-abbrev pub stale_reply : Entry
+abbrev pub stale_reply : Observation
 stale_reply =
     replied 10006 (client 4) (0x50 ∷ 0x45 ∷ 0 ∷ 4 ∷ 0xD0 ∷ 1 ∷ 0xFF ∷ 0x32 ∷ 0x31 ∷ [])
 
 -- a token of one byte in place of none
-abbrev pub with_a_token : Entry
+abbrev pub with_a_token : Observation
 with_a_token =
     replied 25 (client 4) (0x51 ∷ 0x45 ∷ 0 ∷ 4 ∷ 0xAA ∷ 0xD1 ∷ 1 ∷ 9 ∷ 0xFF ∷ 0x32 ∷ 0x31 ∷ [])
 
 -- the right bytes for another client
-abbrev pub to_another : Entry
-to_another = replied 25 (client 5) (reply 25 9).entry.bytes
+abbrev pub to_another : Observation
+to_another = replied 25 (client 5) (reply 25 9).observation.bytes
 
 -- ---- validations
 
 -- an answer of the origin server to an exchange, which is kept
-abbrev pub answers : ℕ → ℕ → List ℕ → Deed
+abbrev pub answers : ℕ → ℕ → List ℕ → Action
 answers now exchange bytes =
     record {
-      entry = record forged.answered.entry {
+      observation = record forged.answered.observation {
         now = now;
         event = arrival origin bytes;
         report = record { send = None; outcome = Answered Kept };
@@ -82,7 +82,7 @@ tagged_content =
       payload = codes "21";
     }
 
-abbrev pub gets_tagged : Deed
+abbrev pub gets_tagged : Action
 gets_tagged = answers 5 1 tagged_bytes
 
 -- the second request carries that tag
@@ -94,8 +94,9 @@ tagged_get_bytes =
 abbrev pub tagged_get : Message
 tagged_get = forwarded (token_of 0 2) key_of_temp.target (Some (0xAB ∷ [])) bare_get 3
 
-abbrev pub asks_tagged : Deed
-asks_tagged = record asks_again { entry = record asks_again.entry { bytes = tagged_get_bytes } }
+abbrev pub asks_tagged : Action
+asks_tagged = record asks_again
+    { observation = record asks_again.observation { bytes = tagged_get_bytes } }
 
 -- a 2.03 with the same tag and a Max-Age of twenty seconds answers it
 abbrev pub valid_bytes : List ℕ
@@ -112,26 +113,26 @@ valid_message =
       payload = [];
     }
 
-abbrev pub gets_valid : Deed
+abbrev pub gets_valid : Action
 gets_valid = answers 20 2 valid_bytes
 
 -- as it should be: the answer comes, the second exchange is opened, its request carries the tag,
 -- and the 2.03 comes
-abbrev pub tagged_past : List Deed
+abbrev pub tagged_past : List Action
 tagged_past = opens_again ∷ gets_tagged ∷ asked ∷ opened ∷ []
 
-abbrev pub validated_past : List Deed
+abbrev pub validated_past : List Action
 validated_past = asks_tagged ∷ tagged_past
 
 -- the same, but the second request was sent before the answer came
-abbrev pub early_past : List Deed
+abbrev pub early_past : List Action
 early_past = opens_again ∷ asked ∷ opened ∷ []
 
-abbrev pub validated_early : List Deed
+abbrev pub validated_early : List Action
 validated_early = gets_tagged ∷ asks_tagged ∷ early_past
 
 -- the same, but the second request carries no tag
-abbrev pub validated_untagged : List Deed
+abbrev pub validated_untagged : List Action
 validated_untagged = asks_again ∷ tagged_past
 
 -- ---- a response that may not be passed on
@@ -144,7 +145,7 @@ abbrev pub block_content : Message
 block_content =
     record tagged_content { options = option_of BLOCK2 (6 ∷ []) ∷ [] }
 
-abbrev pub gets_block : Deed
+abbrev pub gets_block : Action
 gets_block = answers 5 1 block_bytes
 
 -- ---- duplicates
@@ -162,25 +163,25 @@ con_read =
     }
 
 -- a Confirmable request comes again, and gets this
-abbrev pub again : Option Endpoint → List ℕ → Entry
+abbrev pub again : Option Endpoint → List ℕ → Observation
 again to bytes =
-    record opened_con.entry {
+    record opened_con.observation {
       now = 500;
       report = record { send = to; outcome = Again };
       bytes = bytes;
     }
 
--- the same entry, with another outcome
-abbrev pub ignored : Entry → Entry
+-- the same observation, with another outcome
+abbrev pub ignored : Observation → Observation
 ignored e = record e { report = record e.report { outcome = Ignored } }
 
 -- ---- limits
 
 -- a client opens two exchanges, in Non-confirmable and in Confirmable messages
-abbrev pub two_pending : List Deed
+abbrev pub two_pending : List Action
 two_pending = opened_too ∷ opened ∷ []
 
-abbrev pub two_pending_con : List Deed
+abbrev pub two_pending_con : List Action
 two_pending_con = record opened_con { act = opened_too.act } ∷ opened_con ∷ []
 
 abbrev pub setting_with : Limits → Setting
@@ -202,10 +203,10 @@ limits_of_two = record default_limits {
 -- ---- clients that are finished
 
 -- what happens to the answer of the first client
-abbrev pub done_with : Outcome → Deed
+abbrev pub done_with : Outcome → Action
 done_with outcome =
     record {
-      entry = record {
+      observation = record {
         now = 3000;
         draw = 0;
         event = tick;
@@ -218,7 +219,7 @@ done_with outcome =
 -- ---- retransmissions
 
 -- a request is sent at this moment, with a draw of 0
-abbrev pub sending : ℕ → Entry
+abbrev pub sending : ℕ → Observation
 sending now =
     record {
       now = now;
@@ -229,19 +230,19 @@ sending now =
     }
 
 -- five times, each when it is due, and a sixth time
-abbrev pub four_sends : List Entry
+abbrev pub four_sends : List Observation
 four_sends = sending 14000 ∷ sending 6000 ∷ sending 2000 ∷ sending 0 ∷ []
 
-abbrev pub five_sends : List Entry
+abbrev pub five_sends : List Observation
 five_sends = sending 30000 ∷ four_sends
 
-abbrev pub six_sends : List Entry
+abbrev pub six_sends : List Observation
 six_sends = sending 62000 ∷ five_sends
 
 -- ---- Message IDs
 
 -- a request for what there is no map for is refused, in a message with the Message ID 1
-abbrev pub refused_with_1 : ℕ → Entry
+abbrev pub refused_with_1 : ℕ → Observation
 refused_with_1 now =
     record {
       now = now;
@@ -252,7 +253,7 @@ refused_with_1 now =
     }
 
 -- twice within 247 seconds
-abbrev pub of_one_id : List Entry
+abbrev pub of_one_id : List Observation
 of_one_id = refused_with_1 246999 ∷ refused_with_1 0 ∷ []
 
 -- ---- bytes that are held

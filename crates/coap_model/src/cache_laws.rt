@@ -14,7 +14,7 @@ ghost use Rattle.coap_model.specs.declared.report.Storing.TheVariants.{Kept, Too
 ghost use Rattle.coap_model.specs.Setting.{Setting};
 ghost use Rattle.coap_model.specs.Keys.{request_key};
 ghost use Rattle.coap_model.specs.History as told;
-ghost use Rattle.coap_model.specs.History.{Deed, Place, IsPlaceOf, Brings, moves, takes, Gets};
+ghost use Rattle.coap_model.specs.History.{Action, Position, IsPositionOf, Brings, moves, takes, Gets};
 ghost use Rattle.coap_model.specs.Answers.{marked_all};
 ghost use Rattle.coap_model.specs.Changed.{asked_of, key_asked, to_get, Unchanged, WasChanged, IsTold};
 ghost use Rattle.coap_forward.specs.Answers.{fits, taken_of, is_passed_on};
@@ -131,10 +131,10 @@ pub fn examples_of_caches()
     ensures too_large { IsCacheOf setting (answered 20 3 2 (Answered TooLarge) ∷ asked_past) [] }
     ensures not_got_yet { ¬ WasObtained setting (asked ∷ opened ∷ []) first_entry }
     ensures not_its_answer { ¬ IsObtained setting key_of_temp (content_for 1 2)
-        (record { before = opened ∷ []; deed = asked })
+        (record { before = opened ∷ []; action = asked })
         (record {
           before = asked ∷ opened ∷ [];
-          deed = record (answered 5 1 2 (Answered Kept)) { act = moves 1 };
+          action = record (answered 5 1 2 (Answered Kept)) { act = moves 1 };
         }) }
 {}
 
@@ -149,11 +149,11 @@ pub fn forged_hits_are_refused()
     ensures after_a_change { ¬ IsHit setting changed_past (reply 25 9) }
     ensures too_late { ¬ IsHit setting asked_past (reply 10006 0) }
     ensures as_received { ¬ IsHit setting asked_past (reply 25 10) }
-    ensures from_cache { IsFromCache setting asked_past (reply 25 9).entry }
-    ensures not_from_cache { ¬ IsFromCache setting changed_past (reply 25 9).entry }
+    ensures from_cache { IsFromCache setting asked_past (reply 25 9).observation }
+    ensures not_from_cache { ¬ IsFromCache setting changed_past (reply 25 9).observation }
     ensures but_for_the_change { Unchanged setting key_of_temp.target first_entry.asking
         changed_past
-        → IsFromCache setting changed_past (reply 25 9).entry }
+        → IsFromCache setting changed_past (reply 25 9).observation }
     ensures overtaken { ¬ IsKept setting overtaken_past keeps_overtaken }
     ensures two_exchanges { (w : State)
         → w.setting.limits.exchanges ≡ 1
@@ -173,18 +173,18 @@ pub fn examples_of_memory()
 /// it was obtained for the key before, and a 2.03 that arrived for a GET with its tag renews it.
 /// The target wasn't changed since, and it stays fresh for some time.
 pub fn what_is_stored_was_obtained()
-    ensures obtained { (setting : Setting) (past : List Deed) (d : Deed)
+    ensures obtained { (setting : Setting) (past : List Action) (d : Action)
         (here : IsObtainedHere setting past d)
         → AreRoutes setting.routes
         → AllJustified setting past
         → IsObtained setting (key_asked here.gets) (entry_here here).response
-        here.gets.meets.asking (record { before = past; deed = d }) }
+        here.gets.meets.asking (record { before = past; action = d }) }
     ensures fetched { (setting : Setting) (key : CacheKey) (response : Message)
-        (asking getting : Place)
+        (asking getting : Position)
         → IsObtained setting key response asking getting
         → IsFetched setting key asking getting }
     ensures lasting { (setting : Setting) (key : CacheKey) (response : Message)
-        (asking getting : Place)
+        (asking getting : Position)
         → IsObtained setting key response asking getting
         → IsLasting response }
 {}
@@ -192,16 +192,16 @@ pub fn what_is_stored_was_obtained()
 /// The converse: a response to a GET whose target wasn't changed since, which is passed on, may be
 /// stored if it may be kept; and so may the response whose tag the GET had, if a 2.03 renews it.
 pub fn what_came_so_may_be_stored()
-    ensures as_it_came { (setting : Setting) (past : List Deed) (d : Deed) (exchange : ℕ)
-        (gets : Gets setting exchange (record { before = past; deed = d })) (former : List Cached)
+    ensures as_it_came { (setting : Setting) (past : List Action) (d : Action) (exchange : ℕ)
+        (gets : Gets setting exchange (record { before = past; action = d })) (former : List Cached)
         → to_get gets ≡ true
         → Unchanged setting (key_asked gets).target gets.meets.asking past
         → WasCacheAt setting gets.meets.asking.before exchange former
         → is_passed_on setting.limits.datagram true gets.meets.message ≡ true
         → IsLasting (taken_of true gets.meets.message)
         → IsObtainedHere setting past d }
-    ensures renewed { (setting : Setting) (past : List Deed) (d : Deed) (exchange : ℕ)
-        (gets : Gets setting exchange (record { before = past; deed = d })) (former : List Cached)
+    ensures renewed { (setting : Setting) (past : List Action) (d : Action) (exchange : ℕ)
+        (gets : Gets setting exchange (record { before = past; action = d })) (former : List Cached)
         (old : Message)
         → to_get gets ≡ true
         → Unchanged setting (key_asked gets).target gets.meets.asking past
@@ -217,29 +217,30 @@ pub fn what_came_so_may_be_stored()
 /// What was obtained and is no larger than the limit is kept if its key has an entry: memory can
 /// only run out for a key without one.
 pub fn what_takes_a_place_is_kept()
-    ensures { (setting : Setting) (past : List Deed) (d : Deed) (cached : List Cached)
+    ensures { (setting : Setting) (past : List Action) (d : Action) (cached : List Cached)
         (entry : Cached) (here : IsObtainedHere setting past d)
-        → JustifiedBy d.entry.report.outcome setting past d
-        → takes d.entry.report.outcome ≡ true
+        → JustifiedBy d.observation.report.outcome setting past d
+        → takes d.observation.report.outcome ≡ true
         → size_here here ≤ setting.limits.cache_bytes
         → IsCacheOf setting past cached
         → of_key cached_key (key_asked here.gets) cached ≡ Some entry
-        → d.entry.report.outcome ≡ Answered Kept }
+        → d.observation.report.outcome ≡ Answered Kept }
 {}
 
 /// What is sent from the cache was received: for a key that is equal to the request's, at an
-/// earlier place, for a request that was forwarded before that, in a justified history.
+/// earlier position, for a request that was forwarded before that, in a justified history.
 pub fn what_is_shown_was_received()
-    ensures asked { (setting : Setting) (past : List Deed) (d : Deed) (hit : IsHit setting past d)
-        → AreRoutes setting.routes
-        → AllJustified setting past
-        → IsPlaceOf past hit.entry.asking }
-    ensures received { (setting : Setting) (past : List Deed) (d : Deed)
+    ensures asked { (setting : Setting) (past : List Action) (d : Action)
         (hit : IsHit setting past d)
         → AreRoutes setting.routes
         → AllJustified setting past
-        → IsPlaceOf past hit.entry.getting }
-    ensures equal_key { (setting : Setting) (past : List Deed) (d : Deed)
+        → IsPositionOf past hit.entry.asking }
+    ensures received { (setting : Setting) (past : List Action) (d : Action)
+        (hit : IsHit setting past d)
+        → AreRoutes setting.routes
+        → AllJustified setting past
+        → IsPositionOf past hit.entry.getting }
+    ensures equal_key { (setting : Setting) (past : List Action) (d : Action)
         (hit : IsHit setting past d)
         → AreRoutes setting.routes
         → AllJustified setting past
@@ -249,16 +250,16 @@ pub fn what_is_shown_was_received()
 /// A history has at most one cache. Each entry of it was obtained in the history, if this is
 /// justified. The cache is within the limits, and has at most one entry for a key.
 pub fn caches_are_one()
-    ensures one { (setting : Setting) (history : List Deed) (a b : List Cached)
+    ensures one { (setting : Setting) (history : List Action) (a b : List Cached)
         → IsCacheOf setting history a
         → IsCacheOf setting history b
         → a ≡ b }
-    ensures obtained { (setting : Setting) (history : List Deed) (cached : List Cached)
+    ensures obtained { (setting : Setting) (history : List Action) (cached : List Cached)
         → AreRoutes setting.routes
         → AllJustified setting history
         → IsCacheOf setting history cached
         → AllByRecursion (WasObtained setting history) cached }
-    ensures within { (setting : Setting) (history : List Deed) (cached : List Cached)
+    ensures within { (setting : Setting) (history : List Action) (cached : List Cached)
         → IsCacheOf setting history cached
         → IsStore (store_limits setting) (map entry_of_cached cached) }
 {}
@@ -269,40 +270,40 @@ pub fn caches_are_one()
 /// outcome leaves both as they are. In addition, what an answer changes is marked.
 pub fn stores_follow_caches()
     ensures new { (setting : Setting) → IsStoreOf setting [] [] }
-    ensures kept { (setting : Setting) (past : List Deed) (d : Deed) (exchange : ℕ)
-        (gets : Gets setting exchange (record { before = past; deed = d }))
+    ensures kept { (setting : Setting) (past : List Action) (d : Action) (exchange : ℕ)
+        (gets : Gets setting exchange (record { before = past; action = d }))
         (store : List Entry) (former : List Cached) (new : Entry)
-        → d.entry.report.outcome ≡ Answered Kept
+        → d.observation.report.outcome ≡ Answered Kept
         → WasCacheAt setting gets.meets.asking.before exchange former
         → IsStored setting (d ∷ past) new (entry_got former gets)
         → IsStoreOf setting past store
         → IsStoreOf setting (d ∷ past)
         (put entry_key entry_size setting.limits.cache_bytes setting.limits.cache_entries
         new (marked_all (changed_by (key_asked gets).target gets.meets.message) store)) }
-    ensures too_large { (setting : Setting) (past : List Deed) (d : Deed) (exchange : ℕ)
-        (gets : Gets setting exchange (record { before = past; deed = d })) (store : List Entry)
-        → d.entry.report.outcome ≡ Answered TooLarge
+    ensures too_large { (setting : Setting) (past : List Action) (d : Action) (exchange : ℕ)
+        (gets : Gets setting exchange (record { before = past; action = d })) (store : List Entry)
+        → d.observation.report.outcome ≡ Answered TooLarge
         → IsStoreOf setting past store
         → IsStoreOf setting (d ∷ past)
         (others entry_key (key_asked gets)
         (marked_all (changed_by (key_asked gets).target gets.meets.message) store)) }
-    ensures marked { (setting : Setting) (past : List Deed) (d : Deed) (exchange : ℕ)
-        (gets : Gets setting exchange (record { before = past; deed = d })) (store : List Entry)
-        → leaves d.entry.report.outcome ≡ true
+    ensures marked { (setting : Setting) (past : List Action) (d : Action) (exchange : ℕ)
+        (gets : Gets setting exchange (record { before = past; action = d })) (store : List Entry)
+        → leaves d.observation.report.outcome ≡ true
         → IsStoreOf setting past store
         → IsStoreOf setting (d ∷ past)
         (marked_all (changed_by (key_asked gets).target gets.meets.message) store) }
-    ensures hit { (setting : Setting) (past : List Deed) (store : List Entry) (d : Deed)
+    ensures hit { (setting : Setting) (past : List Action) (store : List Entry) (d : Action)
         (client : Endpoint) (request : Message) (target : Target) (stored : Entry)
-        → d.entry.report.outcome ≡ Hit
-        → Brings setting.limits.datagram client request d.entry.event
+        → d.observation.report.outcome ≡ Hit
+        → Brings setting.limits.datagram client request d.observation.event
         → request_target setting.routes request ≡ Ok target
         → of_key entry_key (request_key target request) store ≡ Some stored
         → IsStoreOf setting past store
         → IsStoreOf setting (d ∷ past) (used entry_key (request_key target request) store) }
-    ensures otherwise { (setting : Setting) (past : List Deed) (store : List Entry) (d : Deed)
-        → leaves d.entry.report.outcome ≡ true
-        → takes d.entry.report.outcome ≡ false
+    ensures otherwise { (setting : Setting) (past : List Action) (store : List Entry) (d : Action)
+        → leaves d.observation.report.outcome ≡ true
+        → takes d.observation.report.outcome ≡ false
         → IsStoreOf setting past store
         → IsStoreOf setting (d ∷ past) store }
 {}
@@ -311,26 +312,26 @@ pub fn stores_follow_caches()
 /// if its target was changed since it was requested, and nothing else. It has the same size in
 /// bytes and entries, is within the limits, and has at most one entry for a key.
 pub fn stores_have_what_caches_have()
-    ensures found { (setting : Setting) (history : List Deed) (store : List Entry)
+    ensures found { (setting : Setting) (history : List Action) (store : List Entry)
         (s : IsStoreOf setting history store) (key : CacheKey) (stored : Stored)
         → stored_for key store ≡ Some stored
         → IsEntryOf setting history s.cached key (key, stored) }
-    ensures there { (setting : Setting) (history : List Deed) (store : List Entry)
+    ensures there { (setting : Setting) (history : List Action) (store : List Entry)
         (s : IsStoreOf setting history store) (key : CacheKey) (entry : Cached)
         → of_key cached_key key s.cached ≡ Some entry
         → (marked : Bool) × (of_key entry_key key store ≡ Some (entry_marked marked entry))
         × IsTold marked setting entry.key.target entry.asking history }
-    ensures nothing { (setting : Setting) (history : List Deed) (store : List Entry)
+    ensures nothing { (setting : Setting) (history : List Action) (store : List Entry)
         (s : IsStoreOf setting history store) (key : CacheKey)
         → of_key entry_key key store ≡ None
         → of_key cached_key key s.cached ≡ None }
-    ensures bytes { (setting : Setting) (history : List Deed) (store : List Entry)
+    ensures bytes { (setting : Setting) (history : List Action) (store : List Entry)
         (s : IsStoreOf setting history store)
         → total entry_size store ≡ total cached_size s.cached }
-    ensures entries { (setting : Setting) (history : List Deed) (store : List Entry)
+    ensures entries { (setting : Setting) (history : List Action) (store : List Entry)
         (s : IsStoreOf setting history store)
         → length store ≡ length s.cached }
-    ensures within { (setting : Setting) (history : List Deed) (store : List Entry)
+    ensures within { (setting : Setting) (history : List Action) (store : List Entry)
         → IsStoreOf setting history store
         → IsStore (store_limits setting) store }
 {}
@@ -339,19 +340,19 @@ pub fn stores_have_what_caches_have()
 /// with the response that arrived or was renewed, the numbers of the events in which it was
 /// requested and in which it arrived, and the moment of the latter, and without a mark.
 pub fn what_is_kept_stands_first()
-    ensures in_the_cache { (setting : Setting) (past : List Deed) (d : Deed)
+    ensures in_the_cache { (setting : Setting) (past : List Action) (d : Action)
         (cached : List Cached)
         → 1 ≤ setting.limits.cache_entries
-        → JustifiedBy d.entry.report.outcome setting past d
-        → d.entry.report.outcome ≡ Answered Kept
+        → JustifiedBy d.observation.report.outcome setting past d
+        → d.observation.report.outcome ≡ Answered Kept
         → (here : IsObtainedHere setting past d)
         → IsCacheOf setting (d ∷ past) cached
         → StandsFirst (entry_here here) cached }
-    ensures in_the_store { (w : State) (history : List told.Entry) (c : Carries history w)
-        (past : List Deed) (d : Deed)
+    ensures in_the_store { (w : State) (history : List told.Observation) (c : Carries history w)
+        (past : List Action) (d : Action)
         → AreLimits w.setting.limits
-        → c.deeds ≡ d ∷ past
-        → d.entry.report.outcome ≡ Answered Kept
+        → c.actions ≡ d ∷ past
+        → d.observation.report.outcome ≡ Answered Kept
         → (here : IsObtainedHere w.setting past d)
         → StandsFirst (entry_of_cached (entry_here here)) w.store }
 {}

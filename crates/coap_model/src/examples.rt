@@ -119,14 +119,14 @@ pub fn limits_of_clients()
     ensures con_limit { most_of_client Con (record default_limits { client_con_records = 7 }) ≡ 7 }
     ensures non_limit { most_of_client Non (record default_limits { client_non_records = 8 })
         ≡ 8 }
-    ensures opened_once { exchanges_of (client 1) clients.one_each_deeds ≡ 1 }
-    ensures opened_too { exchanges_of (client 2) clients.one_each_deeds ≡ 1 }
-    ensures opened_none { exchanges_of (client 3) clients.one_each_deeds ≡ 0 }
-    ensures waits_twice { waiters_of (client 1) clients.one_each_deeds ≡ 2 }
-    ensures waits_once { waiters_of (client 2) clients.one_each_deeds ≡ 1 }
-    ensures remembered { remembered_of (client 1) Non 144999 clients.one_each_deeds ≡ 3 }
-    ensures forgotten { remembered_of (client 1) Non 145000 clients.one_each_deeds ≡ 0 }
-    ensures none_of_that_type { remembered_of (client 1) Con 0 clients.one_each_deeds ≡ 0 }
+    ensures opened_once { exchanges_of (client 1) clients.one_each_actions ≡ 1 }
+    ensures opened_too { exchanges_of (client 2) clients.one_each_actions ≡ 1 }
+    ensures opened_none { exchanges_of (client 3) clients.one_each_actions ≡ 0 }
+    ensures waits_twice { waiters_of (client 1) clients.one_each_actions ≡ 2 }
+    ensures waits_once { waiters_of (client 2) clients.one_each_actions ≡ 1 }
+    ensures remembered { remembered_of (client 1) Non 144999 clients.one_each_actions ≡ 3 }
+    ensures forgotten { remembered_of (client 1) Non 145000 clients.one_each_actions ≡ 0 }
+    ensures none_of_that_type { remembered_of (client 1) Con 0 clients.one_each_actions ≡ 0 }
 {}
 
 /// What clients are sent, computed for edge cases of definitions that the step and the history

@@ -14,10 +14,10 @@ ghost use Rattle.coap_forward.specs.Answers.{left_of};
 ghost use Rattle.coap_model.specs.Events.{tick, arrival, Event, IsEvent};
 ghost use Rattle.coap_model.specs.State.{client_counts, counts, State, new_state};
 ghost use Rattle.coap_model.specs.Ticks.{next_due};
-ghost use Rattle.coap_model.specs.History.{Act, no_item, serves, takes, opened_in, Deed, Place, IsPlaceOf, Somewhere, Sends, Ends, Serves, LetsGo, Never, last_of, IsInOrder, IsRequestOf, Entry, grown_of, gives_id, ids_in, Gives};
+ghost use Rattle.coap_model.specs.History.{Act, no_item, serves, takes, opened_in, Action, Position, IsPositionOf, Somewhere, Sends, Ends, Serves, LetsGo, Never, last_of, IsInOrder, IsRequestOf, Observation, grown_of, gives_id, ids_in, Gives};
 ghost use Rattle.coap_forward.specs.Messages.{told_again, brings_requests};
 ghost use Rattle.coap_model.specs.Justified.{HaveOneMemory, Comes, known_of, HasRecordRoom, Acknowledges, Closes, IsNew, IsUnprocessable, verdict_on, fits_on, IsMiss, IsJoinable, IsUnanswered, IsAwaited, IsActing, IsForwarding, IsDelivery, JustifiedBy, AllJustified, IsOwed, MayFollow, AreOfOneTurn, IsGet, IsUsable, HasIdFor, IsObtainedHere, size_here};
-ghost use Rattle.coap_model.specs.Runs.{turns_of, AreTurns, Taken, new_run, run_of, entry_of, answer_at};
+ghost use Rattle.coap_model.specs.Runs.{turns_of, AreTurns, Taken, new_run, run_of, observation_of, answer_at};
 ghost use Rattle.coap_model.specs.Examples.{to, from, client, content_for_client};
 ghost use Rattle.coap_model.specs.ResponseExamples.{no_room, request};
 ghost use Rattle.coap_model.specs.Standing.{sent, done, outstanding_to, exchanges_of, waiters_of, HasOwnRoomToJoin, HasOwnRoomToOpen, HasSharedRoomToJoin, HasSharedRoomToOpen, HasRoomToJoin, HasRoomToOpen, open_in, standing_in, told};
@@ -52,10 +52,10 @@ ghost use Rattle.coap_model.specs.Promised.{Promised};
 /// Each forwarded request has the cache key of the client's request for which it is sent, according
 /// to the bytes that were sent.
 pub fn requests_keep_their_key()
-    ensures { (setting : Setting) (past : List Deed) (d : Deed)
+    ensures { (setting : Setting) (past : List Action) (d : Action)
         (f : IsForwarding setting past d) (m : Message)
         → AreRoutes setting.routes
-        → Spells d.entry.bytes m
+        → Spells d.observation.bytes m
         → key_sent f.to_send.key.target.at m ≡ f.to_send.key }
 {}
 
@@ -85,7 +85,7 @@ pub fn ticks_are_idle_where_nothing_is_due()
         → next_due w ≡ Some at
         → now < at
         → (step_of w now draw grown tick).report.outcome ≡ Idle }
-    ensures due { (w : State) (history : List Entry) (now draw at : ℕ) (grown : Bool)
+    ensures due { (w : State) (history : List Observation) (now draw at : ℕ) (grown : Bool)
         → Carries history w
         → next_due w ≡ Some at
         → at ≤ now
@@ -125,14 +125,14 @@ pub fn forged_deliveries_are_refused()
 {}
 
 /// Each step of a proxy that carries a history leaves a proxy that carries the history with the
-/// step's entry in front, if moments never decrease and datagrams consist of bytes.
+/// step's observation in front, if moments never decrease and datagrams consist of bytes.
 pub fn steps_are_carried()
-    ensures carried { (w : State) (history : List Entry) (now draw : ℕ) (grown : Bool)
+    ensures carried { (w : State) (history : List Observation) (now draw : ℕ) (grown : Bool)
         (event : Event)
         → Carries history w
         → w.last ≤ now
         → IsEvent event
-        → Carries (entry_of now draw event (step_of w now draw grown event) ∷ history)
+        → Carries (observation_of now draw event (step_of w now draw grown event) ∷ history)
         (step_of w now draw grown event).state }
 {}
 
@@ -161,67 +161,68 @@ pub fn memory_is_told()
     ensures wanting { (outcome : Outcome) → grown_of outcome ≡ false → outcome ≡ Answered NoMemory }
 {}
 
-/// The counts of a proxy agree with the deeds that made its tables: the number of open exchanges
-/// and of pending clients, the entries and bytes of the cache of these deeds, and the number of
+/// The counts of a proxy agree with the actions that made its tables: the number of open exchanges
+/// and of pending clients, the entries and bytes of the cache of these actions, and the number of
 /// messages that are still remembered.
 pub fn counts_are_of_the_history()
-    ensures exchanges { (deeds : List Deed) (w : State)
-        → Bears deeds w
-        → (counts w).exchanges ≡ length (open_in deeds) }
-    ensures waiters { (deeds : List Deed) (w : State)
-        → Bears deeds w
-        → (counts w).waiters ≡ length (standing_in deeds) }
-    ensures entries { (deeds : List Deed) (w : State) (cached : List Cached)
-        → Bears deeds w
-        → IsCacheOf w.setting deeds cached
+    ensures exchanges { (actions : List Action) (w : State)
+        → Bears actions w
+        → (counts w).exchanges ≡ length (open_in actions) }
+    ensures waiters { (actions : List Action) (w : State)
+        → Bears actions w
+        → (counts w).waiters ≡ length (standing_in actions) }
+    ensures entries { (actions : List Action) (w : State) (cached : List Cached)
+        → Bears actions w
+        → IsCacheOf w.setting actions cached
         → (counts w).entries ≡ length cached }
-    ensures cached_bytes { (deeds : List Deed) (w : State) (cached : List Cached)
-        → Bears deeds w
-        → IsCacheOf w.setting deeds cached
+    ensures cached_bytes { (actions : List Action) (w : State) (cached : List Cached)
+        → Bears actions w
+        → IsCacheOf w.setting actions cached
         → (counts w).cached_bytes ≡ total cached_size cached }
-    ensures con_records { (deeds : List Deed) (w : State)
-        → Bears deeds w
-        → (counts w).con_records ≡ length (remembered_at Con w.last deeds) }
-    ensures non_records { (deeds : List Deed) (w : State)
-        → Bears deeds w
-        → (counts w).non_records ≡ length (remembered_at Non w.last deeds) }
+    ensures con_records { (actions : List Action) (w : State)
+        → Bears actions w
+        → (counts w).con_records ≡ length (remembered_at Con w.last actions) }
+    ensures non_records { (actions : List Action) (w : State)
+        → Bears actions w
+        → (counts w).non_records ≡ length (remembered_at Non w.last actions) }
 {}
 
 /// The same for what is one endpoint's: open exchanges count for the client that opened them,
 /// pending requests for the client that sent them, and remembered messages for their source.
 pub fn client_counts_are_of_the_history()
-    ensures exchanges { (deeds : List Deed) (w : State) (client : Endpoint)
-        → Bears deeds w
-        → (client_counts w client).exchanges ≡ exchanges_of client deeds }
-    ensures waiters { (deeds : List Deed) (w : State) (client : Endpoint)
-        → Bears deeds w
-        → (client_counts w client).waiters ≡ waiters_of client deeds }
-    ensures con_records { (deeds : List Deed) (w : State) (from : Endpoint)
-        → Bears deeds w
-        → (client_counts w from).con_records ≡ remembered_of from Con w.last deeds }
-    ensures non_records { (deeds : List Deed) (w : State) (from : Endpoint)
-        → Bears deeds w
-        → (client_counts w from).non_records ≡ remembered_of from Non w.last deeds }
+    ensures exchanges { (actions : List Action) (w : State) (client : Endpoint)
+        → Bears actions w
+        → (client_counts w client).exchanges ≡ exchanges_of client actions }
+    ensures waiters { (actions : List Action) (w : State) (client : Endpoint)
+        → Bears actions w
+        → (client_counts w client).waiters ≡ waiters_of client actions }
+    ensures con_records { (actions : List Action) (w : State) (from : Endpoint)
+        → Bears actions w
+        → (client_counts w from).con_records ≡ remembered_of from Con w.last actions }
+    ensures non_records { (actions : List Action) (w : State) (from : Endpoint)
+        → Bears actions w
+        → (client_counts w from).non_records ≡ remembered_of from Non w.last actions }
 {}
 
-/// A proxy that carries a history keeps this promise about it: each entry is justified by the
-/// entries before it, each waiter is served at most once, Message IDs count up and none is reused
-/// within 247 seconds, each message is sent by its schedule, at most `nstart` requests to one
-/// endpoint are outstanding, exchanges, waiters and records are within their shared and client
+/// A proxy that carries a history keeps this promise about it: each observation is justified by the
+/// observations before it, each waiter is served at most once, Message IDs count up and none is
+/// reused within 247 seconds, each message is sent by its schedule, at most `nstart` requests to
+/// one endpoint are outstanding, exchanges, waiters and records are within their shared and client
 /// limits, and the store and the bytes held are within their limits.
 pub fn what_is_carried_is_promised()
-    ensures promised { (history : List Entry) (w : State) → Carries history w → Promised history w }
+    ensures promised { (history : List Observation) (w : State) → Carries history w
+        → Promised history w }
 {}
 
-/// The promise in short. A proxy keeps its promise for any history that it carries, at each place
-/// of it: pending exchanges, waiting clients, remembered messages and the cache are within their
-/// shared and client limits; each reply from the cache is a response that was received for an equal
-/// key, only renewed by later validations, fresh, with its Max-Age reduced by its age, and with a
-/// target that wasn't changed since it was requested; each message that repeats one within its
-/// lifetime gets the kept reply again; and no Message ID is given out twice within 247 seconds. So
-/// does a new proxy, whatever datagrams and ticks come at moments that never decrease.
+/// The promise in short. A proxy keeps its promise for any history that it carries, at each
+/// position of it: pending exchanges, waiting clients, remembered messages and the cache are within
+/// their shared and client limits; each reply from the cache is a response that was received for an
+/// equal key, only renewed by later validations, fresh, with its Max-Age reduced by its age, and
+/// with a target that wasn't changed since it was requested; each message that repeats one within
+/// its lifetime gets the kept reply again; and no Message ID is given out twice within 247 seconds.
+/// So does a new proxy, whatever datagrams and ticks come at moments that never decrease.
 pub fn the_word_is_kept()
-    ensures carried { (history : List Entry) (w : State)
+    ensures carried { (history : List Observation) (w : State)
         → Carries history w
         → KeepsItsWord history w }
     ensures run { (setting : Setting) (turns : List Taken)
@@ -236,10 +237,10 @@ pub fn the_word_is_kept()
 /// clients share is reached, or if Message IDs are short; and if few enough endpoints have sent
 /// anything that the limits for one of them, added up, are no more than the shared ones, then only
 /// if Message IDs are short. So it is for a new proxy, whatever datagrams and ticks come at moments
-/// that never decrease. What an entry lacked is stated exactly by what justifies it: room of its
-/// own or shared room.
+/// that never decrease. What an observation lacked is stated exactly by what justifies it: room of
+/// its own or shared room.
 pub fn one_client_leaves_room_for_others()
-    ensures carried { (history : List Entry) (w : State)
+    ensures carried { (history : List Observation) (w : State)
         → Carries history w
         → LeavesRoom history w }
     ensures run { (setting : Setting) (turns : List Taken)
@@ -247,181 +248,191 @@ pub fn one_client_leaves_room_for_others()
         → AreTurns 0 (turns_of turns)
         → LeavesRoom (run_of (new_run setting) turns).history
         (run_of (new_run setting) turns).state }
-    ensures to_join { (setting : Setting) (past : List Deed) (now : ℕ) (client : Endpoint)
+    ensures to_join { (setting : Setting) (past : List Action) (now : ℕ) (client : Endpoint)
         → HasOwnRoomToJoin setting.limits client past
         → HasSharedRoomToJoin setting.limits now past
         → HasRoomToJoin setting.limits now client past }
-    ensures to_open { (setting : Setting) (past : List Deed) (now : ℕ) (client : Endpoint)
+    ensures to_open { (setting : Setting) (past : List Action) (now : ℕ) (client : Endpoint)
         → HasOwnRoomToOpen setting.limits client past
         → HasSharedRoomToOpen setting.limits now past
         → HasRoomToOpen setting.limits now client past }
 {}
 
-/// What is promised, place by place: each deed is justified by those before it, isn't earlier than
-/// they are, and gives out the next Message ID, if any, which no other gave out within 247 seconds;
-/// each message is sent by its schedule, and at most `nstart` requests to one endpoint are
-/// outstanding; the history consists of the entries of these deeds; and what the proxy counts and
-/// holds is within its limits.
-pub fn what_is_promised_holds_at_each_place()
-    ensures justified { (history : List Entry) (w : State) (p : Promised history w) (place : Place)
-        → IsPlaceOf p.deeds place
-        → JustifiedBy place.deed.entry.report.outcome w.setting place.before place.deed }
-    ensures in_order { (history : List Entry) (w : State) (p : Promised history w)
-        (place earlier : Place)
-        → IsPlaceOf p.deeds place
-        → IsPlaceOf place.before earlier
-        → earlier.deed.entry.now ≤ place.deed.entry.now }
-    ensures id { (history : List Entry) (w : State) (p : Promised history w) (place : Place)
-        → IsPlaceOf p.deeds place
-        → gives_id place.deed.entry ≡ 1
-        → Gives ((w.setting.first_id + ids_in place.before) % 65536) place.deed.entry }
-    ensures once { (history : List Entry) (w : State) (p : Promised history w) (a b : Place)
+/// What is promised, position by position: each action is justified by those before it, isn't
+/// earlier than they are, and gives out the next Message ID, if any, which no other gave out within
+/// 247 seconds; each message is sent by its schedule, and at most `nstart` requests to one endpoint
+/// are outstanding; the history consists of the observations of these actions; and what the proxy
+/// counts and holds is within its limits.
+pub fn what_is_promised_holds_at_each_position()
+    ensures justified { (history : List Observation) (w : State) (p : Promised history w)
+        (position : Position)
+        → IsPositionOf p.actions position
+        → JustifiedBy position.action.observation.report.outcome w.setting position.before
+        position.action }
+    ensures in_order { (history : List Observation) (w : State) (p : Promised history w)
+        (position earlier : Position)
+        → IsPositionOf p.actions position
+        → IsPositionOf position.before earlier
+        → earlier.action.observation.now ≤ position.action.observation.now }
+    ensures id { (history : List Observation) (w : State) (p : Promised history w)
+        (position : Position)
+        → IsPositionOf p.actions position
+        → gives_id position.action.observation ≡ 1
+        → Gives ((w.setting.first_id + ids_in position.before) % 65536)
+        position.action.observation }
+    ensures once { (history : List Observation) (w : State) (p : Promised history w)
+        (a b : Position)
         (id : ℕ)
-        → IsPlaceOf p.deeds a
-        → IsPlaceOf p.deeds b
-        → Gives id a.deed.entry
-        → Gives id b.deed.entry
-        → a.deed.entry.now ≤ b.deed.entry.now
-        → b.deed.entry.now < a.deed.entry.now + 247000
+        → IsPositionOf p.actions a
+        → IsPositionOf p.actions b
+        → Gives id a.action.observation
+        → Gives id b.action.observation
+        → a.action.observation.now ≤ b.action.observation.now
+        → b.action.observation.now < a.action.observation.now + 247000
         → a ≡ b }
-    ensures schedule { (history : List Entry) (w : State) (p : Promised history w) (act : Act)
-        → IsSchedule (sends_by act p.deeds) }
-    ensures pace { (history : List Entry) (w : State) (p : Promised history w) (to : Endpoint)
-        → outstanding_to to p.deeds ≤ w.setting.limits.nstart }
-    ensures told { (history : List Entry) (w : State) (p : Promised history w)
-        → map (λ d. d.entry) p.deeds ≡ history }
-    ensures exchanges { (history : List Entry) (w : State)
+    ensures schedule { (history : List Observation) (w : State) (p : Promised history w) (act : Act)
+        → IsSchedule (sends_by act p.actions) }
+    ensures pace { (history : List Observation) (w : State) (p : Promised history w) (to : Endpoint)
+        → outstanding_to to p.actions ≤ w.setting.limits.nstart }
+    ensures told { (history : List Observation) (w : State) (p : Promised history w)
+        → map (λ d. d.observation) p.actions ≡ history }
+    ensures exchanges { (history : List Observation) (w : State)
         → Promised history w
         → (counts w).exchanges ≤ w.setting.limits.exchanges }
-    ensures waiters { (history : List Entry) (w : State)
+    ensures waiters { (history : List Observation) (w : State)
         → Promised history w
         → (counts w).waiters ≤ w.setting.limits.waiters }
-    ensures entries { (history : List Entry) (w : State)
+    ensures entries { (history : List Observation) (w : State)
         → Promised history w
         → (counts w).entries ≤ w.setting.limits.cache_entries }
-    ensures cached_bytes { (history : List Entry) (w : State)
+    ensures cached_bytes { (history : List Observation) (w : State)
         → Promised history w
         → (counts w).cached_bytes ≤ w.setting.limits.cache_bytes }
-    ensures con_records { (history : List Entry) (w : State)
+    ensures con_records { (history : List Observation) (w : State)
         → Promised history w
         → (counts w).con_records ≤ w.setting.limits.con_records }
-    ensures non_records { (history : List Entry) (w : State)
+    ensures non_records { (history : List Observation) (w : State)
         → Promised history w
         → (counts w).non_records ≤ w.setting.limits.non_records }
-    ensures client_exchanges { (history : List Entry) (w : State) (client : Endpoint)
+    ensures client_exchanges { (history : List Observation) (w : State) (client : Endpoint)
         → Promised history w
         → (client_counts w client).exchanges ≤ w.setting.limits.client_exchanges }
-    ensures client_waiters { (history : List Entry) (w : State) (client : Endpoint)
+    ensures client_waiters { (history : List Observation) (w : State) (client : Endpoint)
         → Promised history w
         → (client_counts w client).waiters ≤ w.setting.limits.client_waiters }
-    ensures client_con_records { (history : List Entry) (w : State) (from : Endpoint)
+    ensures client_con_records { (history : List Observation) (w : State) (from : Endpoint)
         → Promised history w
         → (client_counts w from).con_records ≤ w.setting.limits.client_con_records }
-    ensures client_non_records { (history : List Entry) (w : State) (from : Endpoint)
+    ensures client_non_records { (history : List Observation) (w : State) (from : Endpoint)
         → Promised history w
         → (client_counts w from).non_records ≤ w.setting.limits.client_non_records }
-    ensures held { (history : List Entry) (w : State)
+    ensures held { (history : List Observation) (w : State)
         → Promised history w
         → held w ≤ most_held w.setting.limits }
 {}
 
-/// A promise includes what is owed, place by place: a message that repeats an earlier place is
-/// treated as a duplicate; a request that isn't known, or an answer in a Confirmable message, gets
-/// no reply if there is no room to remember it; a new GET whose key has a fresh entry, whose target
-/// wasn't changed since, is answered from the cache; and an answer that was obtained is stored if
-/// its size allows it, unless memory runs out, and one that wasn't obtained isn't stored.
-pub fn what_is_owed_is_given_at_each_place()
-    ensures again { (history : List Entry) (w : State) (p : Promised history w)
-        (place former : Place) (source : Endpoint) (message : Message)
-        → IsPlaceOf p.deeds place
-        → Comes w.setting source message place.deed.entry.event
-        → IsPlaceOf place.before former
-        → Repeats place.deed.entry.now source message former
-        → place.deed.entry.report.outcome ≡ Again }
-    ensures no_room { (history : List Entry) (w : State) (p : Promised history w) (place : Place)
+/// A promise includes what is owed, position by position: a message that repeats an earlier
+/// position is treated as a duplicate; a request that isn't known, or an answer in a Confirmable
+/// message, gets no reply if there is no room to remember it; a new GET whose key has a fresh
+/// entry, whose target wasn't changed since, is answered from the cache; and an answer that was
+/// obtained is stored if its size allows it, unless memory runs out, and one that wasn't obtained
+/// isn't stored.
+pub fn what_is_owed_is_given_at_each_position()
+    ensures again { (history : List Observation) (w : State) (p : Promised history w)
+        (position former : Position) (source : Endpoint) (message : Message)
+        → IsPositionOf p.actions position
+        → Comes w.setting source message position.action.observation.event
+        → IsPositionOf position.before former
+        → Repeats position.action.observation.now source message former
+        → position.action.observation.report.outcome ≡ Again }
+    ensures no_room { (history : List Observation) (w : State) (p : Promised history w)
+        (position : Position)
         (client : Endpoint) (request : Message)
-        → IsPlaceOf p.deeds place
-        → IsRequestOf w.setting client request place.deed.entry.event
-        → known_of place.before place.deed.entry.now client request ≡ None
-        → ¬ HasRecordRoom w.setting place.before place.deed.entry.now client request
-        → place.deed.entry.report.outcome ≡ NoRecordRoom }
-    ensures no_answer_room { (history : List Entry) (w : State) (p : Promised history w)
-        (place : Place) (exchange : ℕ)
-        (awaited : IsAwaited w.setting place.before place.deed.entry.now exchange
-        place.deed.entry.event)
-        → IsPlaceOf p.deeds place
+        → IsPositionOf p.actions position
+        → IsRequestOf w.setting client request position.action.observation.event
+        → known_of position.before position.action.observation.now client request ≡ None
+        → ¬ HasRecordRoom w.setting position.before position.action.observation.now client request
+        → position.action.observation.report.outcome ≡ NoRecordRoom }
+    ensures no_answer_room { (history : List Observation) (w : State) (p : Promised history w)
+        (position : Position) (exchange : ℕ)
+        (awaited : IsAwaited w.setting position.before position.action.observation.now exchange
+        position.action.observation.event)
+        → IsPositionOf p.actions position
         → awaited.meets.message.kind ≡ Con
-        → known_of place.before place.deed.entry.now awaited.meets.asks.sends.to
+        → known_of position.before position.action.observation.now awaited.meets.asks.sends.to
         awaited.meets.message ≡ None
-        → ¬ HasRecordRoom w.setting place.before place.deed.entry.now
+        → ¬ HasRecordRoom w.setting position.before position.action.observation.now
         awaited.meets.asks.sends.to awaited.meets.message
-        → place.deed.entry.report.outcome ≡ NoRecordRoom }
-    ensures hit { (history : List Entry) (w : State) (p : Promised history w) (place : Place)
+        → position.action.observation.report.outcome ≡ NoRecordRoom }
+    ensures hit { (history : List Observation) (w : State) (p : Promised history w)
+        (position : Position)
         (client : Endpoint) (request : Message) (key : CacheKey) (cached : List Cached)
         (entry : Cached)
-        → IsPlaceOf p.deeds place
-        → IsRequestOf w.setting client request place.deed.entry.event
-        → IsNew w.setting place.before place.deed.entry.now client request
+        → IsPositionOf p.actions position
+        → IsRequestOf w.setting client request position.action.observation.event
+        → IsNew w.setting position.before position.action.observation.now client request
         → IsGet request
         → verdict_on w.setting request ≡ may_ask key
-        → IsCacheOf w.setting place.before cached
+        → IsCacheOf w.setting position.before cached
         → of_key cached_key key cached ≡ Some entry
-        → IsUsable w.setting place.before place.deed.entry.now entry
-        → HasIdFor request place.deed.entry.now place.before
-        → place.deed.entry.report.outcome ≡ Hit }
-    ensures kept { (history : List Entry) (w : State) (p : Promised history w) (place : Place)
-        (o : IsObtainedHere w.setting place.before place.deed)
-        → IsPlaceOf p.deeds place
+        → IsUsable w.setting position.before position.action.observation.now entry
+        → HasIdFor request position.action.observation.now position.before
+        → position.action.observation.report.outcome ≡ Hit }
+    ensures kept { (history : List Observation) (w : State) (p : Promised history w)
+        (position : Position)
+        (o : IsObtainedHere w.setting position.before position.action)
+        → IsPositionOf p.actions position
         → size_here o ≤ w.setting.limits.cache_bytes
-        → place.deed.entry.report.outcome ≢ Answered NoMemory
-        → place.deed.entry.report.outcome ≡ Answered Kept }
-    ensures too_large { (history : List Entry) (w : State) (p : Promised history w) (place : Place)
-        (o : IsObtainedHere w.setting place.before place.deed)
-        → IsPlaceOf p.deeds place
+        → position.action.observation.report.outcome ≢ Answered NoMemory
+        → position.action.observation.report.outcome ≡ Answered Kept }
+    ensures too_large { (history : List Observation) (w : State) (p : Promised history w)
+        (position : Position)
+        (o : IsObtainedHere w.setting position.before position.action)
+        → IsPositionOf p.actions position
         → w.setting.limits.cache_bytes < size_here o
-        → place.deed.entry.report.outcome ≡ Answered TooLarge }
-    ensures not_stored { (history : List Entry) (w : State) (p : Promised history w)
-        (place : Place)
-        → IsPlaceOf p.deeds place
-        → takes place.deed.entry.report.outcome ≡ true
-        → ¬ IsObtainedHere w.setting place.before place.deed
-        → place.deed.entry.report.outcome ≡ Answered NotStored }
+        → position.action.observation.report.outcome ≡ Answered TooLarge }
+    ensures not_stored { (history : List Observation) (w : State) (p : Promised history w)
+        (position : Position)
+        → IsPositionOf p.actions position
+        → takes position.action.observation.report.outcome ≡ true
+        → ¬ IsObtainedHere w.setting position.before position.action
+        → position.action.observation.report.outcome ≡ Answered NotStored }
 {}
 
 /// In a justified history nothing is done twice: the request of an exchange is sent for the first
-/// time at one place, the exchange is answered or given up at one place, and a client is served at
-/// one place. Nothing is done for a client that is finished: after its answer was acknowledged, was
-/// given up, or was sent in a Non-confirmable message.
+/// time at one position, the exchange is answered or given up at one position, and a client is
+/// served at one position. Nothing is done for a client that is finished: after its answer was
+/// acknowledged, was given up, or was sent in a Non-confirmable message.
 pub fn nothing_is_done_twice()
-    ensures sent { (setting : Setting) (history : List Deed) (exchange : ℕ) (a b : Place)
+    ensures sent { (setting : Setting) (history : List Action) (exchange : ℕ) (a b : Position)
         → AllJustified setting history
-        → IsPlaceOf history a
-        → IsPlaceOf history b
+        → IsPositionOf history a
+        → IsPositionOf history b
         → Sends setting.salt exchange a
         → Sends setting.salt exchange b
         → a ≡ b }
-    ensures ended { (setting : Setting) (history : List Deed) (exchange : ℕ) (a b : Place)
+    ensures ended { (setting : Setting) (history : List Action) (exchange : ℕ) (a b : Position)
         → AllJustified setting history
-        → IsPlaceOf history a
-        → IsPlaceOf history b
+        → IsPositionOf history a
+        → IsPositionOf history b
         → Ends exchange a
         → Ends exchange b
         → a ≡ b }
-    ensures served { (setting : Setting) (history : List Deed) (waiter : ℕ) (a b : Place)
+    ensures served { (setting : Setting) (history : List Action) (waiter : ℕ) (a b : Position)
         → AllJustified setting history
-        → IsPlaceOf history a
-        → IsPlaceOf history b
+        → IsPositionOf history a
+        → IsPositionOf history b
         → Serves waiter a
         → Serves waiter b
         → a ≡ b }
-    ensures gone { (setting : Setting) (history : List Deed) (waiter : ℕ) (place : Place)
+    ensures gone { (setting : Setting) (history : List Action) (waiter : ℕ) (position : Position)
         → AllJustified setting history
-        → IsPlaceOf history place
-        → place.deed.act ≡ serves waiter
-        → Never (LetsGo waiter) place.before }
+        → IsPositionOf history position
+        → position.action.act ≡ serves waiter
+        → Never (LetsGo waiter) position.before }
 {}
 
-/// What is owed is done, if an entry is justified by the deeds before it: a duplicate of a
+/// What is owed is done, if an observation is justified by the actions before it: a duplicate of a
 /// remembered message gets what is remembered, and a request that there is no room to remember gets
 /// no reply. Of the other requests, a GET whose key has a fresh entry, whose target wasn't changed
 /// since, is answered from the cache; a GET whose key has no such entry, but an exchange that may
@@ -433,147 +444,150 @@ pub fn nothing_is_done_twice()
 /// for one settles that; a Confirmable datagram that can't be processed is rejected; and a tick at
 /// which something is due does what is due first.
 pub fn what_is_owed_is_given()
-    ensures owed { (setting : Setting) (past : List Deed) (d : Deed)
-        → JustifiedBy d.entry.report.outcome setting past d
+    ensures owed { (setting : Setting) (past : List Action) (d : Action)
+        → JustifiedBy d.observation.report.outcome setting past d
         → IsOwed setting past d }
-    ensures opened { (setting : Setting) (past : List Deed) (d : Deed) (client : Endpoint)
+    ensures opened { (setting : Setting) (past : List Action) (d : Action) (client : Endpoint)
         (request : Message)
         (key : CacheKey)
-        → JustifiedBy d.entry.report.outcome setting past d
-        → IsRequestOf setting client request d.entry.event
-        → IsNew setting past d.entry.now client request
+        → JustifiedBy d.observation.report.outcome setting past d
+        → IsRequestOf setting client request d.observation.event
+        → IsNew setting past d.observation.now client request
         → verdict_on setting request ≡ may_ask key
-        → IsUnanswered setting past d.entry.now key request
+        → IsUnanswered setting past d.observation.now key request
         → fits_on setting key request ≡ true
-        → HasRoomToOpen setting.limits d.entry.now client past
-        → d.entry.report.outcome ≡ Opened }
-    ensures joined { (setting : Setting) (past : List Deed) (d : Deed) (client : Endpoint)
+        → HasRoomToOpen setting.limits d.observation.now client past
+        → d.observation.report.outcome ≡ Opened }
+    ensures joined { (setting : Setting) (past : List Action) (d : Action) (client : Endpoint)
         (request : Message)
         (key : CacheKey) (exchange : ℕ)
-        → JustifiedBy d.entry.report.outcome setting past d
-        → IsRequestOf setting client request d.entry.event
-        → IsNew setting past d.entry.now client request
+        → JustifiedBy d.observation.report.outcome setting past d
+        → IsRequestOf setting client request d.observation.event
+        → IsNew setting past d.observation.now client request
         → IsGet request
         → verdict_on setting request ≡ may_ask key
-        → IsMiss setting past key d.entry.now
+        → IsMiss setting past key d.observation.now
         → IsJoinable setting past key exchange
-        → HasRoomToJoin setting.limits d.entry.now client past
-        → d.entry.report.outcome ≡ Joined }
-    ensures answered { (setting : Setting) (past : List Deed) (d : Deed) (exchange : ℕ)
-        (awaited : IsAwaited setting past d.entry.now exchange d.entry.event)
-        → JustifiedBy d.entry.report.outcome setting past d
+        → HasRoomToJoin setting.limits d.observation.now client past
+        → d.observation.report.outcome ≡ Joined }
+    ensures answered { (setting : Setting) (past : List Action) (d : Action) (exchange : ℕ)
+        (awaited : IsAwaited setting past d.observation.now exchange d.observation.event)
+        → JustifiedBy d.observation.report.outcome setting past d
         → (awaited.meets.message.kind ≡ Con
-        → IsNew setting past d.entry.now awaited.meets.asks.sends.to awaited.meets.message)
-        → takes d.entry.report.outcome ≡ true }
-    ensures settled { (setting : Setting) (past : List Deed) (d : Deed) (exchange : ℕ)
-        → JustifiedBy d.entry.report.outcome setting past d
-        → Acknowledges setting past d.entry.now exchange d.entry.event
-        → d.entry.report.outcome ≡ Acked }
-    ensures closed { (setting : Setting) (past : List Deed) (d : Deed) (client : ℕ)
-        → JustifiedBy d.entry.report.outcome setting past d
-        → Closes setting past d.entry.now client d.entry.event
-        → d.entry.report.outcome ≡ Acked }
-    ensures no_answer_room { (setting : Setting) (past : List Deed) (d : Deed) (exchange : ℕ)
-        (awaited : IsAwaited setting past d.entry.now exchange d.entry.event)
-        → JustifiedBy d.entry.report.outcome setting past d
+        → IsNew setting past d.observation.now awaited.meets.asks.sends.to awaited.meets.message)
+        → takes d.observation.report.outcome ≡ true }
+    ensures settled { (setting : Setting) (past : List Action) (d : Action) (exchange : ℕ)
+        → JustifiedBy d.observation.report.outcome setting past d
+        → Acknowledges setting past d.observation.now exchange d.observation.event
+        → d.observation.report.outcome ≡ Acked }
+    ensures closed { (setting : Setting) (past : List Action) (d : Action) (client : ℕ)
+        → JustifiedBy d.observation.report.outcome setting past d
+        → Closes setting past d.observation.now client d.observation.event
+        → d.observation.report.outcome ≡ Acked }
+    ensures no_answer_room { (setting : Setting) (past : List Action) (d : Action) (exchange : ℕ)
+        (awaited : IsAwaited setting past d.observation.now exchange d.observation.event)
+        → JustifiedBy d.observation.report.outcome setting past d
         → awaited.meets.message.kind ≡ Con
-        → known_of past d.entry.now awaited.meets.asks.sends.to awaited.meets.message ≡ None
-        → ¬ HasRecordRoom setting past d.entry.now awaited.meets.asks.sends.to
+        → known_of past d.observation.now awaited.meets.asks.sends.to awaited.meets.message ≡ None
+        → ¬ HasRecordRoom setting past d.observation.now awaited.meets.asks.sends.to
         awaited.meets.message
-        → d.entry.report.outcome ≡ NoRecordRoom }
-    ensures rejected { (setting : Setting) (past : List Deed) (d : Deed) (source : Endpoint)
+        → d.observation.report.outcome ≡ NoRecordRoom }
+    ensures rejected { (setting : Setting) (past : List Action) (d : Action) (source : Endpoint)
         (bytes : List ℕ)
         (head : Head)
-        → JustifiedBy d.entry.report.outcome setting past d
-        → d.entry.event ≡ arrival source bytes
+        → JustifiedBy d.observation.report.outcome setting past d
+        → d.observation.event ≡ arrival source bytes
         → head_at bytes ≡ Some head
         → head.kind ≡ Con
-        → IsUnprocessable setting past d.entry
-        → d.entry.report.outcome ≡ Rejected }
-    ensures done { (setting : Setting) (past : List Deed) (d : Deed) (act : Act) (at : ℕ)
-        → JustifiedBy d.entry.report.outcome setting past d
-        → d.entry.event ≡ tick
+        → IsUnprocessable setting past d.observation
+        → d.observation.report.outcome ≡ Rejected }
+    ensures done { (setting : Setting) (past : List Action) (d : Action) (act : Act) (at : ℕ)
+        → JustifiedBy d.observation.report.outcome setting past d
+        → d.observation.event ≡ tick
         → IsDueAt setting past act at
-        → at ≤ d.entry.now
+        → at ≤ d.observation.now
         → IsActing setting past d }
 {}
 
-/// A message is known if it repeats an earlier one, in terms of the places of the history, and its
-/// record is what was sent immediately there: so a duplicate gets what the first message got, or
-/// nothing. It repeats at most one place; and if it is Confirmable, what was sent there was sent to
-/// its source.
-pub fn duplicates_repeat_a_place()
-    ensures known { (past : List Deed) (now : ℕ) (source : Endpoint) (message : Message)
+/// A message is known if it repeats an earlier one, in terms of the positions of the history, and
+/// its record is what was sent immediately there: so a duplicate gets what the first message got,
+/// or nothing. It repeats at most one position; and if it is Confirmable, what was sent there was
+/// sent to its source.
+pub fn duplicates_repeat_a_position()
+    ensures known { (past : List Action) (now : ℕ) (source : Endpoint) (message : Message)
         (known : Record)
         → known_of past now source message ≡ Some known
         → Somewhere (IsRememberedAt now source message known) past }
-    ensures each { (past : List Deed) (now : ℕ) (source : Endpoint) (message : Message) (p : Place)
+    ensures each { (past : List Action) (now : ℕ) (source : Endpoint) (message : Message)
+        (p : Position)
         → brings_requests message.kind ≡ true
-        → IsPlaceOf past p
+        → IsPositionOf past p
         → Repeats now source message p
         → known_of past now source message ≢ None }
-    ensures one { (setting : Setting) (past : List Deed) (now : ℕ) (source : Endpoint)
-        (message : Message) (p q : Place)
+    ensures one { (setting : Setting) (past : List Action) (now : ℕ) (source : Endpoint)
+        (message : Message) (p q : Position)
         → AllJustified setting past
         → IsInOrder past
         → last_of past ≤ now
-        → IsPlaceOf past p
-        → IsPlaceOf past q
+        → IsPositionOf past p
+        → IsPositionOf past q
         → Repeats now source message p
         → Repeats now source message q
         → p ≡ q }
-    ensures told { (setting : Setting) (past : List Deed) (now : ℕ) (source : Endpoint)
-        (message : Message) (p : Place) (known : Record)
+    ensures told { (setting : Setting) (past : List Action) (now : ℕ) (source : Endpoint)
+        (message : Message) (p : Position) (known : Record)
         → AllJustified setting past
         → IsInOrder past
         → last_of past ≤ now
-        → IsPlaceOf past p
+        → IsPositionOf past p
         → Repeats now source message p
         → known_of past now source message ≡ Some known
-        → known.reply ≡ told_again message.kind p.deed.entry.bytes }
-    ensures sent { (setting : Setting) (past : List Deed) (now : ℕ) (source : Endpoint)
-        (message : Message) (p : Place)
+        → known.reply ≡ told_again message.kind p.action.observation.bytes }
+    ensures sent { (setting : Setting) (past : List Action) (now : ℕ) (source : Endpoint)
+        (message : Message) (p : Position)
         → AllJustified setting past
-        → IsPlaceOf past p
+        → IsPositionOf past p
         → Repeats now source message p
         → message.kind ≡ Con
-        → p.deed.entry.report.send ≡ Some source }
+        → p.action.observation.report.send ≡ Some source }
 {}
 
-/// The histories allow only one result: two deeds that may follow the same deeds, with the same
+/// The histories allow only one result: two actions that may follow the same actions, with the same
 /// event, moment, draw and memory, are equal, if fewer than 2^64 exchanges were opened; and the
-/// entry of a deed that may follow the history of a proxy is the one that its step makes. So the
-/// traffic alone determines everything that a proxy does.
+/// observation of an action that may follow the history of a proxy is the one that its step makes.
+/// So the traffic alone determines everything that a proxy does.
 pub fn one_answer_is_justified()
-    ensures one { (setting : Setting) (past : List Deed) (d e : Deed)
+    ensures one { (setting : Setting) (past : List Action) (d e : Action)
         → AllJustified setting past
         → opened_in past < 2 ^ 64
         → MayFollow setting past d
         → MayFollow setting past e
-        → AreOfOneTurn d.entry e.entry
+        → AreOfOneTurn d.observation e.observation
         → d ≡ e }
-    ensures of_the_step { (w : State) (history : List Entry) (c : Carries history w) (d : Deed)
+    ensures of_the_step { (w : State) (history : List Observation) (c : Carries history w)
+        (d : Action)
         (grown : Bool)
-        → w.last ≤ d.entry.now
+        → w.last ≤ d.observation.now
         → w.opened < 2 ^ 64
-        → IsEvent d.entry.event
-        → MayFollow w.setting c.deeds d
-        → HaveOneMemory d.entry.report.outcome
-        (answer_at w d.entry.now d.entry.draw grown d.entry.event).report.outcome
-        → d.entry ≡ answer_at w d.entry.now d.entry.draw grown d.entry.event }
+        → IsEvent d.observation.event
+        → MayFollow w.setting c.actions d
+        → HaveOneMemory d.observation.report.outcome
+        (answer_at w d.observation.now d.observation.draw grown d.observation.event).report.outcome
+        → d.observation ≡ answer_at w d.observation.now d.observation.draw grown
+        d.observation.event }
 {}
 
 /// The moment at which the next tick is needed is the earliest at which anything is due according
 /// to the history, which is unique, and none is needed if nothing is due.
 pub fn next_due_is_least()
-    ensures next { (w : State) (history : List Entry) (c : Carries history w) (at : ℕ)
+    ensures next { (w : State) (history : List Observation) (c : Carries history w) (at : ℕ)
         → next_due w ≡ Some at
-        → IsNextDue w.setting c.deeds at }
-    ensures none { (w : State) (history : List Entry) (c : Carries history w)
+        → IsNextDue w.setting c.actions at }
+    ensures none { (w : State) (history : List Observation) (c : Carries history w)
         → next_due w ≡ None
         → (act : Act) (at : ℕ)
-        → ¬ IsDueAt w.setting c.deeds act at }
-    ensures one { (setting : Setting) (past : List Deed) (a b : ℕ)
+        → ¬ IsDueAt w.setting c.actions act at }
+    ensures one { (setting : Setting) (past : List Action) (a b : ℕ)
         → IsNextDue setting past a
         → IsNextDue setting past b
         → a ≡ b }
@@ -582,7 +596,7 @@ pub fn next_due_is_least()
 /// If moments are at most 2^62 milliseconds and draws at most 1,000, nothing is due later than ten
 /// minutes after 2^62.
 pub fn dues_are_bounded()
-    ensures bounded { (w : State) (history : List Entry) (at : ℕ)
+    ensures bounded { (w : State) (history : List Observation) (at : ℕ)
         → Carries history w
         → AreInRange history
         → AreLimits w.setting.limits
@@ -593,7 +607,8 @@ pub fn dues_are_bounded()
 /// No datagram that a step sends is longer than the limit `datagram`, if the limits are within
 /// their ranges.
 pub fn datagrams_fit()
-    ensures fits { (w : State) (history : List Entry) (now draw : ℕ) (grown : Bool) (event : Event)
+    ensures fits { (w : State) (history : List Observation) (now draw : ℕ) (grown : Bool)
+        (event : Event)
         → Carries history w
         → AreLimits w.setting.limits
         → IsEvent event
@@ -604,7 +619,7 @@ pub fn datagrams_fit()
 /// same bound.
 pub fn bytes_held_are_kept()
     ensures kept { (w : State) → bytes_held w ≤ held w }
-    ensures within { (w : State) (history : List Entry)
+    ensures within { (w : State) (history : List Observation)
         → Carries history w
         → bytes_held w ≤ most_held w.setting.limits }
 {}

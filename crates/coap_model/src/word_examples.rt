@@ -17,7 +17,7 @@ ghost use Rattle.coap_model.specs.ForgedHits.{reply};
 ghost use Rattle.coap_model.specs.FormExamples.{after};
 ghost use Rattle.coap_model.specs.HitExamples as hits;
 ghost use Rattle.coap_model.specs.Held.{bytes_held};
-ghost use Rattle.coap_model.specs.History.{IsPlaceOf, LetsGo};
+ghost use Rattle.coap_model.specs.History.{IsPositionOf, LetsGo};
 ghost use Rattle.coap_model.specs.OptionExamples.{key_of_temp};
 ghost use Rattle.coap_model.specs.Schedules.{AreSpaced, IsSchedule, MayGoOn};
 ghost use Rattle.coap_model.specs.Word.{IsFromCache, IsToldAgain, IsWithin, KeepsItsWord};
@@ -32,7 +32,7 @@ pub fn forged_replies_are_refused()
     ensures stale { ¬ IsFromCache setting asked_past words.stale_reply }
     ensures but_for_its_age { is_fresh 10006 (entry_of_cached first_entry).1 ≡ true
         → IsFromCache setting asked_past words.stale_reply }
-    ensures as_received { ¬ IsFromCache setting asked_past (reply 25 10).entry }
+    ensures as_received { ¬ IsFromCache setting asked_past (reply 25 10).observation }
     ensures with_a_token { ¬ IsFromCache setting asked_past words.with_a_token }
     ensures to_another { ¬ IsFromCache setting asked_past words.to_another }
 {}
@@ -46,7 +46,7 @@ pub fn forged_validations_are_refused()
         (at words.tagged_past words.asks_tagged) (at words.validated_past words.gets_valid) }
     ensures older { (response : Message) → ¬ IsObtained setting key_of_temp response
         (at words.early_past words.asks_tagged) (at words.validated_early words.gets_valid) }
-    ensures but_for_the_order { IsPlaceOf words.early_past
+    ensures but_for_the_order { IsPositionOf words.early_past
         (at (words.asks_tagged ∷ words.early_past) words.gets_tagged)
         → IsObtained setting key_of_temp
         (renewed words.tagged_content (taken_of true words.valid_message))

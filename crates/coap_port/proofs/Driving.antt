@@ -2,7 +2,7 @@
 use Rattle.std.proofs.Common.{◌≡◌, ℕ, Bool, true, false, cond, List, [], ◌∷◌, refl, ap, ◌∙◌, subst}
 use Rattle.coap_model.specs.Carries.{Carries}
 use Rattle.coap_model.proofs.Word.{keeps-word}
-use Rattle.coap_model.specs.History.{Entry}
+use Rattle.coap_model.specs.History.{Observation}
 use Rattle.coap_model.specs.Runs.{Run, Turn, one_turn, step_taken}
 use Rattle.coap_model.specs.Ticks.{next_due}
 use Rattle.coap_model.specs.State.{State}
@@ -79,7 +79,7 @@ module _ {P : Type 0} (gives : P → ℕ → Turn → P → Type 0) (takes : P �
     state : v' ≡ state_by w (g ∷ givens)
     state = did.state ∙ given-apart (run_at v []) (run_by (run_at w []) givens) g before
 
-    carries : (history : List Entry) → Carries history w → Carries (run_by (run_at w history) (g ∷ givens)).history v'
+    carries : (history : List Observation) → Carries history w → Carries (run_by (run_at w history) (g ∷ givens)).history v'
     carries history c =
         let run : Run = run_by (run_at w history) givens in
         let tables : v ≡ run.state = before ∙ run-apart (run_at w []) (run_at w history) givens refl in

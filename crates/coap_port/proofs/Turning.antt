@@ -1,11 +1,11 @@
 -- What one turn does, by the contracts of its calls.
 use Rattle.std.proofs.Common.{◌≡◌, ◌+◌, ◌≤◌, ℕ, Bool, true, false, List, [], ◌∷◌, Option, Some, None, option_map, is_some, refl, sym, ap, ◌∙◌, subst, arith}
-use Rattle.coap_core.specs.Steps.{CarriesOn, Does, entry_told, wants_memory}
+use Rattle.coap_core.specs.Steps.{CarriesOn, Does, observation_told, wants_memory}
 use Rattle.coap_message.specs.Datagram.{Datagram}
 use Rattle.coap_model.proofs.Running.{clock_after}
 use Rattle.coap_model.specs.Carries.{Carries}
 use Rattle.coap_model.specs.Events.{Event, IsEvent, event_given}
-use Rattle.coap_model.specs.History.{Entry, grown_of}
+use Rattle.coap_model.specs.History.{Observation, grown_of}
 use Rattle.coap_model.specs.Runs.{Turn}
 use Rattle.coap_model.specs.Step.{step_of}
 use Rattle.coap_model.specs.Ticks.{next_due}
@@ -43,7 +43,7 @@ module _ {P W : Type 0} (gives : P → ℕ → Turn → P → Type 0) (takes : P
     (asked : wait ≡ wait_for came (clock p) (next_due v)) (gave : gives p wait t m) (arrives : arrived ≡ is_arrival t.event) (moment : clock m ≡ t.now) where
   -- a step was done, and what it sent was handed over
   pub did-step : (v' : State) (q : P) (s' : Stats) (event : Event) (report : Report) (out out' : Datagram) (went : Bool) → event ≡ t.event → IsEvent t.event
-      → Does (step_of v t.now t.draw (grown_of report.outcome) event) report out out' v' → CarriesOn v (entry_told t.now t.draw event report out'.bytes) v'
+      → Does (step_of v t.now t.draw (grown_of report.outcome) event) report out out' v' → CarriesOn v (observation_told t.now t.draw event report out'.bytes) v'
       → HandsOver takes m (told report out'.bytes) went q → clock q ≡ clock m → failures q ≡ failures p
       → s' ≡ with_turn false (is_some report.send) went s → sees a (told_done t event report out'.bytes went v') b
       → DidWatched gives takes sees clock failures came v p a s v' q b s' arrived
@@ -54,7 +54,7 @@ module _ {P W : Type 0} (gives : P → ℕ → Turn → P → Type 0) (takes : P
       asked = asked;
       lost = λ (h : false ≡ true). absurd cc;
       state = done.2;
-      carries = λ history c. subst (λ (e : Entry). Carries (e ∷ history) v') entry (on history c);
+      carries = λ history c. subst (λ (e : Observation). Carries (e ∷ history) v') entry (on history c);
       counted = counted ∙ ap (λ (b : Bool). with_turn false b went s) (sym (is_some-map (λ to. (to, out'.bytes)) report.send) ∙ ap (λ (d : Option (Endpoint × List ℕ)). is_some d) sent);
       told = arrives;
       moment = still-now ∙ moment;
@@ -71,8 +71,8 @@ module _ {P W : Type 0} (gives : P → ℕ → Turn → P → Type 0) (takes : P
       done : Does step report out out' v'
       done = subst (λ (e : Event). Does (step_of v t.now t.draw (grown_of report.outcome) e) report out out' v') same does
 
-      on : CarriesOn v (entry_told t.now t.draw t.event report out'.bytes) v'
-      on = subst (λ (e : Event). CarriesOn v (entry_told t.now t.draw e report out'.bytes) v') same carries
+      on : CarriesOn v (observation_told t.now t.draw t.event report out'.bytes) v'
+      on = subst (λ (e : Event). CarriesOn v (observation_told t.now t.draw e report out'.bytes) v') same carries
 
       spelled : out'.bytes ≡ step.bytes
       spelled = ap (λ (d : Datagram). d.bytes) done.1
@@ -80,8 +80,8 @@ module _ {P W : Type 0} (gives : P → ℕ → Turn → P → Type 0) (takes : P
       sent : told report out'.bytes ≡ datagram_of step
       sent = ap (told report) spelled ∙ ap (λ (r : Report). told r step.bytes) done.0
 
-      entry : entry_told t.now t.draw t.event report out'.bytes ≡ entry_told t.now t.draw t.event step.report step.bytes
-      entry = ap (entry_told t.now t.draw t.event report) spelled ∙ ap (λ (r : Report). entry_told t.now t.draw t.event r step.bytes) done.0
+      entry : observation_told t.now t.draw t.event report out'.bytes ≡ observation_told t.now t.draw t.event step.report step.bytes
+      entry = ap (observation_told t.now t.draw t.event report) spelled ∙ ap (λ (r : Report). observation_told t.now t.draw t.event r step.bytes) done.0
 
       told-is : told_done t event report out'.bytes went v' ≡ told_done t t.event step.report step.bytes went step.state
       told-is =

@@ -4,7 +4,7 @@ use Rattle.std.specs.Prelude.{◌≡◌, ◌≤◌, ◌-◌, ◌&&◌, ℕ, min,
 use Rattle.coap_endpoint.specs.declared.endpoint.Endpoint.{Endpoint}
 use Rattle.coap_model.specs.Carries.{Carries}
 use Rattle.coap_model.specs.Events.{Event, arrival, tick}
-use Rattle.coap_model.specs.History.{Entry}
+use Rattle.coap_model.specs.History.{Observation}
 use Rattle.coap_model.specs.Runs.{Turn, Taken, Run, one_turn, step_taken}
 use Rattle.coap_model.specs.Step.{step_of}
 use Rattle.coap_model.specs.Ticks.{next_due}
@@ -63,7 +63,7 @@ abbrev pub run_by : Run → List Given → Run
 run_by r [] = r
 run_by r (g ∷ before) = run_given (run_by r before) g
 
-abbrev pub run_at : State → List Entry → Run
+abbrev pub run_at : State → List Observation → Run
 run_at w history = record { state = w; history = history }
 
 abbrev pub state_by : State → List Given → State
@@ -145,9 +145,9 @@ module _ {P : Type 0} (gives : P → ℕ → Turn → P → Type 0)
     pub asked : AreAsked w first givens
     pub lost : AreLostForMemory w givens
     pub state : v ≡ state_by w givens
-    pub carries : (history : List Entry) → Carries history w
+    pub carries : (history : List Observation) → Carries history w
         → Carries (run_by (run_at w history) givens).history v
-    pub word : (history : List Entry) → Carries history w
+    pub word : (history : List Observation) → Carries history w
         → KeepsItsWord (run_by (run_at w history) givens).history v
     pub counted : s ≡ stats_of w givens
 
@@ -187,7 +187,7 @@ module _ {P : Type 0} (gives : P → ℕ → Turn → P → Type 0)
     pub asked : given.wait ≡ wait_for came (clock p) (next_due v)
     pub lost : given.lost ≡ true → takes_some v given.turn ≡ true
     pub state : v' ≡ (run_given (run_at v []) given).state
-    pub carries : (history : List Entry) → Carries history v
+    pub carries : (history : List Observation) → Carries history v
         → Carries (run_given (run_at v history) given).history v'
     pub counted : s' ≡ with_turn given.lost (is_some (sent_at v given)) given.went s
     pub told : arrived ≡ is_arrival given.turn.event

@@ -1,8 +1,8 @@
 -- Settings and configurations of the examples.
 use Rattle.std.specs.Prelude.{List, false, None}
-use Rattle.coap_words.specs.Config.{Said}
-use Rattle.coap_words.specs.Texts.{Text}
-use Rattle.coap_words.specs.declared.settings.Settings.{Settings}
+use Rattle.coap_config.specs.Config.{Said}
+use Rattle.coap_config.specs.Texts.{Text}
+use Rattle.coap_config.specs.declared.settings.Settings.{Settings}
 use Rattle.coap_proxyd.specs.Planning.{no_config}
 
 -- no option is given

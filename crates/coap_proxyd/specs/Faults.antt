@@ -5,15 +5,15 @@ use Rattle.coap_port.specs.declared.error.DriveError.{DriveError}
 use Rattle.coap_port.specs.declared.error.DriveError.TheVariants as drive
 use Rattle.coap_uri.specs.declared.error.UriError.{UriError}
 use Rattle.coap_uri.specs.declared.error.UriError.TheVariants as uri
-use Rattle.coap_words.specs.ConfigView as config_text
-use Rattle.coap_words.specs.declared.config_error.ConfigError.{ConfigError}
-use Rattle.coap_words.specs.declared.config_error.ConfigError.TheVariants as config
-use Rattle.coap_words.specs.declared.error.MapOptionError.{MapOptionError}
-use Rattle.coap_words.specs.declared.error.MapOptionError.TheVariants as map
-use Rattle.coap_words.specs.declared.error.ProxyOptionError.{ProxyOptionError}
-use Rattle.coap_words.specs.declared.error.ProxyOptionError.TheVariants as proxy
-use Rattle.coap_words.specs.declared.settings.WordsError.{WordsError}
-use Rattle.coap_words.specs.declared.settings.WordsError.TheVariants as words
+use Rattle.coap_config.specs.ConfigView as config_text
+use Rattle.coap_config.specs.declared.config_error.ConfigError.{ConfigError}
+use Rattle.coap_config.specs.declared.config_error.ConfigError.TheVariants as config
+use Rattle.coap_config.specs.declared.error.MapOptionError.{MapOptionError}
+use Rattle.coap_config.specs.declared.error.MapOptionError.TheVariants as map
+use Rattle.coap_config.specs.declared.error.ProxyOptionError.{ProxyOptionError}
+use Rattle.coap_config.specs.declared.error.ProxyOptionError.TheVariants as proxy
+use Rattle.coap_config.specs.declared.settings.WordsError.{WordsError}
+use Rattle.coap_config.specs.declared.settings.WordsError.TheVariants as words
 use Rattle.coap_replay.specs.declared.error.ReplayError.{ReplayError}
 use Rattle.coap_replay.specs.declared.error.ReplayError.TheVariants as errors
 use Rattle.coap_proxyd.specs.declared.fault.Fault.{Fault}

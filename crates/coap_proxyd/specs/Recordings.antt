@@ -1,7 +1,7 @@
 -- Recordings of the program.
 use Rattle.std.specs.Prelude.{List, [], ◌∷◌, ◌++◌, codes, Option, Some, None, option_map, string_bytes}
-use Rattle.coap_words.specs.Texts.{Text}
-use Rattle.coap_words.specs.declared.settings.Settings.{Settings}
+use Rattle.coap_config.specs.Texts.{Text}
+use Rattle.coap_config.specs.declared.settings.Settings.{Settings}
 
 -- the word of an option, if it is given: its name, and its value right after it
 abbrev pub word_of : Text → Option Text → List Text

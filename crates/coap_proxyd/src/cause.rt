@@ -3,7 +3,7 @@
 use crate::fault::Fault;
 use crate::planning::default_config;
 use crate::route_causes::route_cause;
-use coap_words::{
+use coap_config::{
     Config, ConfigError, Settings, parse_map_option, parse_proxy_option, read_unchecked,
     syntax_flaw,
 };

@@ -10,7 +10,7 @@ ghost use Rattle.coap_proxyd.specs.declared.fault.Fault.TheVariants as faults;
 ghost use Rattle.coap_proxyd.specs.declared.planning.Plan.{Plan};
 ghost use Rattle.coap_target.specs.Examples.{loopback};
 ghost use Rattle.coap_uri.specs.declared.uri.HostPart.TheVariants.{Name};
-ghost use Rattle.coap_words.specs.declared.config_error.ConfigError.TheVariants as config_errors;
+ghost use Rattle.coap_config.specs.declared.config_error.ConfigError.TheVariants as config_errors;
 
 /// The exit status of each fault: 2 if the program was given input that it can't use, 1 if
 /// something kept it from its work.

@@ -1,12 +1,12 @@
 //! Faults of the program: its exit status and its text for each.
 ghost use Rattle.std.specs.Prelude.{◌≡◌, ◌≢◌, Some};
-ghost use Rattle.coap_words.specs.declared.config_error.ConfigError.TheVariants as errors;
+ghost use Rattle.coap_config.specs.declared.config_error.ConfigError.TheVariants as errors;
 ghost use Rattle.coap_proxyd.specs.Faults as spec;
 
+use coap_config::{ConfigError, MapOptionError, ProxyOptionError, WordsError};
 use coap_port::DriveError;
 use coap_replay::ReplayError;
 use coap_uri::UriError;
-use coap_words::{ConfigError, MapOptionError, ProxyOptionError, WordsError};
 use std::error::Error;
 use std::fmt;
 use std::marker::Model;
@@ -19,8 +19,8 @@ pub struct ConfigFault {
 
 impl Model for ConfigFault {
     ghost use Rattle.std.specs.Prelude.{◌≢◌};
-    ghost use Rattle.coap_words.specs.declared.config_error.ConfigError.{ConfigError};
-    ghost use Rattle.coap_words.specs.declared.config_error.ConfigError.TheVariants as errors;
+    ghost use Rattle.coap_config.specs.declared.config_error.ConfigError.{ConfigError};
+    ghost use Rattle.coap_config.specs.declared.config_error.ConfigError.TheVariants as errors;
 
     ghost Value = { ConfigError };
 

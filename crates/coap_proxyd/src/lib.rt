@@ -31,6 +31,10 @@ mod serving;
 mod words;
 
 pub use cause::cause_of;
+pub use coap_config::{
+    Config, ConfigError, KeyName, MapOptionError, ProxyOption, ProxyOptionError, Settings, VERSION,
+    WordsError, parse_map_option, parse_proxy_option, read_config, read_words,
+};
 pub use coap_core::{
     Code, Core, Counts, Datagram, Endpoint, Event, Ip, LimitError, LimitValues, Limits,
     OutOfMemory, Outcome, Report, RouteError, Routes, Store, Storing,
@@ -39,16 +43,12 @@ pub use coap_port::{
     DriveError, Handed, MemoryPort, Port, PortFault, Scripted, Seen, Stats, Turn, Unwatched, Watch,
     drive, drive_watched,
 };
-pub use coap_record::{HeaderError, Recording, Start, header_of, put_since};
+pub use coap_recording::{HeaderError, Recording, Start, header_of, put_since};
 pub use coap_replay::{Input, Output, ReplayError, replay};
 pub use coap_store_list::ListStore;
 pub use coap_store_lru::LruStore;
 pub use coap_udp::UdpPort;
 pub use coap_watch::Both;
-pub use coap_words::{
-    Config, ConfigError, KeyName, MapOptionError, ProxyOption, ProxyOptionError, Settings, VERSION,
-    WordsError, parse_map_option, parse_proxy_option, read_config, read_words,
-};
 pub use fault::{ConfigFault, Fault};
 pub use journal::Journal;
 pub use planning::{Plan, read_plan};

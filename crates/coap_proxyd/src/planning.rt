@@ -2,18 +2,18 @@
 ghost use Rattle.std.specs.Prelude.{◌≡◌, Ok, option_map, string_bytes};
 ghost use Rattle.coap_target.specs.RouteTexts.{pair_of};
 ghost use Rattle.coap_uri.specs.Answer.{Says};
-ghost use Rattle.coap_words.specs.ConfigView as view;
-ghost use Rattle.coap_words.specs.ProxyOption.{bytes_of};
+ghost use Rattle.coap_config.specs.ConfigView as view;
+ghost use Rattle.coap_config.specs.ProxyOption.{bytes_of};
 ghost use Rattle.coap_proxyd.specs.Words as words;
 ghost use Rattle.coap_proxyd.specs.Planning as spec;
 ghost use Rattle.coap_proxyd.specs.declared.fault.Fault.TheVariants as faults;
 
 use crate::fault::Fault;
 use crate::words::Wanted;
+use coap_config::{Config, parse_map_option, read_config};
 use coap_core::{LimitValues, Limits};
 use coap_endpoint::Endpoint;
 use coap_target::{RouteError, Routes};
-use coap_words::{Config, parse_map_option, read_config};
 use std::alloc::Global;
 
 /// What the program is to do.

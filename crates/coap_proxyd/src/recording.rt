@@ -2,7 +2,7 @@
 ghost use Rattle.std.specs.Prelude.{◌≡◌, ◌≤◌, ◌++◌, IfOk, OnOk, length, map, option_map, string_bytes};
 ghost use Rattle.coap_proxyd.specs.Recordings as spec;
 
-use coap_words::Settings;
+use coap_config::Settings;
 use std::alloc::{AllocError, Global};
 use std::fs::File;
 use std::io;

@@ -1,8 +1,8 @@
 //! Which text of a configuration the routes refuse, and why: `RouteError` doesn't say it.
 
+use coap_config::Config;
 use coap_target::{RouteError, Routes, is_name};
 use coap_uri::{UriError, read_address, split_uri};
-use coap_words::Config;
 use std::alloc::Global;
 use std::fmt;
 use std::slice::from_ref;

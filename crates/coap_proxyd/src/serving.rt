@@ -9,7 +9,7 @@ use crate::planning::Plan;
 use coap_core::{Core, Counts};
 use coap_message::OutOfMemory;
 use coap_port::{DriveError, Port, Stats, Unwatched, Watch, drive, drive_watched};
-use coap_record::Start;
+use coap_recording::Start;
 use coap_replay::{Budget, Input, Output, ReplayError, replay_watched};
 use coap_store::Store;
 use std::alloc::Global;

@@ -5,8 +5,8 @@ ghost use Rattle.coap_proxyd.specs.Words as spec;
 ghost use Rattle.coap_proxyd.specs.declared.fault.Fault.TheVariants as faults;
 
 use crate::fault::Fault;
+use coap_config::{Settings, parse_proxy_option, read_local_address, read_words};
 use coap_endpoint::{Endpoint, Ip};
-use coap_words::{Settings, parse_proxy_option, read_local_address, read_words};
 use std::alloc::Global;
 
 /// The port of `coap` (RFC 7252, 6.1).

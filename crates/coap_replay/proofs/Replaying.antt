@@ -4,7 +4,7 @@ use Rattle.std.specs.Prelude.{IfSome}
 use Rattle.std.specs.Io.KnownBytes.{Appends}
 use Rattle.std.proofs.KnownBytes.{Appends-trans}
 use Rattle.std.proofs.lemmas.List.{append-nil, length-append}
-use Rattle.coap_model.specs.History.{Entry}
+use Rattle.coap_model.specs.History.{Observation}
 use Rattle.coap_model.specs.State.{State}
 use Rattle.coap_model.specs.Events.{IsEvent}
 use Rattle.coap_model.specs.Carries.{Carries}
@@ -70,7 +70,7 @@ done-more w v ts t d may =
       word = λ history c. keeps-word (run_of (run_at w history) (ts ++ t ∷ [])).history (step_taken v t).state (carries are state history c);
     }
   where
-    carries : AreTurns w.last (turns_of (ts ++ t ∷ [])) → (step_taken v t).state ≡ state_after w (ts ++ t ∷ []) → (history : List Entry) → Carries history w → Carries (run_of (run_at w history) (ts ++ t ∷ [])).history (step_taken v t).state
+    carries : AreTurns w.last (turns_of (ts ++ t ∷ [])) → (step_taken v t).state ≡ state_after w (ts ++ t ∷ []) → (history : List Observation) → Carries history w → Carries (run_of (run_at w history) (ts ++ t ∷ [])).history (step_taken v t).state
     carries are state history c = subst (λ (u : State). Carries (run_of (run_at w history) (ts ++ t ∷ [])).history u) (run-apart (run_at w history) (run_at w []) (ts ++ t ∷ []) refl ∙ sym state) (runs_carry (run_at w history) (ts ++ t ∷ []) c are)
 
 -- ---- the state of a replay

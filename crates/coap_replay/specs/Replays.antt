@@ -4,7 +4,7 @@ use Rattle.std.specs.Prelude.{◌≡◌, ◌≢◌, ◌⊎◌, ℕ, ◌+◌, ◌
 use Rattle.std.specs.Io.KnownBytes.{Appends}
 use Rattle.coap_endpoint.specs.declared.endpoint.Endpoint.{Endpoint}
 use Rattle.coap_model.specs.State.{State}
-use Rattle.coap_model.specs.History.{Entry}
+use Rattle.coap_model.specs.History.{Observation}
 use Rattle.coap_model.specs.Events.{IsEvent}
 use Rattle.coap_model.specs.Carries.{Carries}
 use Rattle.coap_model.specs.Word.{KeepsItsWord}
@@ -37,7 +37,7 @@ output_of w (t ∷ turns) = line_sent w t ++ output_of (step_taken w t).state tu
 
 -- ---- what is done
 
-abbrev pub run_at : State → List Entry → Run
+abbrev pub run_at : State → List Observation → Run
 run_at w history = record { state = w; history = history }
 
 -- the tables after turns
@@ -49,9 +49,9 @@ state_after w turns = (run_of (run_at w []) turns).state
 pub record HasDone (w : State) (turns : List Taken) (v : State) : Type 0 where
   pub are : AreTurns w.last (turns_of turns)
   pub state : v ≡ state_after w turns
-  pub carries : (history : List Entry) → Carries history w
+  pub carries : (history : List Observation) → Carries history w
       → Carries (run_of (run_at w history) turns).history v
-  pub word : (history : List Entry) → Carries history w
+  pub word : (history : List Observation) → Carries history w
       → KeepsItsWord (run_of (run_at w history) turns).history v
 
 -- ---- what was asked for

@@ -204,7 +204,8 @@ fn put_first<H: BuildHasher + Copy>(
     requires unlimited { recent.old.cap ≡ 2 ^ 64 - 1 }
     ensures ok { OnOk result
         (recent.new
-        ≡ lru_cache ((entry.key, entry.stored) ∷ others entry_key entry.key recent.old.entries) recent.old.cap) }
+        ≡ lru_cache ((entry.key, entry.stored) ∷ others entry_key entry.key recent.old.entries)
+        recent.old.cap) }
     ensures err { OnErr result (recent.new ≡ recent.old) }
     ensures err_total { OnErr result (total.new ≡ total.old) }
     ensures err_new { OnErr result (of_key entry_key entry.key recent.old.entries ≡ None) }

@@ -18,7 +18,7 @@ fn main(rt: HostRuntime) -> anyhow::Result<()> {
     let limits = Limits::new(LimitValues {
         cache_bytes: 65_536,
         exchanges: 32,
-        ..LimitValues::per_client()
+        ..LimitValues::version_2()
     })?;
     let prefix = String::from_str(alloc, "/t")?;
     let origin = format!(in alloc; "coap://{}/temp", peers.device()?)?;

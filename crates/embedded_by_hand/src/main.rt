@@ -49,7 +49,7 @@ impl Proxy {
     fn new(alloc: Global) -> anyhow::Result<Proxy> {
         let limits = Limits::new(LimitValues {
             exchanges: 32,
-            ..LimitValues::per_client()
+            ..LimitValues::version_2()
         })?;
         let prefix = String::from_str(alloc, "/t")?;
         let origin = String::from_str(alloc, "coap://127.0.0.1:5690/temp")?;

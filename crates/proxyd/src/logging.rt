@@ -1,7 +1,7 @@
 //! What the program logs while it serves a socket: that it listens, and what goes wrong.
 
-use coap_account::Logger;
 use coap_core::LimitValues;
+use coap_explain::Logger;
 use coap_log::Line;
 use coap_proxyd::{Fault, Journal, Plan, VERSION};
 use std::io;

@@ -12,8 +12,8 @@ use crate::logging::{logger_of, tell_listening};
 use crate::recorded::{file_of, since_of};
 use crate::reporter::{Reporter, listen_text};
 use crate::stop::{Stop, ended, fault_of, words};
-use coap_account::Explainer;
 use coap_cache::LruStore;
+use coap_explain::Explainer;
 use coap_proxyd::{
     Both, Fault, Output, Plan, Port, Recording, Server, Start, read_plan, read_wanted,
 };

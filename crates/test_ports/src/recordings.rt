@@ -4,7 +4,7 @@ use coap_cache::ListStore;
 use coap_core::{Core, LimitValues, Limits};
 use coap_message::{OutOfMemory, Seq};
 use coap_proxyd::{DriveError, Input, MemoryPort, Output, Port, Scripted, Stats, drive, replay};
-use coap_record::Recording;
+use coap_recording::Recording;
 use coap_target::{Endpoint, Ip};
 use std::alloc::Global;
 use std::io;

@@ -1,15 +1,15 @@
 //! What is said of a run over a port, and of a recording of one: laws that fail without a clause of
-//! the definitions of `coap_port` and `coap_record`.
+//! the definitions of `coap_port` and `coap_recording`.
 ghost use Rattle.std.specs.Prelude.{◌≡◌, ◌≤◌, ◌+◌, [], ℕ, List, None, Ok, Option, Some, count_by, length};
 ghost use Rattle.std.specs.Io.KnownBytes.{Appends};
 ghost use Rattle.coap_model.specs.Carries.{Carries};
-ghost use Rattle.coap_model.specs.History.{Entry};
+ghost use Rattle.coap_model.specs.History.{Observation};
 ghost use Rattle.coap_model.specs.Runs.{run_of, turns_of};
 ghost use Rattle.coap_model.specs.State.{State};
 ghost use Rattle.coap_model.specs.Word.{KeepsItsWord};
 ghost use Rattle.coap_port.specs.Driven.{AreAsked, AreLostForMemory, Given, IsDriven, run_at, run_by, state_by};
 ghost use Rattle.coap_port.specs.declared.stats.Stats.{Stats};
-ghost use Rattle.coap_record.specs.Replayable.{IsReplayable, in_order, lines_handed, memory_of};
+ghost use Rattle.coap_recording.specs.Replayable.{IsReplayable, in_order, lines_handed, memory_of};
 ghost use Rattle.coap_replay.specs.Replays.{IsReplayed, script_for};
 ghost use Rattle.test_ports.specs.Computed.{was_lost};
 
@@ -36,11 +36,12 @@ pub fn runs_are_promised<P: Port>()
     ensures tables { (room first : ℕ) (w v : State) (p q : P) (s : Stats)
         (run : IsDriven (P.gives room) P.takes first w p v q s)
         → v ≡ state_by w run.givens }
-    ensures carries { (room first : ℕ) (w v : State) (p q : P) (s : Stats) (history : List Entry)
+    ensures carries { (room first : ℕ) (w v : State) (p q : P) (s : Stats)
+        (history : List Observation)
         (run : IsDriven (P.gives room) P.takes first w p v q s)
         → Carries history w
         → Carries (run_by (run_at w history) run.givens).history v }
-    ensures word { (room first : ℕ) (w v : State) (p q : P) (s : Stats) (history : List Entry)
+    ensures word { (room first : ℕ) (w v : State) (p q : P) (s : Stats) (history : List Observation)
         (run : IsDriven (P.gives room) P.takes first w p v q s)
         → Carries history w
         → KeepsItsWord (run_by (run_at w history) run.givens).history v }

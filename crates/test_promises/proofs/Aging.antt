@@ -25,7 +25,7 @@ use Rattle.coap_model.specs.OptionExamples.{key_of_temp}
 use Rattle.coap_model.specs.WordExamples.{asks_tagged, tagged_past, validated_past}
 use Rattle.coap_model.proofs.CacheExamples.{are-bytes, first_asks}
 use Rattle.coap_model.proofs.Changing.{newest-unchanged, one-getting}
-use Rattle.coap_model.proofs.Places.{here}
+use Rattle.coap_model.proofs.Positions.{here}
 use Rattle.test_promises.specs.Ages.{ageless, ageless_bytes, ageless_valid, ageless_valid_bytes, gets_ageless, gets_ageless_valid}
 use Rattle.test_promises.specs.Fetches.{get_past}
 use Rattle.test_promises.proofs.Arriving.{fetched-by, gets-by}

@@ -16,7 +16,7 @@ use Rattle.coap_model.specs.Cached.{entry_of_cached, first_hand, validated, IsOb
 use Rattle.coap_model.specs.CacheExamples.{asked_past, asks_again, first_entry, hit_past, hits, kept_past, opened_past, opens_again}
 use Rattle.coap_model.specs.Examples.{client}
 use Rattle.coap_model.specs.Forged.{asked, opened, setting}
-use Rattle.coap_model.specs.History.{IsPlaceOf, IsRequestOf, Place}
+use Rattle.coap_model.specs.History.{IsPositionOf, IsRequestOf, Position}
 use Rattle.coap_model.specs.Justified.{verdict_on, IsGet}
 use Rattle.coap_model.specs.Keys.{key_sent, target_sent}
 use Rattle.coap_model.specs.OptionExamples.{key_of_temp}
@@ -26,23 +26,23 @@ use Rattle.coap_model.specs.declared.report.Storing.TheVariants.{Kept}
 use Rattle.coap_model.proofs.CacheExamples.{are-bytes, first_gets}
 use Rattle.coap_model.proofs.Changing.{one-getting}
 use Rattle.coap_model.proofs.ForgingHits.{first_obtained, got-elsewhere, was_unchanged}
-use Rattle.coap_model.proofs.Places.{here, request-unique}
+use Rattle.coap_model.proofs.Positions.{here, request-unique}
 use Rattle.test_promises.specs.Replies.{accepting, accepting_bytes, key_accepting, key_of_part, part, part_bytes, put, put_bytes, replied_to, IsShownTo}
 
 -- ---- the only entry
 
 -- what was obtained with the first answer has the key of its request
-key-first : {key : CacheKey} {response : Message} {asking : Place} → IsObtained setting key response asking first_entry.getting → key ≡ key_of_temp
+key-first : {key : CacheKey} {response : Message} {asking : Position} → IsObtained setting key response asking first_entry.getting → key ≡ key_of_temp
 unfolding token_of target_options target_sent key_sent spelling option_spelling uint_spelling
 key-first (first_hand fetched is lasting) = sym fetched.asked_key ∙ (one-getting fetched.gets (first_gets Kept)).key
 key-first (validated fetched tag obtained behind tagged sent is renewal fit lasting) = sym fetched.asked_key ∙ (one-getting fetched.gets (first_gets Kept)).key
 
 -- nothing else was obtained before the reply
-key-obtained : {key : CacheKey} {response : Message} {asking getting : Place} → IsPlaceOf asked_past getting → IsObtained setting key response asking getting → key ≡ key_of_temp
+key-obtained : {key : CacheKey} {response : Message} {asking getting : Position} → IsPositionOf asked_past getting → IsObtained setting key response asking getting → key ≡ key_of_temp
 key-obtained (inl e) o = absurd (got-elsewhere (here opened_past asks_again) refl e o)
 key-obtained (inr (inl e)) o = absurd (got-elsewhere (here hit_past opens_again) refl e o)
 key-obtained (inr (inr (inl e))) o = absurd (got-elsewhere (here kept_past hits) refl e o)
-key-obtained {key} {response} {asking} {getting} (inr (inr (inr (inl e)))) o = key-first (subst (λ (q : Place). IsObtained setting key response asking q) (sym e) o)
+key-obtained {key} {response} {asking} {getting} (inr (inr (inr (inl e)))) o = key-first (subst (λ (q : Position). IsObtained setting key response asking q) (sym e) o)
 key-obtained (inr (inr (inr (inr (inl e))))) o = absurd (got-elsewhere (here (opened ∷ []) asked) refl e o)
 key-obtained (inr (inr (inr (inr (inr (inl e)))))) o = absurd (got-elsewhere (here [] opened) refl e o)
 key-obtained (inr (inr (inr (inr (inr (inr none)))))) o = absurd none

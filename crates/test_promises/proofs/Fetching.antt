@@ -16,7 +16,7 @@ use Rattle.coap_model.specs.Changed.{to_get, Changes, Unchanged, WasChanged}
 use Rattle.coap_model.specs.Examples.{origin}
 use Rattle.coap_model.specs.Forged.{asked, opened, setting}
 use Rattle.coap_model.specs.ForgedHits.{change, change_told, changed_message, keeps_overtaken, overtaken_past}
-use Rattle.coap_model.specs.History.{Asks, Gets, Never, Place, Sends}
+use Rattle.coap_model.specs.History.{Asks, Gets, Never, Position, Sends}
 use Rattle.coap_model.specs.Keys.{key_sent, target_sent}
 use Rattle.coap_model.specs.LimitExamples as limited
 use Rattle.coap_model.specs.OptionExamples.{key_of_temp}
@@ -24,7 +24,7 @@ use Rattle.coap_model.specs.declared.report.Storing.TheVariants.{Kept}
 use Rattle.coap_model.proofs.CacheExamples.{are-bytes, content_gets, first_asks, first_gets, first_got, second_sent, unsent}
 use Rattle.coap_model.proofs.Changing.{newest-unchanged, one-getting, told-contrary, told-stays}
 use Rattle.coap_model.proofs.ForgingHits.{early_unsent}
-use Rattle.coap_model.proofs.Places.{here}
+use Rattle.coap_model.proofs.Positions.{here}
 use Rattle.test_promises.specs.Fetches.{asks_put, error, error_bytes, get_past, gets_error, opens_put, put_past, put_sent, put_sent_bytes, quiet_past, IsAnswerTo}
 use Rattle.test_promises.specs.Replies.{key_accepting, key_of_part}
 use Rattle.test_promises.proofs.Arriving.{fetched-by, gets-by}
@@ -49,7 +49,7 @@ pub still_unchanged : (key : CacheKey) → Unchanged setting key.target first_en
 still_unchanged key = newest-unchanged setting key.target (opened ∷ []) asked refl
 
 -- an answer is fetched if the two words that are left hold
-pub fetched-whole : (key : CacheKey) (asking getting : Place) (answer : IsAnswerTo key asking getting) → to_get answer.gets ≡ true → Unchanged setting key.target asking getting.before → IsFetched setting key asking getting
+pub fetched-whole : (key : CacheKey) (asking getting : Position) (answer : IsAnswerTo key asking getting) → to_get answer.gets ≡ true → Unchanged setting key.target asking getting.before → IsFetched setting key asking getting
 fetched-whole key asking getting answer get unchanged = record { exchange = answer.exchange; gets = answer.gets; asking_is = answer.asking_is; method = get; asked_key = answer.asked_key; passed = answer.passed; unchanged = unchanged }
 
 -- ---- methods
@@ -128,7 +128,7 @@ changed-there = record {
 
 -- so it was changed since the first request was sent
 overtaken : WasChanged setting key_of_temp.target (here (opened ∷ []) asked) overtaken_past
-overtaken = record { place = here quiet_past change; is_there = inl refl; holds = (changed-there, omega arith) }
+overtaken = record { position = here quiet_past change; is_there = inl refl; holds = (changed-there, omega arith) }
 
 -- and the answer to that request wasn't fetched
 pub not_overtaken : ¬ IsFetched setting key_of_temp (here (opened ∷ []) asked) (here overtaken_past keeps_overtaken)
@@ -158,12 +158,13 @@ quiet_fetched =
     (told-stays false setting key_of_temp.target (here (opened ∷ []) asked) (opens_again ∷ asked ∷ opened ∷ []) asks_again refl
     (told-stays false setting key_of_temp.target (here (opened ∷ []) asked) (asked ∷ opened ∷ []) opens_again refl (newest-unchanged setting key_of_temp.target (opened ∷ []) asked refl)))
 
--- ---- places
+-- ---- positions
 
--- what was fetched since the place where its request was sent wasn't fetched since an earlier one
+-- what was fetched since the position where its request was sent wasn't fetched since an earlier
+-- one
 pub not_since : ¬ IsFetched setting key_of_temp (here [] opened) first_entry.getting
 not_since f =
-    let one : 0 ≡ 1 = ap (λ (p : Place). length p.before) (sym f.asking_is ∙ (one-getting f.gets (first_gets Kept)).asking) in
+    let one : 0 ≡ 1 = ap (λ (p : Position). length p.before) (sym f.asking_is ∙ (one-getting f.gets (first_gets Kept)).asking) in
     omega (arith, one)
 
 -- though the target wasn't changed since then

@@ -18,42 +18,42 @@ use Rattle.coap_model.specs.Duplicates.{Repeats}
 use Rattle.coap_model.specs.Examples.{client}
 use Rattle.coap_model.specs.Forged.{opened_con, setting}
 use Rattle.coap_model.specs.ForgedHits.{reply}
-use Rattle.coap_model.specs.History.{Deed, Entry, IsPlaceOf, Place, told_by}
+use Rattle.coap_model.specs.History.{Action, Observation, IsPositionOf, Position, told_by}
 use Rattle.coap_model.specs.Justified.{Comes}
 use Rattle.coap_model.specs.Setting.{Setting}
 use Rattle.coap_model.specs.State.{State}
 use Rattle.coap_model.specs.Word.{IsCacheWithin, IsWithin, IsFromCache, IsToldAgain, KeepsItsWord}
 use Rattle.coap_model.specs.WordExamples.{again, con_read}
 use Rattle.coap_model.proofs.CacheExamples.{are-bytes}
-use Rattle.coap_model.proofs.Places.{here}
+use Rattle.coap_model.proofs.Positions.{here}
 use Rattle.test_promises.specs.Promises.{acknowledges_another, begins_with_a_hit, only_a_hit, IsOtherwiseWithin}
 
--- one of the entries of a history
-abbrev nth : ℕ → List Entry → Entry
-nth n es = get_or es n opened_con.entry
+-- one of the observations of a history
+abbrev nth : ℕ → List Observation → Observation
+nth n es = get_or es n opened_con.observation
 
 -- a history doesn't begin with a reply from the cache
 pub no_hit : (w : State) → ¬ KeepsItsWord begins_with_a_hit w
-no_hit w word = go word.deeds word.told word.from_cache
+no_hit w word = go word.actions word.told word.from_cache
   where
-    go : (deeds : List Deed) → told_by deeds ≡ begins_with_a_hit → ((p : Place) → IsPlaceOf deeds p → p.deed.entry.report.outcome ≡ Hit → IsFromCache w.setting p.before p.deed.entry) → ⊥
-    go [] told hits = absurd (let few = ap (λ (es : List Entry). length es) told in omega (arith, few))
+    go : (actions : List Action) → told_by actions ≡ begins_with_a_hit → ((p : Position) → IsPositionOf actions p → p.action.observation.report.outcome ≡ Hit → IsFromCache w.setting p.before p.action.observation) → ⊥
+    go [] told hits = absurd (let few = ap (λ (es : List Observation). length es) told in omega (arith, few))
     go (d ∷ []) told hits =
-        let hit : d.entry.report.outcome ≡ Hit = ap (λ (es : List Entry). (nth 0 es).report.outcome) told in
+        let hit : d.observation.report.outcome ≡ Hit = ap (λ (es : List Observation). (nth 0 es).report.outcome) told in
         (hits (here [] d) (inl refl) hit).received.was_got
-    go (d ∷ e ∷ more) told hits = absurd (let few = ap (λ (es : List Entry). length es) told in omega (arith, few))
+    go (d ∷ e ∷ more) told hits = absurd (let few = ap (λ (es : List Observation). length es) told in omega (arith, few))
 
 -- the Confirmable request arrives
 con_spelled : Spells (0x40 ∷ 1 ∷ 0 ∷ 7 ∷ 0xB1 ∷ 0x74 ∷ []) con_read
 unfolding read_message body_at options_within option_at extended
 con_spelled = read_is (0x40 ∷ 1 ∷ 0 ∷ 7 ∷ 0xB1 ∷ 0x74 ∷ []) con_read (are-bytes (0x40 ∷ 1 ∷ 0 ∷ 7 ∷ 0xB1 ∷ 0x74 ∷ []) refl) refl
 
-con_comes : (chosen : Setting) → 6 ≤ chosen.limits.datagram → Comes chosen (client 1) con_read opened_con.entry.event
+con_comes : (chosen : Setting) → 6 ≤ chosen.limits.datagram → Comes chosen (client 1) con_read opened_con.observation.event
 con_comes chosen long = record { brings = record { bytes = 0x40 ∷ 1 ∷ 0 ∷ 7 ∷ 0xB1 ∷ 0x74 ∷ []; came = refl; spells = con_spelled; short = long }; recorded = refl }
 
 -- the one after half a second repeats it
-con_repeats : (d : Deed) → d.entry ≡ opened_con.entry → Repeats 500 (client 1) con_read (here [] d)
-con_repeats d is = subst (λ (e : Entry). Repeats 500 (client 1) con_read (here [] (record { entry = e; act = d.act }))) (sym is) (record {
+con_repeats : (d : Action) → d.observation ≡ opened_con.observation → Repeats 500 (client 1) con_read (here [] d)
+con_repeats d is = subst (λ (e : Observation). Repeats 500 (client 1) con_read (here [] (record { observation = e; act = d.act }))) (sym is) (record {
   bytes = 0x40 ∷ 1 ∷ 0 ∷ 7 ∷ 0xB1 ∷ 0x74 ∷ [];
   former = record { kind = Con; code = con_read.code; id = 7 };
   came = refl;
@@ -66,20 +66,20 @@ con_repeats d is = subst (λ (e : Entry). Repeats 500 (client 1) con_read (here 
 
 -- and gets an acknowledgement with the id 7
 pub no_other_acknowledgement : (w : State) → 6 ≤ w.setting.limits.datagram → ¬ KeepsItsWord acknowledges_another w
-no_other_acknowledgement w long word = go word.deeds word.told word.duplicates
+no_other_acknowledgement w long word = go word.actions word.told word.duplicates
   where
-    go : (deeds : List Deed) → told_by deeds ≡ acknowledges_another → ((p former : Place) (source : Endpoint) (m : Message) → IsPlaceOf deeds p → IsPlaceOf p.before former → Comes w.setting source m p.deed.entry.event → Repeats p.deed.entry.now source m former → IsToldAgain source m former p.deed.entry) → ⊥
-    go [] told duplicates = absurd (let few = ap (λ (es : List Entry). length es) told in omega (arith, few))
-    go (d ∷ []) told duplicates = absurd (let few = ap (λ (es : List Entry). length es) told in omega (arith, few))
+    go : (actions : List Action) → told_by actions ≡ acknowledges_another → ((p former : Position) (source : Endpoint) (m : Message) → IsPositionOf actions p → IsPositionOf p.before former → Comes w.setting source m p.action.observation.event → Repeats p.action.observation.now source m former → IsToldAgain source m former p.action.observation) → ⊥
+    go [] told duplicates = absurd (let few = ap (λ (es : List Observation). length es) told in omega (arith, few))
+    go (d ∷ []) told duplicates = absurd (let few = ap (λ (es : List Observation). length es) told in omega (arith, few))
     go (d ∷ e ∷ []) told duplicates =
-        let later : d.entry ≡ again (Some (client 1)) (0x60 ∷ 0 ∷ 0 ∷ 8 ∷ []) = ap (nth 0) told in
-        let first : e.entry ≡ opened_con.entry = ap (nth 1) told in
-        let comes : Comes w.setting (client 1) con_read d.entry.event = subst (λ (x : Entry). Comes w.setting (client 1) con_read x.event) (sym later) (con_comes w.setting long) in
-        let repeats : Repeats d.entry.now (client 1) con_read (here [] e) = subst (λ (x : Entry). Repeats x.now (client 1) con_read (here [] e)) (sym later) (con_repeats e first) in
+        let later : d.observation ≡ again (Some (client 1)) (0x60 ∷ 0 ∷ 0 ∷ 8 ∷ []) = ap (nth 0) told in
+        let first : e.observation ≡ opened_con.observation = ap (nth 1) told in
+        let comes : Comes w.setting (client 1) con_read d.observation.event = subst (λ (x : Observation). Comes w.setting (client 1) con_read x.event) (sym later) (con_comes w.setting long) in
+        let repeats : Repeats d.observation.now (client 1) con_read (here [] e) = subst (λ (x : Observation). Repeats x.now (client 1) con_read (here [] e)) (sym later) (con_repeats e first) in
         let told_again = (duplicates (here (e ∷ []) d) (here [] e) (client 1) con_read (inl refl) (inl refl) comes repeats).again in
-        let id : 8 ≡ 7 = sym (ap (λ (x : Entry). get_or x.bytes 3 0) later) ∙ ap (λ (l : List ℕ). get_or l 3 0) told_again.1 ∙ ap (λ (x : Entry). get_or x.bytes 3 0) first in
+        let id : 8 ≡ 7 = sym (ap (λ (x : Observation). get_or x.bytes 3 0) later) ∙ ap (λ (l : List ℕ). get_or l 3 0) told_again.1 ∙ ap (λ (x : Observation). get_or x.bytes 3 0) first in
         omega (arith, id)
-    go (d ∷ e ∷ f ∷ more) told duplicates = absurd (let few = ap (λ (es : List Entry). length es) told in omega (arith, few))
+    go (d ∷ e ∷ f ∷ more) told duplicates = absurd (let few = ap (λ (es : List Observation). length es) told in omega (arith, few))
 
 -- ---- a history without a cache
 
@@ -116,7 +116,7 @@ otherwise_within = record {
     one-from x false = omega arith
 
 -- which are all that a cache within its limits leaves
-pub within-whole : (history : List Deed) → IsOtherwiseWithin history → IsCacheWithin setting history → IsWithin setting history
+pub within-whole : (history : List Action) → IsOtherwiseWithin history → IsCacheWithin setting history → IsWithin setting history
 within-whole history is cache = record {
   exchanges = is.exchanges;
   waiters = is.waiters;

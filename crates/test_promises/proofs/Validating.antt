@@ -22,14 +22,14 @@ use Rattle.coap_model.specs.Cached.{first_hand, validated, IsFetched, IsLasting,
 use Rattle.coap_model.specs.CacheExamples.{opens_again}
 use Rattle.coap_model.specs.Examples.{origin}
 use Rattle.coap_model.specs.Forged.{asked, opened, setting}
-use Rattle.coap_model.specs.History.{Asks, Deed, Gets, Never, Place, Sends}
+use Rattle.coap_model.specs.History.{Asks, Action, Gets, Never, Position, Sends}
 use Rattle.coap_model.specs.Keys.{key_sent, target_sent}
 use Rattle.coap_model.specs.OptionExamples.{key_of_temp}
 use Rattle.coap_model.specs.WordExamples.{asks_tagged, gets_tagged, gets_valid, setting_with, tagged_bytes, tagged_content, tagged_get, tagged_get_bytes, tagged_past, valid_bytes, valid_message, validated_past}
 use Rattle.coap_model.proofs.CacheExamples.{are-bytes, first_asks, unsent}
 use Rattle.coap_model.proofs.Changing.{newest-unchanged, one-getting}
 use Rattle.coap_model.proofs.ForgingHits.{early_unsent}
-use Rattle.coap_model.proofs.Places.{here}
+use Rattle.coap_model.proofs.Positions.{here}
 use Rattle.test_promises.specs.Validations.{asks_other, format_valid, format_valid_bytes, gets_format_valid, gets_other_valid, limits_of, other_get, other_get_bytes, other_past, other_valid, other_valid_bytes, renewed_by, tags_asked, IsAsked}
 use Rattle.test_promises.proofs.Arriving.{fetched-by, gets-by}
 
@@ -97,7 +97,7 @@ tagged_obtained limits long passed =
 -- ---- renewals
 
 -- the cached response is renewed by a message that arrives so, if the words that are left hold
-pub renewal-whole : (limits : Limits) (asking getting : Place) (m : Message) (is : IsAsked limits asking getting m) → tags_asked is ≡ (0xAB ∷ []) ∷ [] → is_validated tagged_content (taken_of true m) ≡ true → fits limits.datagram (renewed_by m) ≡ true → IsLasting (renewed_by m)
+pub renewal-whole : (limits : Limits) (asking getting : Position) (m : Message) (is : IsAsked limits asking getting m) → tags_asked is ≡ (0xAB ∷ []) ∷ [] → is_validated tagged_content (taken_of true m) ≡ true → fits limits.datagram (renewed_by m) ≡ true → IsLasting (renewed_by m)
     → IsObtained (setting_with limits) key_of_temp (renewed_by m) asking getting
 renewal-whole limits asking getting m is tags valid fit lasting =
     validated is.fetched (0xAB ∷ []) is.obtained is.behind refl tags
@@ -112,7 +112,7 @@ abbrev other_valid_gets : Gets setting 2 (here validated_past gets_other_valid)
 other_valid_gets = gets-by default_limits validated_past gets_other_valid 2 other_valid_bytes other_valid (here tagged_past asks_tagged) refl refl refl (inl refl) tagged_asks refl refl refl refl refl (are-bytes other_valid_bytes refl) other_valid_spelled (omega arith)
 
 -- a 2.03 alone isn't a response that may be kept
-not-alone : {limits : Limits} {key : CacheKey} {response m : Message} {asking : Place} {past : List Deed} {d : Deed} (gets : Gets (setting_with limits) 2 (here past d)) → m.code ≡ VALID → gets.meets.message ≡ m → (fetched : IsFetched (setting_with limits) key asking (here past d)) → response ≡ taken_of true fetched.gets.meets.message → IsLasting response → ⊥
+not-alone : {limits : Limits} {key : CacheKey} {response m : Message} {asking : Position} {past : List Action} {d : Action} (gets : Gets (setting_with limits) 2 (here past d)) → m.code ≡ VALID → gets.meets.message ≡ m → (fetched : IsFetched (setting_with limits) key asking (here past d)) → response ≡ taken_of true fetched.gets.meets.message → IsLasting response → ⊥
 not-alone {response = response} {m = m} gets code same fetched is lasting =
     let taken : response.code ≡ VALID = ap (λ (n : Message). n.code) is ∙ ap (λ (n : Message). (taken_of true n).code) ((one-getting fetched.gets gets).message ∙ same) ∙ taken-code m code in
     let none : tells_age response.code ≡ false = ap tells_age taken in

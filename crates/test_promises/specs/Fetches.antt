@@ -14,7 +14,7 @@ use Rattle.coap_model.specs.Changed.{key_asked}
 use Rattle.coap_model.specs.Events.{arrival}
 use Rattle.coap_model.specs.Examples.{answer, client}
 use Rattle.coap_model.specs.Forged.{asked, opened, setting}
-use Rattle.coap_model.specs.History.{Deed, Gets, Place}
+use Rattle.coap_model.specs.History.{Action, Gets, Position}
 use Rattle.coap_model.specs.WordExamples.{answers}
 use Rattle.test_promises.specs.Replies.{put_bytes}
 
@@ -35,11 +35,11 @@ error =
       payload = [];
     }
 
-abbrev pub gets_error : Deed
+abbrev pub gets_error : Action
 gets_error = answers 5 1 error_bytes
 
 -- it answers a GET
-abbrev pub get_past : List Deed
+abbrev pub get_past : List Action
 get_past = asked ∷ opened ∷ []
 
 -- or a PUT that is forwarded in place of it
@@ -58,27 +58,30 @@ put_sent =
       payload = [];
     }
 
-abbrev pub opens_put : Deed
+abbrev pub opens_put : Action
 opens_put =
-    record opened { entry = record opened.entry { event = arrival (client 1) put_bytes } }
+    record opened {
+      observation = record opened.observation
+          { event = arrival (client 1) put_bytes };
+    }
 
-abbrev pub asks_put : Deed
-asks_put = record asked { entry = record asked.entry { bytes = put_sent_bytes } }
+abbrev pub asks_put : Action
+asks_put = record asked { observation = record asked.observation { bytes = put_sent_bytes } }
 
-abbrev pub put_past : List Deed
+abbrev pub put_past : List Action
 put_past = asks_put ∷ opens_put ∷ []
 
 -- ---- a response that a change overtook
 
 -- the history of such a response, without the change
-abbrev pub quiet_past : List Deed
+abbrev pub quiet_past : List Action
 quiet_past = asks_again ∷ opens_again ∷ asked ∷ opened ∷ []
 
 -- ---- responses that may be passed on
 
 -- What makes a response a fetched one, but for two words: that its request was a GET, and that the
--- target wasn't changed. It arrived for a request that was sent with this key at this place.
-pub record IsAnswerTo (key : CacheKey) (asking getting : Place) : Type 0 where
+-- target wasn't changed. It arrived for a request that was sent with this key at this position.
+pub record IsAnswerTo (key : CacheKey) (asking getting : Position) : Type 0 where
   pub exchange : ℕ
   pub gets : Gets setting exchange getting
   pub asking_is : gets.meets.asking ≡ asking

@@ -16,15 +16,15 @@ use Rattle.coap_model.specs.Events.{arrival}
 use Rattle.coap_model.specs.Examples.{client, get_t}
 use Rattle.coap_model.specs.Forged.{setting}
 use Rattle.coap_model.specs.ForgedHits.{reply}
-use Rattle.coap_model.specs.History.{Entry, IsRequestOf}
+use Rattle.coap_model.specs.History.{Observation, IsRequestOf}
 use Rattle.coap_model.specs.Justified.{verdict_on, IsUsable, Tells}
 use Rattle.coap_model.specs.OptionExamples.{key_of_temp}
 use Rattle.coap_model.specs.Verdicts.{may_ask}
 
 -- the reply with the first answer, and with nine seconds of its Max-Age, to a request with these
 -- bytes
-abbrev pub replied_to : List ℕ → Entry
-replied_to bytes = record (reply 25 9).entry { event = arrival (client 4) bytes }
+abbrev pub replied_to : List ℕ → Observation
+replied_to bytes = record (reply 25 9).observation { event = arrival (client 4) bytes }
 
 -- the GET that it answers
 abbrev pub get_bytes : List ℕ

@@ -14,7 +14,7 @@ use Rattle.coap_model.specs.Cached.{IsFetched, IsObtained}
 use Rattle.coap_model.specs.Changed.{asked_of}
 use Rattle.coap_model.specs.Examples.{answer, bare_get}
 use Rattle.coap_model.specs.Forged.{asked, opened}
-use Rattle.coap_model.specs.History.{Deed, IsPlaceOf, Place}
+use Rattle.coap_model.specs.History.{Action, IsPositionOf, Position}
 use Rattle.coap_model.specs.OptionExamples.{key_of_temp}
 use Rattle.coap_model.specs.WordExamples.{answers, asks_tagged, at, gets_tagged, setting_with, tagged_content, tagged_past, valid_message}
 
@@ -30,7 +30,7 @@ other_valid =
       options = option_of ETAG (0xCD ∷ []) ∷ option_of MAX_AGE (20 ∷ []) ∷ [];
     }
 
-abbrev pub gets_other_valid : Deed
+abbrev pub gets_other_valid : Action
 gets_other_valid = answers 20 2 other_valid_bytes
 
 -- the request has the ETag CD, in place of the AB of what is cached and of the 2.03
@@ -42,10 +42,11 @@ other_get_bytes =
 abbrev pub other_get : Message
 other_get = forwarded (token_of 0 2) key_of_temp.target (Some (0xCD ∷ [])) bare_get 3
 
-abbrev pub asks_other : Deed
-asks_other = record asks_tagged { entry = record asks_tagged.entry { bytes = other_get_bytes } }
+abbrev pub asks_other : Action
+asks_other = record asks_tagged
+    { observation = record asks_tagged.observation { bytes = other_get_bytes } }
 
-abbrev pub other_past : List Deed
+abbrev pub other_past : List Action
 other_past = asks_other ∷ tagged_past
 
 -- ---- length
@@ -63,7 +64,7 @@ format_valid =
           ∷ option_of MAX_AGE (20 ∷ []) ∷ [];
     }
 
-abbrev pub gets_format_valid : Deed
+abbrev pub gets_format_valid : Action
 gets_format_valid = answers 20 2 format_valid_bytes
 
 -- with this limit of datagrams
@@ -74,16 +75,16 @@ limits_of datagram = record default_limits { datagram = datagram }
 
 -- What makes a message renew the response with the tag AB, but for words about tags, length and
 -- age: it arrived for a GET with the key, which was sent after that response was obtained.
-pub record IsAsked (limits : Limits) (asking getting : Place) (m : Message) : Type 0 where
+pub record IsAsked (limits : Limits) (asking getting : Position) (m : Message) : Type 0 where
   pub fetched : IsFetched (setting_with limits) key_of_temp asking getting
   pub message : fetched.gets.meets.message ≡ m
   pub obtained :
       IsObtained (setting_with limits) key_of_temp tagged_content
       (at (opened ∷ []) asked) (at (asked ∷ opened ∷ []) gets_tagged)
-  pub behind : IsPlaceOf asking.before (at (asked ∷ opened ∷ []) gets_tagged)
+  pub behind : IsPositionOf asking.before (at (asked ∷ opened ∷ []) gets_tagged)
 
 -- the tags of that GET
-abbrev pub tags_asked : {limits : Limits} {asking getting : Place} {m : Message}
+abbrev pub tags_asked : {limits : Limits} {asking getting : Position} {m : Message}
     → IsAsked limits asking getting m → List (List ℕ)
 tags_asked is = tags_of (asked_of is.fetched.gets)
 

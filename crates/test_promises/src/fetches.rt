@@ -6,7 +6,7 @@ ghost use Rattle.coap_model.specs.CacheExamples.{first_entry};
 ghost use Rattle.coap_model.specs.Changed.{to_get, Unchanged};
 ghost use Rattle.coap_model.specs.Forged.{asked, opened, setting};
 ghost use Rattle.coap_model.specs.ForgedHits.{keeps_overtaken, overtaken_past};
-ghost use Rattle.coap_model.specs.History.{Place};
+ghost use Rattle.coap_model.specs.History.{Position};
 ghost use Rattle.coap_model.specs.OptionExamples.{key_of_temp};
 ghost use Rattle.coap_model.specs.WordExamples.{at};
 ghost use Rattle.test_promises.specs.Fetches.{asks_put, get_past, gets_error, opens_put, put_past, quiet_past, IsAnswerTo};
@@ -15,7 +15,7 @@ ghost use Rattle.test_promises.specs.Replies.{key_accepting, key_of_part};
 /// An answer is fetched if its request was a GET, and if the target wasn't changed since that was
 /// sent (RFC 7252, 5.6 and 5.9.1.4).
 pub fn answers_to_a_get_of_an_unchanged_target_are_fetched()
-    ensures whole { (key : CacheKey) (asking getting : Place)
+    ensures whole { (key : CacheKey) (asking getting : Position)
         (answer : IsAnswerTo key asking getting)
         → to_get answer.gets ≡ true
         → Unchanged setting key.target asking getting.before
@@ -57,11 +57,11 @@ pub fn fetches_that_a_change_overtook_are_refused()
         × (to_get answer.gets ≡ true) }
 {}
 
-/// A response is fetched since the place where its request was sent, and not since an earlier one,
-/// although its target wasn't changed since then either.
-pub fn fetches_since_another_place_are_refused()
-    ensures its_place { IsFetched setting key_of_temp first_entry.asking first_entry.getting }
+/// A response is fetched since the position where its request was sent, and not since an earlier
+/// one, although its target wasn't changed since then either.
+pub fn fetches_since_another_position_are_refused()
+    ensures its_position { IsFetched setting key_of_temp first_entry.asking first_entry.getting }
     ensures another { ¬ IsFetched setting key_of_temp (at [] opened) first_entry.getting }
-    ensures but_for_the_place { Unchanged setting key_of_temp.target
+    ensures but_for_the_position { Unchanged setting key_of_temp.target
         (at [] opened) first_entry.getting.before }
 {}

@@ -4,7 +4,7 @@ ghost use Rattle.coap_message.specs.Message.{Message};
 ghost use Rattle.coap_endpoint.specs.declared.endpoint.Endpoint.{Endpoint};
 ghost use Rattle.coap_limits.specs.Limits.{default_limits};
 ghost use Rattle.coap_model.specs.declared.report.Outcome.TheVariants.{NoRecordRoom, Overloaded};
-ghost use Rattle.coap_model.specs.History.{Entry, IsPlaceOf, IsRequestOf, Place};
+ghost use Rattle.coap_model.specs.History.{Observation, IsPositionOf, IsRequestOf, Position};
 ghost use Rattle.coap_model.specs.Justified.{Comes, HasOwnRecordRoom};
 ghost use Rattle.coap_model.specs.Shares.{AreFrom, AreShares, IsFullOf, IsShort, LeavesRoom};
 ghost use Rattle.coap_model.specs.Standing.{HasIds, HasOwnRoomToOpen};
@@ -60,38 +60,40 @@ pub fn shares_are_added_up_exactly()
 /// For a proxy that leaves room to each client: a message of an endpoint below its own limit is
 /// dropped only if all endpoints together reach theirs, and a request is turned away only if room
 /// is short; where few endpoints have sent anything, neither happens for want of shared room.
-pub fn room_is_left_at_each_place()
-    ensures remembered { (history : List Entry) (w : State) (left : LeavesRoom history w)
-        (p : Place) (source : Endpoint) (m : Message)
-        → IsPlaceOf left.deeds p
-        → Comes w.setting source m p.deed.entry.event
-        → HasOwnRecordRoom w.setting p.before p.deed.entry.now source m
-        → p.deed.entry.report.outcome ≡ NoRecordRoom
-        → IsFullOf w.setting.limits m p.deed.entry.now p.before }
-    ensures served { (history : List Entry) (w : State) (left : LeavesRoom history w)
-        (p : Place) (client : Endpoint) (request : Message)
-        → IsPlaceOf left.deeds p
-        → IsRequestOf w.setting client request p.deed.entry.event
+pub fn room_is_left_at_each_position()
+    ensures remembered { (history : List Observation) (w : State) (left : LeavesRoom history w)
+        (p : Position) (source : Endpoint) (m : Message)
+        → IsPositionOf left.actions p
+        → Comes w.setting source m p.action.observation.event
+        → HasOwnRecordRoom w.setting p.before p.action.observation.now source m
+        → p.action.observation.report.outcome ≡ NoRecordRoom
+        → IsFullOf w.setting.limits m p.action.observation.now p.before }
+    ensures served { (history : List Observation) (w : State) (left : LeavesRoom history w)
+        (p : Position) (client : Endpoint) (request : Message)
+        → IsPositionOf left.actions p
+        → IsRequestOf w.setting client request p.action.observation.event
         → HasOwnRoomToOpen w.setting.limits client p.before
-        → p.deed.entry.report.outcome ≡ Overloaded
-        → IsShort w.setting.limits p.deed.entry.now p.before }
-    ensures remembered_of_few { (history : List Entry) (w : State) (left : LeavesRoom history w)
-        (many : ℕ) (endpoints : List Endpoint) (p : Place) (source : Endpoint) (m : Message)
+        → p.action.observation.report.outcome ≡ Overloaded
+        → IsShort w.setting.limits p.action.observation.now p.before }
+    ensures remembered_of_few { (history : List Observation) (w : State)
+        (left : LeavesRoom history w)
+        (many : ℕ) (endpoints : List Endpoint) (p : Position) (source : Endpoint) (m : Message)
         → length endpoints ≤ many
         → AreShares w.setting.limits many
-        → IsPlaceOf left.deeds p
+        → IsPositionOf left.actions p
         → AreFrom endpoints (until p)
-        → Comes w.setting source m p.deed.entry.event
-        → HasOwnRecordRoom w.setting p.before p.deed.entry.now source m
-        → p.deed.entry.report.outcome ≢ NoRecordRoom }
-    ensures served_of_few { (history : List Entry) (w : State) (left : LeavesRoom history w)
-        (many : ℕ) (endpoints : List Endpoint) (p : Place) (client : Endpoint) (request : Message)
+        → Comes w.setting source m p.action.observation.event
+        → HasOwnRecordRoom w.setting p.before p.action.observation.now source m
+        → p.action.observation.report.outcome ≢ NoRecordRoom }
+    ensures served_of_few { (history : List Observation) (w : State) (left : LeavesRoom history w)
+        (many : ℕ) (endpoints : List Endpoint) (p : Position) (client : Endpoint)
+        (request : Message)
         → length endpoints ≤ many
         → AreShares w.setting.limits many
-        → IsPlaceOf left.deeds p
+        → IsPositionOf left.actions p
         → AreFrom endpoints (until p)
-        → IsRequestOf w.setting client request p.deed.entry.event
+        → IsRequestOf w.setting client request p.action.observation.event
         → HasOwnRoomToOpen w.setting.limits client p.before
-        → p.deed.entry.report.outcome ≡ Overloaded
-        → ¬ HasIds 2 p.deed.entry.now p.before }
+        → p.action.observation.report.outcome ≡ Overloaded
+        → ¬ HasIds 2 p.action.observation.now p.before }
 {}

@@ -6,7 +6,7 @@ ghost use Rattle.coap_store.specs.Renewing.{is_validated, tag_of};
 ghost use Rattle.coap_forward.specs.Answers.{fits, taken_of};
 ghost use Rattle.coap_model.specs.Cached.{IsLasting, IsObtained};
 ghost use Rattle.coap_model.specs.Forged.{setting};
-ghost use Rattle.coap_model.specs.History.{Place};
+ghost use Rattle.coap_model.specs.History.{Position};
 ghost use Rattle.coap_model.specs.OptionExamples.{key_of_temp};
 ghost use Rattle.coap_model.specs.WordExamples.{asks_tagged, at, gets_valid, setting_with, tagged_content, tagged_past, valid_message, validated_past};
 ghost use Rattle.test_promises.specs.Validations.{asks_other, format_valid, gets_format_valid, gets_other_valid, limits_of, other_past, other_valid, renewed_by, tags_asked, IsAsked};
@@ -16,7 +16,7 @@ ghost use Rattle.test_promises.specs.Validations.{asks_other, format_valid, gets
 /// 5.9.1.3).
 pub fn a_validated_response_is_renewed()
     ensures tag { tag_of tagged_content.options ≡ Some (0xAB ∷ []) }
-    ensures whole { (limits : Limits) (asking getting : Place) (m : Message)
+    ensures whole { (limits : Limits) (asking getting : Position) (m : Message)
         (is : IsAsked limits asking getting m)
         → tags_asked is ≡ (0xAB ∷ []) ∷ []
         → is_validated tagged_content (taken_of true m) ≡ true

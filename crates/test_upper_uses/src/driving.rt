@@ -1,9 +1,9 @@
-//! `coap_stats`, `coap_record`, `coap_proxyd`.
+//! `coap_stats`, `coap_recording`, `coap_proxyd`.
 use crate::fixtures;
 use coap_core::{LimitValues, Limits};
 use coap_port::{MemoryPort, Port, Scripted, drive, drive_watched};
 use coap_proxyd::{ListStore, Server, Start, read_plan, read_wanted};
-use coap_record::Recording;
+use coap_recording::Recording;
 use coap_stats::{Statistics, put_line};
 use std::test::*;
 
@@ -22,7 +22,7 @@ fn coap_stats(rt: HostRuntime) -> Result<(), Fail> {
 }
 
 #[test]
-fn coap_record(rt: HostRuntime) -> Result<(), Fail> {
+fn coap_recording(rt: HostRuntime) -> Result<(), Fail> {
     let alloc = rt.alloc();
     let mut core = fixtures::core(alloc)?;
     let inner = fixtures::ticking_at(alloc, 5)?;

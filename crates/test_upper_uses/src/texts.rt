@@ -1,15 +1,15 @@
-//! `coap_words`, `coap_lines`, `coap_replay`, `coap_account`.
+//! `coap_config`, `coap_lines`, `coap_replay`, `coap_explain`.
 use crate::fixtures;
 use crate::fixtures::CLIENT;
-use coap_account::Explainer;
+use coap_config::{read_config, read_words};
 use coap_core::{Datagram, Routes};
+use coap_explain::Explainer;
 use coap_lines::{LONGEST, line_buffer, put_line, read_turn};
 use coap_replay::{Budget, Input, Output, replay, replay_watched};
-use coap_words::{read_config, read_words};
 use std::test::*;
 
 #[test]
-fn coap_words(rt: HostRuntime) -> Result<(), Fail> {
+fn coap_config(rt: HostRuntime) -> Result<(), Fail> {
     let alloc = rt.alloc();
     let words = fixtures::words(alloc, "-p 5683 --config proxy.toml")?;
     let settings = read_words(alloc, &words)?; // as `-p 5683 --config proxy.toml`
@@ -50,7 +50,7 @@ fn coap_replay(rt: HostRuntime) -> Result<(), Fail> {
 }
 
 #[test]
-fn coap_account(rt: HostRuntime) -> Result<(), Fail> {
+fn coap_explain(rt: HostRuntime) -> Result<(), Fail> {
     let alloc = rt.alloc();
     let mut core = fixtures::core(alloc)?;
     let mut input = Input::new(b"0 0 192.0.2.7:40001 50010007B174\n".as_slice());

@@ -3,14 +3,14 @@ use Rattle.coap_store.specs.declared.key.CacheKey.{CacheKey}
 use Rattle.coap_store.proofs.Distinct.{of_key-key}
 use Rattle.coap_target.specs.Routes.{AreRoutes}
 use Rattle.coap_model.specs.Setting.{Setting}
-use Rattle.coap_model.specs.History.{Deed}
+use Rattle.coap_model.specs.History.{Action}
 use Rattle.coap_model.specs.Cached.{cached_key, IsObtained, WasObtained}
 use Rattle.coap_model.specs.Justified.{IsHit, AllJustified}
 use Rattle.coap_model.proofs.Obtaining.{found-obtained}
 use Rattle.coap_model.proofs.cache_laws.what_is_shown_was_received.Goals as goal
 
 -- the entry that is sent from the cache was obtained
-shown-obtained : (setting : Setting) (past : List Deed) (d : Deed) (hit : IsHit setting past d) → AreRoutes setting.routes → AllJustified setting past → WasObtained setting past hit.entry
+shown-obtained : (setting : Setting) (past : List Action) (d : Action) (hit : IsHit setting past d) → AreRoutes setting.routes → AllJustified setting past → WasObtained setting past hit.entry
 shown-obtained setting past d hit routes all = found-obtained setting past hit.cached hit.key hit.entry routes all hit.is_cache hit.found
 
 pub returns : goal.returns

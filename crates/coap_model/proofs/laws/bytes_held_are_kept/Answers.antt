@@ -6,5 +6,5 @@ use Rattle.coap_model.proofs.laws.bytes_held_are_kept.Goals as goal
 pub returns : goal.returns
 returns c = record {
   kept = bytes-kept;
-  within = λ w history carried. omega (arith, bytes-kept w, within-bound carried.deeds w carried.bears);
+  within = λ w history carried. omega (arith, bytes-kept w, within-bound carried.actions w carried.bears);
 }

@@ -10,6 +10,6 @@ returns c =
       waiters = waiters-length;
       entries = store-entries;
       cached_bytes = store-bytes;
-      con_records = λ deeds w c. records-living deeds w Con w.con_records c c.con_records;
-      non_records = λ deeds w c. records-living deeds w Non w.non_records c c.non_records;
+      con_records = λ actions w c. records-living actions w Con w.con_records c c.con_records;
+      non_records = λ actions w c. records-living actions w Non w.non_records c c.non_records;
     }

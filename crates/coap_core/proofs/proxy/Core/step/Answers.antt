@@ -2,7 +2,7 @@ use Rattle.std.proofs.Common.{◌≤◌, Bool, true, List, ◌∷◌, IfOk, leng
 use Rattle.coap_model.specs.Setting.{Setting}
 use Rattle.coap_limits.specs.Limits.{AreLimits}
 use Rattle.coap_model.specs.Carries.{Carries}
-use Rattle.coap_model.specs.History.{Entry}
+use Rattle.coap_model.specs.History.{Observation}
 use Rattle.coap_model.specs.Promised.{Promised}
 use Rattle.coap_model.specs.Shares.{LeavesRoom}
 use Rattle.coap_model.specs.State.{State}
@@ -12,7 +12,7 @@ use Rattle.coap_model.proofs.Promising.{promises}
 use Rattle.coap_model.proofs.Word.{keeps-word}
 use Rattle.coap_model.specs.Step.{step_of}
 use Rattle.coap_core.specs.Events.{seen}
-use Rattle.coap_core.specs.Steps.{entry_told}
+use Rattle.coap_core.specs.Steps.{observation_told}
 use Rattle.coap_core.proofs.Carried.{IsLeft, can_go_on, holds-on, is-left, is-short}
 use Rattle.coap_core.proofs.proxy.Core.step.Given.{Over}
 use Rattle.coap_core.proofs.proxy.Core.step.Goals.{After-step-done}
@@ -41,8 +41,8 @@ promised : (g : Over) (c : After-step-done g) → Promised (leaves g c).history 
 promised g c = let left = leaves g c in c.what_is_carried_is_promised.ensures.promised left.history c.step-done.new.self left.carries
 
 -- what holds of whatever is carried holds with the entry of the step in front
-on : (g : Over) (c : After-step-done g) (P : List Entry → State → Type 0) → ((history : List Entry) (w : State) → Carries history w → P history w)
-    → IfOk c.step-done.result (λ report. (history : List Entry) → Carries history c.self.inside.state → P (entry_told c.args.now c.args.draw (seen c.args.event) report c.step-done.new.out.bytes ∷ history) c.step-done.new.self)
+on : (g : Over) (c : After-step-done g) (P : List Observation → State → Type 0) → ((history : List Observation) (w : State) → Carries history w → P history w)
+    → IfOk c.step-done.result (λ report. (history : List Observation) → Carries history c.self.inside.state → P (observation_told c.args.now c.args.draw (seen c.args.event) report c.step-done.new.out.bytes ∷ history) c.step-done.new.self)
 on g c P holds =
     holds-on P holds c.self.inside.state c.args.now c.args.draw (seen c.args.event) (rw (← c.self.view_is) at c.requires.onward) c.laws.ensures c.step-done.result c.args.out.now c.step-done.new.out c.step-done.new.self c.step-done.ensures.exact
 

@@ -1,0 +1,11 @@
+use Rattle.std.proofs.Common.{◌≡◌, drop}
+use Rattle.toml.specs.View.{items_view}
+use Rattle.coap_config.specs.Config.{name_said}
+use Rattle.coap_config.specs.Tree.{each_item, with_front}
+use Rattle.coap_config.specs.ProxyOption.{bytes_of}
+use Rattle.coap_config.proofs.lists.names_in.Given as goal
+
+abbrev pub invariant-loop-value : goal.invariant-loop-value
+invariant-loop-value l =
+    each_item name_said (items_view l.values.items)
+    ≡ with_front (bytes_of l.names) (each_item name_said (items_view (drop l.value-index l.values.items)))

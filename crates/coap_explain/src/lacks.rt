@@ -1,0 +1,159 @@
+//! What is short where a message is turned away: found again from what the proxy holds, since a step
+//! doesn't give it.
+ghost use Rattle.std.specs.Prelude.{◌≡◌};
+ghost use Rattle.coap_explain.specs.Lacks as spec;
+
+use coap_core::{ClientCounts, Core, Counts, LimitValues};
+use coap_endpoint::Endpoint;
+use coap_message::Kind;
+use coap_store::Store;
+
+/// What may be short: a table, as all share it or for one client, or the Message IDs.
+#[derive(Clone, Copy, Debug, PartialEq, Eq)]
+pub(crate) enum Share {
+    Exchanges,
+    ClientExchanges,
+    Waiters,
+    ClientWaiters,
+    Con,
+    ClientCon,
+    Non,
+    ClientNon,
+    Ids,
+}
+
+/// A share of which too little is left: how much is taken, and how much there may be.
+#[derive(Clone, Copy, Debug, PartialEq, Eq)]
+pub(crate) struct Lack {
+    pub(crate) share: Share,
+    pub(crate) count: u64,
+    pub(crate) limit: u64,
+}
+
+/// What of a message's needs is lacking, if anything is: at most five shares.
+pub(crate) type Lacks = [Option<Lack>; 5];
+
+/// The number of Message IDs that are given in 247 seconds (RFC 7252, 4.4): half of all.
+const IDS: u64 = 32_768;
+
+/// How much is taken, of all and of one client, with the limits, and how many Message IDs are free.
+#[derive(Clone, Copy)]
+pub(crate) struct Usage {
+    pub(crate) all: Counts,
+    pub(crate) own: ClientCounts,
+    pub(crate) limits: LimitValues,
+    pub(crate) free_ids: u64,
+}
+
+/// A share of which none is left.
+fn full(share: Share, count: u64, limit: u64) -> Option<Lack>
+    ensures { result ≡ spec.full share count limit }
+{
+    if count < limit {
+        return None;
+    }
+    Some(Lack {
+        share,
+        count,
+        limit,
+    })
+}
+
+/// The Message IDs, if fewer are free than are needed.
+fn short_of_ids(free: u64, needed: u64) -> Option<Lack>
+    ensures { result ≡ spec.short_of_ids free needed }
+{
+    if needed <= free {
+        return None;
+    }
+    Some(Lack {
+        share: Share::Ids,
+        count: IDS.saturating_sub(free),
+        limit: IDS,
+    })
+}
+
+impl Usage {
+    /// What a core holds, of which a client has its share.
+    pub(crate) fn of<S: Store + Drop>(core: &Core<S>, client: Endpoint) -> Usage {
+        Usage {
+            all: core.counts(),
+            own: core.client_counts(client),
+            limits: *core.limits().values(),
+            free_ids: core.free_ids(),
+        }
+    }
+
+    /// What is lacking to wait for an exchange that is in progress: only room for a client that
+    /// waits, and a Message ID.
+    pub(crate) fn to_join(&self) -> Lacks
+        ensures { result ≡ spec.to_join self.now }
+    {
+        [
+            None,
+            None,
+            full(Share::Waiters, self.all.waiters, self.limits.waiters),
+            full(
+                Share::ClientWaiters,
+                self.own.waiters,
+                self.limits.client_waiters,
+            ),
+            short_of_ids(self.free_ids, 1),
+        ]
+    }
+
+    /// What is lacking to open an exchange.
+    pub(crate) fn to_open(&self) -> Lacks
+        ensures { result ≡ spec.to_open self.now }
+    {
+        [
+            full(Share::Exchanges, self.all.exchanges, self.limits.exchanges),
+            full(
+                Share::ClientExchanges,
+                self.own.exchanges,
+                self.limits.client_exchanges,
+            ),
+            full(Share::Waiters, self.all.waiters, self.limits.waiters),
+            full(
+                Share::ClientWaiters,
+                self.own.waiters,
+                self.limits.client_waiters,
+            ),
+            short_of_ids(self.free_ids, 2),
+        ]
+    }
+
+    /// What is lacking to remember a message of a type: Confirmable ones are remembered apart from
+    /// the others.
+    pub(crate) fn to_remember(&self, kind: Kind) -> Lacks
+        ensures { result ≡ spec.to_remember self.now kind }
+    {
+        let (all, own) = if kind == Kind::Con {
+            (
+                full(Share::Con, self.all.con_records, self.limits.con_records),
+                full(
+                    Share::ClientCon,
+                    self.own.con_records,
+                    self.limits.client_con_records,
+                ),
+            )
+        } else {
+            (
+                full(Share::Non, self.all.non_records, self.limits.non_records),
+                full(
+                    Share::ClientNon,
+                    self.own.non_records,
+                    self.limits.client_non_records,
+                ),
+            )
+        };
+        [all, own, None, None, None]
+    }
+
+    /// What is lacking to reply at once to a message that isn't Confirmable: a Message ID.
+    pub(crate) fn to_reply(&self) -> Lacks
+        ensures { result ≡ spec.to_reply self.now }
+    {
+        [None, None, None, None, short_of_ids(self.free_ids, 1)]
+    }
+}

@@ -1,5 +1,0 @@
-use Rattle.std.proofs.Common.{rules}
-use Rattle.coap_limits.proofs.limits.LimitValues.per_client.Goals as goal
-
-pub returns : goal.returns
-returns c = search rules

@@ -1,5 +1,0 @@
-use Rattle.coap_record.proofs.Replaying.{replayable}
-use Rattle.coap_record.proofs.laws.recorded_runs_are_replayable.Goals as goal
-
-pub returns : goal.returns
-returns g c = replayable g.P.Port.gives g.P.Port.takes g.P.Port.clock g.W.Write.contents

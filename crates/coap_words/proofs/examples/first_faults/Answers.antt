@@ -1,7 +1,0 @@
-use Rattle.std.proofs.Common.{refl}
-use Rattle.coap_words.specs.Config.{table_said}
-use Rattle.coap_words.proofs.examples.first_faults.Goals as goal
-
-pub returns : goal.returns
-unfolding table_said
-returns c = record { version = refl; missing_version = refl; first_key = refl; key = refl; names = refl; limits = refl; hosts = refl; first_map = refl; map_key = refl; prefix = refl }

@@ -1,5 +1,0 @@
-use Rattle.std.proofs.Common.{rules}
-use Rattle.coap_words.proofs.limit_keys.is_limit.Goals as goal
-
-pub returns-else-shared : goal.returns-else-shared
-returns-else-shared c = search rules

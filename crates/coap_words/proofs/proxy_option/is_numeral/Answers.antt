@@ -1,5 +1,0 @@
-use Rattle.std.proofs.Common.{rules}
-use Rattle.coap_words.proofs.proxy_option.is_numeral.Goals as goal
-
-pub returns-then-not-starts_with : goal.returns-then-not-starts_with
-returns-then-not-starts_with c = search rules

@@ -1,8 +1,0 @@
-use Rattle.std.proofs.Common.{rules}
-use Rattle.coap_words.proofs.proxy_option.port_after.Goals as goal
-
-pub returns-then-is_empty : goal.returns-then-is_empty
-returns-then-is_empty c = search rules
-
-pub returns : goal.returns
-returns c = search rules

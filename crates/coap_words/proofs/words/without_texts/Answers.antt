@@ -1,5 +1,0 @@
-use Rattle.std.proofs.Common.{rules}
-use Rattle.coap_words.proofs.words.without_texts.Goals as goal
-
-pub returns : goal.returns
-returns c = search rules

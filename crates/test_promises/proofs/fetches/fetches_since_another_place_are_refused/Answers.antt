@@ -1,6 +1,0 @@
-use Rattle.coap_model.proofs.ForgingHits.{first_fetched}
-use Rattle.test_promises.proofs.Fetching.{earlier_unchanged, not_since}
-use Rattle.test_promises.proofs.fetches.fetches_since_another_place_are_refused.Goals as goal
-
-pub returns : goal.returns
-returns c = record { its_place = first_fetched; another = not_since; but_for_the_place = earlier_unchanged }
