@@ -3,3 +3,4 @@ pub mod Times
 pub mod Origins
 pub mod Maps
 pub mod Openings
+pub mod Search

@@ -19,6 +19,7 @@ mod maps;
 mod openings;
 mod origins;
 mod requests;
+mod search;
 mod times;
 
 pub use maps::{MapCounts, MapTable, Way, way_of};

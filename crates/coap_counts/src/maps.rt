@@ -4,6 +4,7 @@ ghost use Rattle.std.specs.List.{list_any};
 ghost use Rattle.coap_counts.specs.Maps as spec;
 
 use crate::requests::RequestCounts;
+use crate::search::map_for;
 use coap_message::{MessageRef, OutOfMemory, Pieces};
 use coap_model::Outcome;
 use coap_target::{Map, Routes, says_uri};
@@ -94,7 +95,7 @@ pub fn way_of<'r>(routes: &'r Routes, request: &MessageRef<'_>) -> Way<'r>
             Way::Forward
         };
     }
-    match routes.map_for(request) {
+    match map_for(routes.maps(), request) {
         Some(map) => Way::Mapped(&map.prefix),
         None => Way::Unmapped,
     }

@@ -91,8 +91,21 @@ impl RequestCounts {
         }
     }
 
-    /// Counts an outcome, if it is of a request.
+    /// Counts an outcome, if it is of a request. A hit, which most of them are, takes no call.
+    #[inline(always)]
     pub fn count(&mut self, outcome: Outcome)
+        ensures { self.new ≡ spec.with_request outcome self.old }
+    {
+        if let Outcome::Hit = outcome {
+            one_more(&mut self.hit);
+        } else {
+            self.count_any(outcome);
+        }
+    }
+
+    /// Counts an outcome, if it is of a request.
+    #[inline(never)]
+    fn count_any(&mut self, outcome: Outcome)
         ensures { self.new ≡ spec.with_request outcome self.old }
     {
         match outcome {

@@ -14,6 +14,7 @@ use Rattle.coap_message.specs.Message.{Message}
 use Rattle.coap_message.specs.Reading.{head_at, read_message}
 use Rattle.coap_message.specs.declared.error.DecodeError.{DecodeError}
 use Rattle.coap_model.specs.Events.{Event, arrival, tick}
+use Rattle.coap_model.specs.State.{State}
 use Rattle.coap_model.specs.declared.report.Outcome.{Outcome}
 use Rattle.coap_model.specs.declared.report.Outcome.TheVariants as outcomes
 use Rattle.coap_model.specs.declared.report.Report.{Report}
@@ -92,12 +93,13 @@ with_ways t n = with_report t.state.setting.routes t.report t.turn.event n
 
 -- ---- openings
 
+-- the counts with the newest exchange, and with what is stored for its key
+abbrev pub with_newest : State → OpeningCounts → OpeningCounts
+with_newest w n =
+    option_map_or (λ x. with_opening x.is_get (stored_for x.key w.store) n)
+    (item_at w.opened w.exchanges) n
+
 -- the counts with one more turn: if an exchange was opened in it, that is the newest one, and what
 -- is stored for its key is what was stored before
 abbrev pub with_openings : Told → OpeningCounts → OpeningCounts
-with_openings t n =
-    if did is_opened t
-    then
-    option_map_or (λ x. with_opening x.is_get (stored_for x.key t.state.store) n)
-    (item_at t.state.opened t.state.exchanges) n
-    else n
+with_openings t n = if did is_opened t then with_newest t.state n else n

@@ -1,6 +1,7 @@
 //! All statistics of a proxy.
 ghost use Rattle.std.specs.Prelude.{◌≡◌, IfOk};
 ghost use Rattle.coap_core.specs.Events.{seen};
+ghost use Rattle.coap_message.specs.Reading.{read_message};
 ghost use Rattle.coap_stats.specs.Statistics as spec;
 
 use crate::tally::Tally;
@@ -44,17 +45,28 @@ fn asked_at(exchange: &Exchange) -> Option<Moment>
 }
 
 /// When the request was first sent that a datagram from an endpoint answers.
+#[inline(always)]
 fn asked_by<S: Store + Drop>(core: &Core<S>, from: Endpoint, bytes: &[u8]) -> Option<Moment>
     ensures { result ≡ spec.asked_by core.now from bytes.now }
 {
-    if !is_response(bytes) {
-        return None;
+    if is_response(bytes) {
+        asked_for(core, from, bytes)
+    } else {
+        None
     }
+}
+
+/// When the request was first sent that a datagram from an endpoint answers, if that is a message.
+#[inline(never)]
+fn asked_for<S: Store + Drop>(core: &Core<S>, from: Endpoint, bytes: &[u8]) -> Option<Moment>
+    ensures { result ≡ spec.asked_for core.now from (read_message bytes.now) }
+{
     let response = MessageRef::read(bytes).ok()?;
     asked_at(core.awaited(from, &response)?)
 }
 
 /// The origin of the exchange that is due.
+#[inline(never)]
 fn due_origin<S: Store + Drop>(core: &Core<S>) -> Option<Endpoint>
     ensures { result ≡ spec.due_origin core.now }
 {
@@ -62,6 +74,7 @@ fn due_origin<S: Store + Drop>(core: &Core<S>) -> Option<Endpoint>
 }
 
 /// What is known of an event before its step, with the core as it is then.
+#[inline(always)]
 fn foreseen_in<S: Store + Drop>(event: Event<'_>, core: &Core<S>) -> Foreseen
     ensures { result ≡ spec.foreseen_in (seen event.entry) core.now }
 {
@@ -120,10 +133,12 @@ impl Watch for Statistics {
 
     ghost sees = { Sees };
 
+    #[inline(always)]
     fn foresee<S: Store + Drop>(&mut self, turn: Seen<'_>, core: &Core<S>) {
         self.foreseen = foreseen_in(turn.event, core);
     }
 
+    #[inline(always)]
     fn see<S: Store + Drop>(&mut self, turn: Seen<'_>, core: &Core<S>) {
         self.tally.count(turn);
         count_way(&mut self.maps, turn, core.routes());

@@ -105,6 +105,7 @@ impl Tally {
     }
 
     /// Counts a turn.
+    #[inline(always)]
     pub fn count(&mut self, turn: Seen<'_>)
         ensures { (w : State) → self.new ≡ spec.with_told (told turn.entry w) self.old }
     {

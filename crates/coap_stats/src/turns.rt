@@ -1,6 +1,7 @@
 //! What a turn means for the counts of maps, of origins and of openings.
 ghost use Rattle.std.specs.Prelude.{◌≡◌};
 ghost use Rattle.coap_core.specs.Events.{seen};
+ghost use Rattle.coap_message.specs.Reading.{read_message};
 ghost use Rattle.coap_model.specs.State.{State};
 ghost use Rattle.coap_stats.specs.Turns as spec;
 ghost use Rattle.coap_watch.specs.Told.{told};
@@ -92,6 +93,7 @@ fn sent(report: Report, bytes: &[u8], event: OriginEvent) -> Option<(Endpoint, O
 }
 
 /// What happened in a turn between the proxy and an origin, if anything did.
+#[inline(always)]
 fn event_of(turn: Seen<'_>, foreseen: Foreseen) -> Option<(Endpoint, OriginEvent)>
     ensures { (w : State) → result ≡ spec.event_of (told turn.entry w) foreseen }
 {
@@ -106,6 +108,7 @@ fn event_of(turn: Seen<'_>, foreseen: Foreseen) -> Option<(Endpoint, OriginEvent
 }
 
 /// Counts what happened in a turn between the proxy and an origin, if anything did.
+#[inline(always)]
 pub(crate) fn count_origin(origins: &mut OriginTable, turn: Seen<'_>, foreseen: Foreseen)
     ensures { (w : State) → origins.new
         ≡ spec.with_origins (told turn.entry w) foreseen origins.old }
@@ -116,6 +119,7 @@ pub(crate) fn count_origin(origins: &mut OriginTable, turn: Seen<'_>, foreseen: 
 }
 
 /// Counts the request that came in a turn, if one did, at a proxy with these routes.
+#[inline(always)]
 pub(crate) fn count_way(maps: &mut MapTable, turn: Seen<'_>, routes: &Routes)
     ensures { (w : State) → w.setting.routes ≡ routes.now
         → maps.new ≡ spec.with_ways (told turn.entry w) maps.old }
@@ -123,15 +127,24 @@ pub(crate) fn count_way(maps: &mut MapTable, turn: Seen<'_>, routes: &Routes)
     let (Some(report), Event::Datagram { bytes, .. }) = (turn.report, turn.event) else {
         return;
     };
-    if !is_request(bytes) {
-        return;
+    if is_request(bytes) {
+        count_request(maps, bytes, report.outcome, routes);
     }
-    if let Ok(request) = MessageRef::read(bytes) {
-        maps.count(way_of(routes, &request), report.outcome);
+}
+
+/// Counts a request with this outcome, if the bytes are one, at a proxy with these routes.
+#[inline(never)]
+fn count_request(maps: &mut MapTable, bytes: &[u8], outcome: Outcome, routes: &Routes)
+    ensures { maps.new ≡ spec.with_read routes.now outcome (read_message bytes.now) maps.old }
+{
+    let read = MessageRef::read(bytes);
+    if let Ok(request) = &read {
+        maps.count(way_of(routes, request), outcome);
     }
 }
 
 /// Counts the exchange that was opened in a turn, if one was, with the core as it is after it.
+#[inline(always)]
 pub(crate) fn count_opening<S: Store + Drop>(
     openings: &mut OpeningCounts,
     turn: Seen<'_>,
@@ -142,9 +155,16 @@ pub(crate) fn count_opening<S: Store + Drop>(
     let Some(report) = turn.report else {
         return;
     };
-    if report.outcome != Outcome::Opened {
-        return;
+    if report.outcome == Outcome::Opened {
+        count_newest(openings, core);
     }
+}
+
+/// Counts the newest exchange of a core, if there is one.
+#[inline(never)]
+fn count_newest<S: Store + Drop>(openings: &mut OpeningCounts, core: &Core<S>)
+    ensures { openings.new ≡ spec.with_newest core.now openings.old }
+{
     if let Some(exchange) = core.newest_exchange() {
         openings.count(exchange.is_get, core.stored(&exchange.key));
     }

@@ -15,11 +15,13 @@ impl<A: Watch, B: Watch> Watch for Both<A, B> {
     ghost sees = { λ before told after.
         A.sees before.first told after.first × B.sees before.second told after.second };
 
+    #[inline(always)]
     fn foresee<S: Store + Drop>(&mut self, turn: Seen<'_>, core: &Core<S>) {
         self.first.foresee(turn, core);
         self.second.foresee(turn, core);
     }
 
+    #[inline(always)]
     fn see<S: Store + Drop>(&mut self, turn: Seen<'_>, core: &Core<S>) {
         self.first.see(turn, core);
         self.second.see(turn, core);
@@ -32,6 +34,7 @@ impl<W: Watch> Watch for Option<W> {
 
     ghost sees = { SeesIfAny W.sees };
 
+    #[inline(always)]
     fn foresee<S: Store + Drop>(&mut self, turn: Seen<'_>, core: &Core<S>) {
         match self {
             Some(watcher) => watcher.foresee(turn, core),
@@ -39,6 +42,7 @@ impl<W: Watch> Watch for Option<W> {
         }
     }
 
+    #[inline(always)]
     fn see<S: Store + Drop>(&mut self, turn: Seen<'_>, core: &Core<S>) {
         match self {
             Some(watcher) => watcher.see(turn, core),

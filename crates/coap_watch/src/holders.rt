@@ -168,32 +168,36 @@ impl Holders {
 
     /// Is told of a turn, with the core as it is after it. Returns who has most of the table that
     /// is full, if that was found in this turn.
+    #[inline(always)]
     pub fn look<S: Store + Drop>(&mut self, turn: Seen<'_>, core: &Core<S>) -> Option<Holder> {
-        let table = match turn.report?.outcome {
-            Outcome::NoRecordRoom => records_for(turn.event)?,
-            Outcome::Overloaded => full_table(turn.event, core)?,
-            Outcome::Ignored
-            | Outcome::Rejected
-            | Outcome::Again
-            | Outcome::Refused(_)
-            | Outcome::Hit
-            | Outcome::Joined
-            | Outcome::Opened
-            | Outcome::NoId
-            | Outcome::Answered { .. }
-            | Outcome::Acked
-            | Outcome::SentRequest
-            | Outcome::Resent
-            | Outcome::Delivered
-            | Outcome::GaveUp
-            | Outcome::Idle => return None,
+        let outcome = turn.report?.outcome;
+        if may_be_full(outcome) {
+            self.look_closely(turn.now, turn.event, outcome, core)
+        } else {
+            None
+        }
+    }
+
+    /// Looks for who has most of the table for want of which an event had this outcome.
+    #[inline(never)]
+    fn look_closely<S: Store + Drop>(
+        &mut self,
+        now: Moment,
+        event: Event<'_>,
+        outcome: Outcome,
+        core: &Core<S>,
+    ) -> Option<Holder> {
+        let table = match outcome {
+            Outcome::NoRecordRoom => records_for(event)?,
+            Outcome::Overloaded => full_table(event, core)?,
+            _ => return None,
         };
-        if turn.now < self.next {
+        if now < self.next {
             return None;
         }
-        self.next = turn.now.saturating_add(PAUSE);
+        self.next = now.saturating_add(PAUSE);
         self.list(table, core);
-        let holder = self.holder(table, turn.now, core)?;
+        let holder = self.holder(table, now, core)?;
         self.note(holder);
         Some(holder)
     }
@@ -270,6 +274,28 @@ fn usage_of<S: Store + Drop>(table: SharedTable, core: &Core<S>) -> (u64, u64) {
         SharedTable::NonRecords => (counts.non_records, limits.non_records),
         SharedTable::Exchanges => (counts.exchanges, limits.exchanges),
         SharedTable::Waiters => (counts.waiters, limits.waiters),
+    }
+}
+
+/// Whether a message was turned away, so that a table may be full.
+fn may_be_full(outcome: Outcome) -> bool {
+    match outcome {
+        Outcome::NoRecordRoom | Outcome::Overloaded => true,
+        Outcome::Ignored
+        | Outcome::Rejected
+        | Outcome::Again
+        | Outcome::Refused(_)
+        | Outcome::Hit
+        | Outcome::Joined
+        | Outcome::Opened
+        | Outcome::NoId
+        | Outcome::Answered { .. }
+        | Outcome::Acked
+        | Outcome::SentRequest
+        | Outcome::Resent
+        | Outcome::Delivered
+        | Outcome::GaveUp
+        | Outcome::Idle => false,
     }
 }
 
