@@ -197,6 +197,22 @@ def answers_that_are_validated(program):
     ])
 
 
+def great_numbers(program):
+    """Those of options and of a Max-Age that two bytes, or four, have."""
+    age, odd = (MAX_AGE, number_bytes(0x12345678)), (0xFF02, b"")
+    check(program, [
+        (0, (client(1), message(NON, GET, 1, b"a", [T])), f"NON GET {HERE} opened"),
+        (0, None, f"sent GET to {THERE}"),
+        (0, (THERE, message(ACK, CONTENT, 1, token(1), [age], b"21")), "ACK 2.05 answered 2.05 kept"),
+        (0, None, f"delivered 2.05 Max-Age 305419896 {served(1)}"),
+        (1, (client(2), message(NON, GET, 2, b"b", [T])), f"NON GET {HERE} hit 2.05 Max-Age 305419895"),
+        (1, (client(2), message(NON, GET, 3, b"", [T, odd])), "NON GET refused 4.02 option 65282"),
+        (1, (client(3), message(NON, GET, 4, b"c", [T, (URI_PATH, b"x")])), f"NON GET {HERE}/x opened"),
+        (1, None, f"sent GET to {THERE}"),
+        (1, (THERE, message(ACK, CONTENT, 5, token(2), [odd])), "ACK 2.05 answered 5.02 option 65282"),
+    ])
+
+
 def a_confirmable_client(program):
     tags = [(ETAG, b"\x00"), (ETAG, b"\xff\x10")]
     check(program, [
@@ -325,7 +341,7 @@ def ids_that_run_out(program):
 
 CASES = (
     an_exchange_and_hits, the_first_answer, a_configuration_that_is_read_once, refusals, other_refusals, targets,
-    targets_behind_a_next_proxy, answers_that_are_validated, a_confirmable_client, answers_that_are_not_kept,
+    targets_behind_a_next_proxy, answers_that_are_validated, great_numbers, a_confirmable_client, answers_that_are_not_kept,
     a_silent_origin, a_client_that_acknowledges_nothing, full_tables, full_tables_of_waiters_and_records,
     a_join_that_has_no_room, an_answer_that_is_too_large, ids_that_run_out,
 )

@@ -1,4 +1,5 @@
-"""What the program draws as it starts: the first Message ID and the salt of its tokens, which nobody is to foretell."""
+"""What the program draws: the first Message ID and the salt of its tokens as it starts, which nobody is to foretell, and a
+number for each turn, of which no two programs are to have the same."""
 
 import os
 import re
@@ -17,20 +18,25 @@ STARTS, AT_ONCE = 64, 8
 HEAD = re.compile(r"# coap-proxyd \S+ --replay (?:.* )?--id ([0-9]+) --salt ([0-9]+)(?: .*)?\n")
 
 
-def drawn(program):
-    """The first Message ID and the salt of a start, which its recording says."""
+def recorded(program, turns):
+    """The lines of the recording of a run of so many turns."""
     with tempfile.TemporaryDirectory(prefix="coap-proxyd-test-") as folder, socket.socket(type=socket.SOCK_DGRAM) as peer:
         path, port = os.path.join(folder, "run.events"), free_port()
-        words = ["-A", "127.0.0.1", "-p", str(port), "--turns", "1", "--record", path]
+        words = ["-A", "127.0.0.1", "-p", str(port), "--turns", str(turns), "--record", path]
         process, until = subprocess.Popen([*program, *words], stderr=subprocess.DEVNULL), time.monotonic() + PATIENCE
         while process.poll() is None and time.monotonic() < until:
             peer.sendto(message(CON, EMPTY, 1), ("127.0.0.1", port))
             time.sleep(0.01)
         if process.poll() is None:
             process.kill()
-            raise Failed("it doesn't end after one turn")
+            raise Failed(f"it doesn't end after {turns} turns")
         with open(path) as recording:
-            head = HEAD.fullmatch(recording.readline())
+            return recording.readlines()
+
+
+def drawn(program):
+    """The first Message ID and the salt of a start, which its recording says."""
+    head = HEAD.fullmatch(recorded(program, 1)[0])
     expect("whether a recording begins with what was drawn", True, head is not None)
     return int(head[1]), int(head[2])
 
@@ -52,3 +58,11 @@ def each_bit_is_drawn(program):
     expect("bits of the first Message ID that are always the same", [], constant_bits(ids, 16))
     expect("bits of the salt that are always the same", [], constant_bits(salts, 63))
     expect("whether a salt has 63 bits at most", True, max(salts) < 1 << 63)
+
+
+@case("DrawsRepeat")
+def draws_differ_from_run_to_run(program):
+    """Each is one of 1,001 numbers."""
+    runs = [[line.split()[1] for line in recorded(program, 8) if not line.startswith("#")] for _ in range(2)]
+    expect("how many draws there are", [8, 8], [len(draws) for draws in runs])
+    expect("whether both runs have the same", False, runs[0] == runs[1])

@@ -82,7 +82,7 @@ class Refusals:
             self.map = mmap.mmap(file.fileno(), 16)
         self.numbers = memoryview(self.map).cast("Q")
         # A stand-in, which starts the program, isn't refused anything.
-        settings, refused = programs.refusing(program[-1])
+        settings, refused = programs.shimmed(program[-1], programs.REFUSING)
         self.program = ["env", f"REFUSALS={name}", *settings, *program[:-1], refused]
 
     def refuse(self, request):
@@ -148,6 +148,35 @@ def check_replay(program, run, with_start):
         worked.check(run, came)
         # At least a request, an answer of the origin, and what ends nothing.
         expect_between("how many texts there were", 3, 100, len(texts))
+
+
+def what_is_said(program, run):
+    """Plays a run that explains itself. Returns what it says was done with the origin's answer, and what it sent, if it went
+    on to its end, and otherwise nothing."""
+    status, output, errors = worked.play(program, run)
+    if status or errors:
+        return None
+    comments, sent = [], []
+    for line in output.splitlines(True):
+        (comments if line.startswith(b"#") else sent).append(line)
+    [said] = [line for line in comments if b" answered 2.05 " in line]
+    return said.rstrip(b"\n").partition(b" answered 2.05 ")[2], b"".join(sent)
+
+
+def an_answer_without_memory_is_not_said_to_be_kept(program, run):
+    """What is said of the answer is what the requests after it show."""
+    explained = run._replace(words=[*run.words, "--explain"])
+    with tempfile.TemporaryDirectory(prefix="coap-proxyd-test-") as folder:
+        refusals, seen = Refusals(folder, program), set()
+        for request in range(1, 1000):
+            refusals.refuse(request)
+            said = what_is_said(refusals.program, explained)
+            if not refusals.refused():
+                break
+            if said is not None:
+                seen.add(said)
+    wanted = {(b"kept", run.output), *((b"no memory", text) for text in RUNS[run.name])}
+    expect("what is said, and what is sent", wanted, seen)
 
 
 # Over a socket

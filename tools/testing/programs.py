@@ -1,4 +1,5 @@
-"""What processor a program is for, how it is started here, and how one is made that can be refused memory."""
+"""What processor a program is for, how it is started here, and how one is made that can be refused memory, whose clock
+goes at another speed, or whose random bytes are counted."""
 
 import atexit
 import os
@@ -6,15 +7,20 @@ import shutil
 import subprocess
 import tempfile
 import threading
+from collections import namedtuple
 
 from platforms import elf
 from testing.network import Skipped
 
 TOP = os.path.dirname(os.path.dirname(os.path.dirname(os.path.abspath(__file__))))
-SOURCE = os.path.join(TOP, "tools", "testing", "refusing.c")
-# What refuses requests for memory, for each program that was tested, the programs behind scripts that start them, and
-# the folder with all of these.
-REFUSING, BEHIND, FOLDER, LOCK = {}, {}, [], threading.Lock()
+# What stands between a program and the C library: the name of its source beside this file, the variable that has the path
+# of the program, and the functions of the C library that it stands for.
+Shim = namedtuple("Shim", "name variable functions")
+REFUSING, PACING = Shim("refusing", "REFUSED", ("malloc", "realloc")), Shim("pacing", "PACED", ("clock_gettime",))
+DRAWING = Shim("drawing", "DRAWN", ("getrandom",))
+# How each program that was tested is started with each shim, the programs behind scripts that start them, and the folder
+# with all of these.
+SHIMMED, BEHIND, FOLDER, LOCK = {}, {}, [], threading.Lock()
 
 
 def folder():
@@ -64,7 +70,7 @@ def started(path):
     return script
 
 
-# Memory
+# Shims
 
 
 def compiler_for(machine):
@@ -73,48 +79,57 @@ def compiler_for(machine):
     return next(filter(shutil.which, (*own, f"{machine}-linux-gnu-gcc")), None)
 
 
-def run(words):
-    """Runs a command that makes something, which is skipped where it can't be made here."""
+def run(words, shim):
+    """Runs a command that makes something with a shim, which is skipped where it can't be made here."""
     done = subprocess.run(words, stdin=subprocess.DEVNULL, stdout=subprocess.PIPE, stderr=subprocess.STDOUT, text=True)
     if done.returncode:
-        raise Skipped(f"{os.path.basename(words[0])} makes nothing that refuses memory: {done.stdout.strip()[-300:]}")
+        name = os.path.basename(words[0])
+        raise Skipped(f"{name} makes nothing that is {shim.variable.lower()}: {done.stdout.strip()[-300:]}")
 
 
-def link_refusing(path):
-    """Links the object file of a static program once more, with what refuses memory."""
+def source_of(shim):
+    """The source of a shim."""
+    return os.path.join(TOP, "tools", "testing", f"{shim.name}.c")
+
+
+def link_with(path, shim):
+    """Links the object file of a static program once more, with a shim."""
     machine, objects = machine_of(path), f"{path}.o"
     if not os.path.exists(objects):
-        raise Skipped(f"{objects} isn't there, which a program that refuses memory is linked from")
-    program = os.path.join(tempfile.mkdtemp(dir=folder()), "refusing")
+        raise Skipped(f"{objects} isn't there, which a program that is {shim.variable.lower()} is linked from")
+    program = os.path.join(tempfile.mkdtemp(dir=folder()), shim.name)
     compiler = compiler_for(machine)
     if compiler is None:
-        run([os.path.join(TOP, "tools", "platforms", "link-refusing"), machine, program, objects])
+        linker = os.path.join(TOP, "tools", "platforms", f"link-{shim.name}")
+        if not os.path.exists(linker):
+            raise Skipped(f"there is no C compiler for {machine}")
+        run([linker, machine, program, objects], shim)
     else:
-        options = ["-O1", "-static-pie", "-DLINKED_IN", "-Wl,--wrap=malloc,--wrap=realloc"]
+        wraps = "".join(f",--wrap={function}" for function in shim.functions)
+        options = ["-O1", "-static-pie", "-DLINKED_IN", f"-Wl{wraps}"]
         options += ["-Wl,--wrap=main"] if machine == "aarch64" else []
-        run([compiler, *options, "-o", program, objects, SOURCE])
+        run([compiler, *options, "-o", program, objects, source_of(shim)], shim)
     return program
 
 
-def compile_library():
-    """Compiles the library that is loaded before the C library."""
+def compile_library(shim):
+    """Compiles a shim as a library that is loaded before the C library."""
     compiler = compiler_for(os.uname().machine)
     if compiler is None:
         raise Skipped("there is no C compiler")
-    library = os.path.join(tempfile.mkdtemp(dir=folder()), "refusing.so")
-    run([compiler, "-O1", "-shared", "-fPIC", "-o", library, SOURCE])
+    library = os.path.join(tempfile.mkdtemp(dir=folder()), f"{shim.name}.so")
+    run([compiler, "-O1", "-shared", "-fPIC", "-o", library, source_of(shim)], shim)
     return library
 
 
-def refusing(program):
-    """The settings of the environment, and the program, by which a program is refused memory as they say. Each is made
-    once."""
+def shimmed(program, shim):
+    """The settings of the environment, and the program, by which a program has a shim. Each is made once."""
     path = os.path.realpath(BEHIND.get(program, program))
     with LOCK:
-        if path not in REFUSING:
+        if (path, shim) not in SHIMMED:
             if is_static(path):
-                linked = link_refusing(path)
-                REFUSING[path] = [f"REFUSED={linked}"], started(linked)
+                linked = link_with(path, shim)
+                SHIMMED[path, shim] = [f"{shim.variable}={linked}"], started(linked)
             else:
-                REFUSING[path] = [f"REFUSED={path}", f"LD_PRELOAD={compile_library()}"], program
-        return REFUSING[path]
+                SHIMMED[path, shim] = [f"{shim.variable}={path}", f"LD_PRELOAD={compile_library(shim)}"], program
+        return SHIMMED[path, shim]

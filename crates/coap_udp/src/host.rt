@@ -26,11 +26,12 @@ const ROOM_WAIT: u64 = 50;
 /// A socket, a wait for its arrivals, a clock and a generator, over the operating system.
 ///
 /// Contracts don't say what the system does with a call, so that these bodies are trusted: each is
-/// one call, or one call and what it needs. The socket is watched only while `await_arrival` waits,
-/// so that an arrival costs nothing more at other times; one that is there already is reported at
-/// once.
-pub struct Host<'a, R> {
-    rt: &'a R,
+/// one call, or one call and what it needs. The clock and the source of the generator's seed are
+/// those that it is given, and a test can give its own. The socket is watched only while
+/// `await_arrival` waits, so that an arrival costs nothing more at other times; one that is there
+/// already is reported at once.
+pub struct Host<'a, C> {
+    clock: &'a C,
     local: SocketAddr,
     socket: UdpSocket,
     watched: Watched,
@@ -40,10 +41,10 @@ pub struct Host<'a, R> {
     generator: Pcg32,
 }
 
-impl<'a, R> Drop for Host<'a, R> {
+impl<'a, C> Drop for Host<'a, C> {
     fn drop(self) {
         let Host {
-            rt: _,
+            clock: _,
             local: _,
             socket: _,
             watched: _,
@@ -55,40 +56,46 @@ impl<'a, R> Drop for Host<'a, R> {
     }
 }
 
-/// A generator that is seeded by the system.
+/// A generator that is seeded by a random source.
 fn generator(source: &impl RandomSource) -> io::Result<Pcg32> {
     let mut seed = [0; 8];
     source.fill_bytes(&mut seed)?;
     Ok(Pcg32::new(u64::from_le_bytes(seed), 0))
 }
 
-impl<'a, R: Net + Clock + RandomSource> Host<'a, R> {
+impl<'a, C: Clock> Host<'a, C> {
     /// A socket at this address.
     ///
     /// # Errors
-    /// The address or its port isn't available, the system has no random bytes or no descriptor
-    /// left, the clock can't be read, or there is no memory.
-    pub(crate) fn bind(rt: &'a R, alloc: Global, local: SocketAddr) -> io::Result<Host<'a, R>>
+    /// The address or its port isn't available, there are no random bytes or no descriptor is left,
+    /// the clock can't be read, or there is no memory.
+    pub(crate) fn bind<N: Net, G: RandomSource>(
+        net: &N,
+        clock: &'a C,
+        source: &G,
+        alloc: Global,
+        local: SocketAddr,
+    ) -> io::Result<Host<'a, C>>
         ensures { IfOk result (λ h. h.local ≡ local) }
     {
-        let socket = UdpSocket::bind(rt, local)?;
+        let socket = UdpSocket::bind(net, local)?;
         socket.set_read_timeout(Some(Duration::from_millis(READ_WAIT)))?;
         socket.set_write_timeout(Some(Duration::from_millis(ROOM_WAIT)))?;
         let watched = Watched::from_std(socket.try_clone()?);
         Ok(Host {
-            rt,
+            clock,
             local,
             socket,
             watched,
-            arrivals: Poll::new(rt)?,
+            arrivals: Poll::new(net)?,
             events: Events::with_capacity(alloc, 1)?,
-            start: Instant::now(rt)?,
-            generator: generator(rt)?,
+            start: Instant::now(clock)?,
+            generator: generator(source)?,
         })
     }
 }
 
-impl<'a, R: Clock> System for Host<'a, R> {
+impl<'a, C: Clock> System for Host<'a, C> {
     ghost use Rattle.std.specs.Prelude.{⊤};
 
     ghost sets = { λ s waits r t. ⊤ };
@@ -130,7 +137,7 @@ impl<'a, R: Clock> System for Host<'a, R> {
     }
 
     fn millis(&mut self) -> Option<u64> {
-        match Instant::now(self.rt) {
+        match Instant::now(self.clock) {
             Ok(now) => Some(millis_between(self.start, now)),
             Err(_) => None,
         }

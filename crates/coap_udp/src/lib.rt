@@ -17,6 +17,8 @@ mod failing;
 mod host;
 mod port;
 mod system;
+#[cfg(test)]
+mod tests;
 mod values;
 
 pub use host::Host;

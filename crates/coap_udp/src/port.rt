@@ -94,8 +94,31 @@ fn source_of(read: io::Result<(usize, SocketAddr)>, into: &mut Datagram) -> io::
     }
 }
 
+impl<'a, C: Clock> UdpPort<Host<'a, C>> {
+    /// A port at a local address, of a network, whose moments are those of a clock, and whose draws
+    /// are seeded by a random source: these need not be the system's.
+    ///
+    /// # Errors
+    /// The address or its port isn't available, there are no random bytes or no descriptor is left,
+    /// the clock can't be read, or there is no memory.
+    pub fn bind_by<N: Net, G: RandomSource>(
+        net: &N,
+        clock: &'a C,
+        source: &G,
+        alloc: Global,
+        local: Endpoint,
+    ) -> io::Result<UdpPort<Host<'a, C>>>
+        ensures new { IfOk result (λ port. port ≡ new_port port.system local) }
+        ensures bound { IfOk result (λ port. IsTo (is_of_ipv6 local.ip) local port.system.local) }
+    {
+        let is_ipv6 = matches!(local.ip, Ip::V6(_));
+        let system = Host::bind(net, clock, source, alloc, address_of(local, is_ipv6))?;
+        Ok(UdpPort::over(system, is_ipv6))
+    }
+}
+
 impl<'a, R: Net + Clock + RandomSource> UdpPort<Host<'a, R>> {
-    /// A port at a local address.
+    /// A port at a local address, over the system.
     ///
     /// # Errors
     /// The address or its port isn't available, the system has no random bytes or no descriptor
@@ -104,9 +127,7 @@ impl<'a, R: Net + Clock + RandomSource> UdpPort<Host<'a, R>> {
         ensures new { IfOk result (λ port. port ≡ new_port port.system local) }
         ensures bound { IfOk result (λ port. IsTo (is_of_ipv6 local.ip) local port.system.local) }
     {
-        let is_ipv6 = matches!(local.ip, Ip::V6(_));
-        let system = Host::bind(rt, alloc, address_of(local, is_ipv6))?;
-        Ok(UdpPort::over(system, is_ipv6))
+        UdpPort::bind_by(rt, rt, rt, alloc, local)
     }
 }
 
