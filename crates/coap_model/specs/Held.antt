@@ -1,5 +1,12 @@
--- How many bytes a proxy holds, and the most that its limits let it hold. Held items count the
--- bytes that the values of the program keep for them; stored responses count as in the store.
+-- How many bytes a proxy holds, counted in two ways, and the most that its limits let it hold.
+--
+-- - `held` counts the bytes that the program keeps: options in their encoding, and each path
+--   segment, query part and tag with its length. It is promised to be at most `most_held`
+--   (`Promised`).
+-- - `bytes_held` counts the values: responses and keys as a store counts them. It is at most
+--   `held`, and so within the same bound (`bytes_held_are_kept` in `src/laws.rt`).
+--
+-- Both count what is stored by `entry_size`, and neither what tables and allocations add.
 use Rattle.std.specs.Prelude.{ℕ, ◌+◌, ◌*◌, List, length, Option, Some, None}
 use Rattle.std.specs.List.{sum_by}
 use Rattle.std.specs.Option.{option_map_or}
@@ -103,7 +110,7 @@ waiter_size v (Waiting exchange) = length v.token + sum_by length v.tags
 waiter_size v (Delivering bytes id timer) = length bytes
 
 -- The bytes held: what is stored; the replies that are kept, including those to expired messages;
--- the exchanges; and the waiting clients.
+-- the exchanges; and the waiters. They are at most `held`.
 abbrev pub bytes_held : State → ℕ
 bytes_held w =
     total entry_size w.store
