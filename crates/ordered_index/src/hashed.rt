@@ -117,7 +117,7 @@ impl HashedIndex {
         }
     }
 
-    #[inline(never)]
+    #[inline(always)]
     fn leave(&mut self, number: u64, was: Option<u64>)
         requires was { IsKeyIn self.old.pairs number was }
         ensures limit { self.new.limit ≡ self.old.limit }
@@ -129,7 +129,7 @@ impl HashedIndex {
         }
     }
 
-    #[inline(never)]
+    #[inline(always)]
     fn enter(&mut self, number: u64, is: Option<u64>)
         requires free { IsKeyIn self.old.pairs number None }
         requires room { length self.old.pairs + one_of is ≤ self.old.limit }
@@ -143,6 +143,7 @@ impl HashedIndex {
     }
 
     /// Adds the pair of this key and number, which isn't there. There is room for it.
+    #[inline(never)]
     pub fn put(&mut self, key: u64, number: u64)
         requires room { length self.old.pairs < self.old.limit }
         requires absent { is_in (key, number) self.old.pairs ≡ false }
@@ -161,6 +162,7 @@ impl HashedIndex {
     }
 
     /// Removes the pair of this key and number, which is there.
+    #[inline(never)]
     pub fn take(&mut self, key: u64, number: u64)
         requires there { is_in (key, number) self.old.pairs ≡ true }
         ensures limit { self.new.limit ≡ self.old.limit }

@@ -121,6 +121,7 @@ impl OrderedIndex {
     }
 
     /// Replaces the pair `was` by the pair `is`: either may be absent. There is room for that.
+    #[inline(always)] // mostly both are equal, and nothing is to be done
     pub fn replace(&mut self, was: Option<(u64, u64)>, is: Option<(u64, u64)>)
         requires there { IfSome was (λ p. is_in p self.old.pairs ≡ true) }
         requires free { IfSome is (λ p. is_in p self.old.pairs ≡ true → was ≡ Some p) }
@@ -159,7 +160,7 @@ impl OrderedIndex {
         }
     }
 
-    #[inline(never)]
+    #[inline(always)]
     fn leave(&mut self, number: u64, was: Option<u64>)
         requires was { IsKeyIn self.old.pairs number was }
         ensures limit { self.new.limit ≡ self.old.limit }
@@ -173,7 +174,7 @@ impl OrderedIndex {
         }
     }
 
-    #[inline(never)]
+    #[inline(always)]
     fn enter(&mut self, number: u64, is: Option<u64>)
         requires free { IsKeyIn self.old.pairs number None }
         requires room { length self.old.pairs + one_of is ≤ self.old.limit }
@@ -189,6 +190,7 @@ impl OrderedIndex {
     }
 
     /// Adds the pair of this key and number, which isn't there. There is room for it.
+    #[inline(never)]
     pub fn put(&mut self, key: u64, number: u64)
         requires room { length self.old.pairs < self.old.limit }
         requires absent { is_in (key, number) self.old.pairs ≡ false }
@@ -223,6 +225,7 @@ impl OrderedIndex {
     }
 
     /// Removes the pair of this key and number, which is there.
+    #[inline(never)]
     pub fn take(&mut self, key: u64, number: u64)
         requires there { is_in (key, number) self.old.pairs ≡ true }
         ensures limit { self.new.limit ≡ self.old.limit }

@@ -165,10 +165,12 @@ impl Watch for Reporter<'_> {
 
     ghost sees = { λ before told after. Sees before.statistics told after.statistics };
 
+    #[inline(always)]
     fn foresee<S: Store + Drop>(&mut self, turn: Seen<'_>, core: &Core<S>) {
         self.statistics.foresee(turn, core);
     }
 
+    #[inline(always)]
     fn see<S: Store + Drop>(&mut self, turn: Seen<'_>, core: &Core<S>) {
         self.statistics.see(turn, core);
         self.note_clock(turn.now);

@@ -164,4 +164,3 @@ returns-in-Err-clause-err c = c.in-Err.ensures.err ∙ c.self.view_is
 
 pub head_of-head-requires-clause-queued : goal.head_of-head-requires-clause-queued
 head_of-head-requires-clause-queued c = c.self.invariant.0.queued
-
