@@ -1,28 +1,25 @@
 //! Tables of exchanges: which are admitted, sent, answered and closed, and which is due.
-ghost use Rattle.std.specs.Prelude.{◌≡◌, ◌≢◌, ◌+◌, ◌-◌, ◌<◌, ◌≤◌, ◌^◌, ◌↔◌, ◌&&◌, length, if◌then◌else◌, true, false, None, nat_eq, OnOk, OnErr, IfOk, IfErr, IfSome, IfNone};
-ghost use Rattle.std.specs.Map.{set_value};
-ghost use Rattle.std.specs.Option.{option_copied, option_map};
-ghost use Rattle.indexmap.specs.IndexMap.{get};
+ghost use Rattle.std.specs.Prelude.{◌≡◌, ◌+◌, ◌-◌, ◌<◌, ◌≤◌, ◌^◌, ◌↔◌, length, true, false, None, OnOk, OnErr, IfOk, IfErr, IfSome};
+ghost use Rattle.std.specs.Option.{option_copied};
 ghost use Rattle.coap_endpoint.specs.declared.endpoint.Endpoint.{Endpoint};
 ghost use Rattle.coap_pending.specs.declared.exchange.ExchangeState.TheVariants.{Queued};
 ghost use Rattle.coap_exchange.specs.declared.table.AdmitError.TheVariants.{ClientFull, Full};
 ghost use Rattle.endpoint_counts.specs.Clients.{count_of, AreOfClients, AreWithin};
 ghost use Rattle.coap_pending.specs.Due.{first_due};
-ghost use Rattle.coap_pending.specs.Exchanges.{acked, answer_in, answered, changed_by, due_among, fire_at, fired_exchange, is_done, is_joinable, is_opened_by, is_queued, is_sent, is_sent_to, sent, tainted_by, was_sent_as, CanChange, CanUpdate, IsDue, is_queued_to, is_with};
+ghost use Rattle.coap_pending.specs.Exchanges.{acked, answer_in, answered, due_among, fire_at, fired_exchange, is_done, is_joinable, is_opened_by, is_queued, is_sent, sent, tainted_by, was_sent_as, IsDue};
 ghost use Rattle.coap_exchange.specs.Opening.{opened};
-ghost use Rattle.coap_exchange.specs.Index.{keys_at, AreIndexed};
-ghost use Rattle.endpoint_counts.specs.Endpoints.{open_in, queued_in, sent_in};
-ghost use Rattle.coap_exchange.specs.Counted.{AreCounted, IsRecounted};
-ghost use Rattle.coap_pending.specs.Table.{empty_table, item_at, admitted_to, without, withdrawn, changed_at, all_changed, count, first_that, passes, IsTable};
+ghost use Rattle.coap_exchange.specs.Index.{AreIndexed};
+ghost use Rattle.coap_exchange.specs.Counted.{AreCounted};
+ghost use Rattle.coap_pending.specs.Table.{empty_table, item_at, admitted_to, without, withdrawn, changed_at, all_changed, count, first_that, IsTable};
 ghost use Rattle.coap_exchange.specs.SendQueue.{IsSendQueue};
-ghost use Rattle.coap_exchange.specs.Updates.{leaver, updated, updated_at, Allows};
 
-use crate::digests::{HashedKey, digest_of_target};
-use crate::index::{ExchangeKeys, Index, Sought, first_sought, keys_at, keys_in, keys_of};
-use crate::indexed_exchange::{IndexedExchange, client_of};
+use crate::digests::HashedKey;
+use crate::exchange_changes::taint_all;
+use crate::index::{Index, Sought, first_sought, keys_in, keys_of};
+use crate::indexed_exchange::IndexedExchange;
 use crate::opening::Opening;
-use crate::send_queue::{SendQueue, head_of, head_with, mover_of};
-use crate::table::{AdmitError, Items, Table};
+use crate::send_queue::{SendQueue, head_of, head_with};
+use crate::table::{AdmitError, Table};
 use crate::turns::first_turn;
 use coap_endpoint::{Endpoint, Target};
 use coap_message::{Moment, OutOfMemory};
@@ -30,26 +27,24 @@ use coap_pending::due::{later, sooner};
 use coap_pending::{Change, Exchange, ExchangeNumber, Fire, Sending};
 use coap_store::{Answer, CacheKey};
 use endpoint_counts::by_client::{count_of, depart, enter};
-use endpoint_counts::{
-    EndpointMap, Peer, SentCounts, Stage, close_one, lowered, move_one, open_one,
-};
+use endpoint_counts::{EndpointMap, Peer, Stage, close_one, open_one};
 use std::alloc::Global;
 use std::marker::Model;
 
 /// Exchanges in order of number. A contract sees the table. Only `new`, `seeded` and `admit`
 /// allocate.
 pub struct Exchanges {
-    table: Table<IndexedExchange>,
+    pub(crate) table: Table<IndexedExchange>,
     /// The number of exchanges that are still to be sent.
-    queued: usize,
+    pub(crate) queued: usize,
     /// The number of exchanges with each endpoint.
-    endpoints: EndpointMap,
+    pub(crate) endpoints: EndpointMap,
     /// The number of exchanges that each client opened.
-    clients: EndpointMap,
+    pub(crate) clients: EndpointMap,
     /// What they are looked up by.
-    index: Index,
+    pub(crate) index: Index,
     /// Whose turn it is.
-    send_queue: SendQueue,
+    pub(crate) send_queue: SendQueue,
 }
 
 impl Drop for Exchanges {
@@ -169,6 +164,14 @@ impl Exchanges {
         ensures sound { IsTable self.now }
     {
         self.table.exchange(number)
+    }
+
+    /// Looks for the exchange numbered `number`, so that the calls about it that follow find it at
+    /// once.
+    pub(crate) fn seek(&mut self, number: ExchangeNumber)
+        ensures { self.new ≡ self.old }
+    {
+        self.table.seek(number);
     }
 
     /// The answer of the exchange numbered `number`, if it has come.
@@ -393,7 +396,7 @@ impl Exchanges {
         fire
     }
 
-    /// Marks the request of the exchange numbered `number`, which was sent, as acknowledged.
+    /// Notes that the request of the exchange numbered `number`, which was sent, was acknowledged.
     pub fn acked(&mut self, number: ExchangeNumber)
         requires sent { IfSome (item_at number self.old.items) (λ x. is_sent x ≡ true) }
         ensures acked { self.new
@@ -418,216 +421,5 @@ impl Exchanges {
             ≡ record self.old { items = all_changed (tainted_by target.now) self.old.items } }
     {
         taint_all(&mut self.table, &mut self.index, target);
-    }
-
-    /// Changes the exchange numbered `number`, or removes it if there is no change. Nothing happens
-    /// if there is no such exchange. What is counted of it, what it is looked up by, and whose turn
-    /// it is follow.
-    pub(crate) fn update(&mut self, number: ExchangeNumber, change: Option<Change>)
-        requires { CanUpdate change (item_at number self.old.items) }
-        ensures { self.new
-            ≡ record self.old { items = updated_at changed_by change number self.old.items } }
-    {
-        let found = self.table.get(number);
-        let at = mover_of(found, &change);
-        let sent = recount(&mut self.endpoints, &self.table, number, found, &change);
-        let head = head_of(&self.table, &self.index, self.queued, &at, sent.was);
-        let queued = queued_without(self.queued, &self.table, number, found);
-        depart(&mut self.clients, leaver_of(found, &change));
-        let was = keys_in(found);
-        self.queued = queued;
-        let is = self.table.update(number, change);
-        self.index.rekey(number, was, is);
-        let next = head_of(&self.table, &self.index, queued, &at, sent.is);
-        self.send_queue.heads.replace(head, next);
-    }
-}
-
-impl Table<IndexedExchange> {
-    /// Changes the exchange numbered `number`, or removes it if there is no change, and returns
-    /// what it is looked up by then.
-    fn update(&mut self, number: ExchangeNumber, change: Option<Change>) -> ExchangeKeys
-        requires { Allows CanChange change (item_at number self.old.items) }
-        ensures updated { self.new
-            ≡ record self.old { items = updated_at changed_by change number self.old.items } }
-        ensures keys { result
-            ≡ keys_at (updated changed_by change (item_at number self.old.items)) }
-    {
-        match change {
-            Some(change) => self.change(number, change),
-            None => {
-                self.close(number);
-                keys_in(None)
-            }
-        }
-    }
-
-    /// Changes the exchange numbered `number`, if there is one, and returns what it is looked up by
-    /// then.
-    fn change(&mut self, number: ExchangeNumber, change: Change) -> ExchangeKeys
-        requires { IfSome (item_at number self.old.items) (CanChange change) }
-        ensures changed { self.new
-            ≡ record self.old { items = changed_at number (changed_by change) self.old.items } }
-        ensures keys { result
-            ≡ keys_at (option_map (changed_by change) (item_at number self.old.items)) }
-    {
-        change_under(&mut self.items, number, change)
-    }
-
-    fn taint(&mut self, number: ExchangeNumber, target: &Target)
-        ensures { self.new
-            ≡ record self.old {
-              items = changed_at number (tainted_by target.now) self.old.items;
-            } }
-    {
-        taint_under(&mut self.items, number, target);
-    }
-}
-
-fn change_under(
-    exchanges: &mut Items<IndexedExchange>,
-    number: ExchangeNumber,
-    change: Change,
-) -> ExchangeKeys
-    requires { IfSome (get nat_eq exchanges.old number) (CanChange change) }
-    ensures found { IfSome (get nat_eq exchanges.old number) (λ x.
-        exchanges.new.entries
-        ≡ set_value (nat_eq number) exchanges.old.entries (changed_by change x)) }
-    ensures missing { IfNone (get nat_eq exchanges.old number)
-        (exchanges.new.entries ≡ exchanges.old.entries) }
-    ensures keys { result
-        ≡ keys_at (option_map (changed_by change) (get nat_eq exchanges.old number)) }
-{
-    match exchanges.get_mut(&number) {
-        Some(exchange) => {
-            exchange.change(change);
-            keys_of(exchange)
-        }
-        None => keys_in(None),
-    }
-}
-
-fn taint_under(exchanges: &mut Items<IndexedExchange>, number: ExchangeNumber, target: &Target)
-    ensures found { IfSome (get nat_eq exchanges.old number) (λ x.
-        exchanges.new.entries
-        ≡ set_value (nat_eq number) exchanges.old.entries (tainted_by target.now x)) }
-    ensures missing { IfNone (get nat_eq exchanges.old number)
-        (exchanges.new.entries ≡ exchanges.old.entries) }
-{
-    if let Some(exchange) = exchanges.get_mut(&number) {
-        exchange.taint(target);
-    }
-}
-
-/// Taints those that a change of this target affects. They are found by the target's digest.
-fn taint_all(exchanges: &mut Table<IndexedExchange>, index: &mut Index, target: &Target)
-    requires { AreIndexed exchanges.old.items exchanges.old.limit index.old }
-    ensures tainted { exchanges.new
-        ≡ record exchanges.old {
-          items = all_changed (tainted_by target.now) exchanges.old.items;
-        } }
-    ensures indexed { AreIndexed exchanges.new.items exchanges.new.limit index.new }
-{
-    let digest = digest_of_target(target);
-    let mut after = 0;
-    while let Some(number) = index.targets.next_of(digest, after) {
-        taint_one(exchanges, index, number, target);
-        after = number;
-    }
-}
-
-/// Taints the exchange numbered `number` if a change of this target affects it.
-fn taint_one(
-    exchanges: &mut Table<IndexedExchange>,
-    index: &mut Index,
-    number: ExchangeNumber,
-    target: &Target,
-)
-    requires { AreIndexed exchanges.old.items exchanges.old.limit index.old }
-    ensures tainted { exchanges.new
-        ≡ record exchanges.old {
-          items = changed_at number (tainted_by target.now) exchanges.old.items;
-        } }
-    ensures indexed { AreIndexed exchanges.new.items exchanges.new.limit index.new }
-{
-    let was = keys_at(exchanges, number);
-    exchanges.taint(number, target);
-    index.rekey(number, was, keys_at(exchanges, number));
-}
-
-/// The number of exchanges that are still to be sent, once the one numbered `number` no longer is.
-fn queued_without(
-    queued: usize,
-    exchanges: &Table<IndexedExchange>,
-    number: ExchangeNumber,
-    found: Option<&IndexedExchange>,
-) -> usize
-    requires queued { queued ≡ count is_queued exchanges.now.items }
-    requires found { option_copied found ≡ item_at number exchanges.now.items }
-    ensures fewer { result
-        + (if passes is_queued (item_at number exchanges.now.items) then 1 else 0)
-        ≡ queued }
-    ensures sound { IsTable exchanges.now }
-{
-    exchanges.laws();
-    match found {
-        Some(listed) => lowered(queued, listed.stage().queued),
-        None => queued,
-    }
-}
-
-/// Counts the exchange numbered `number` for its endpoint as it is after a change, in which it no
-/// longer waits for its turn, or no longer counts it if it is removed. Returns how many were and are
-/// sent to that endpoint.
-fn recount(
-    endpoints: &mut EndpointMap,
-    exchanges: &Table<IndexedExchange>,
-    number: ExchangeNumber,
-    found: Option<&IndexedExchange>,
-    change: &Option<Change>,
-) -> SentCounts
-    requires counted { AreCounted exchanges.now.items endpoints.old }
-    requires found { option_copied found ≡ item_at number exchanges.now.items }
-    requires queued { Allows (λ c x. is_queued (changed_by c x) ≡ false) change.now
-        (item_at number exchanges.now.items) }
-    ensures was { IfSome (item_at number exchanges.now.items)
-        (λ x. result.was ≡ sent_in endpoints.old x.key.target.at) }
-    ensures is { IfSome (item_at number exchanges.now.items)
-        (λ x. result.is ≡ sent_in endpoints.new x.key.target.at) }
-    ensures limit { endpoints.new.limit ≡ endpoints.old.limit }
-    ensures all { IsRecounted is_with (open_in endpoints.old) (open_in endpoints.new)
-        (item_at number exchanges.now.items)
-        (updated changed_by change.now (item_at number exchanges.now.items)) }
-    ensures sent { IsRecounted is_sent_to (sent_in endpoints.old) (sent_in endpoints.new)
-        (item_at number exchanges.now.items)
-        (updated changed_by change.now (item_at number exchanges.now.items)) }
-    ensures queued { IsRecounted is_queued_to (queued_in endpoints.old) (queued_in endpoints.new)
-        (item_at number exchanges.now.items)
-        (updated changed_by change.now (item_at number exchanges.now.items)) }
-{
-    exchanges.laws();
-    let Some(listed) = found else {
-        return SentCounts { was: 0, is: 0 };
-    };
-    let was = listed.stage();
-    match change {
-        Some(change) => {
-            let is = Stage {
-                sent: change.sends(was.sent),
-                queued: false,
-            };
-            move_one(endpoints, listed.peer(), was, is)
-        }
-        None => close_one(endpoints, listed.peer(), was),
-    }
-}
-
-/// The client that opened an exchange which is removed, if it is and there is one.
-fn leaver_of(found: Option<&IndexedExchange>, change: &Option<Change>) -> Option<Peer>
-    ensures exact { result ≡ leaver (λ x. x.client) change.now (option_copied found.entry) }
-{
-    match change {
-        Some(_) => None,
-        None => client_of(found),
     }
 }

@@ -28,6 +28,7 @@
 #![tactic(auto)]
 
 mod digests;
+mod exchange_changes;
 mod exchanges;
 mod index;
 mod indexed_exchange;
@@ -36,6 +37,7 @@ mod send_queue;
 mod table;
 mod turns;
 mod under_way;
+mod waiter_changes;
 mod waiter_index;
 mod waiters;
 

@@ -162,7 +162,7 @@ impl UnderWay {
         self.ready.replace(was, None);
     }
 
-    /// `Exchanges::send`.
+    /// Marks a request as sent: `Exchanges::send`.
     pub fn send(&mut self, number: ExchangeNumber, sending: Sending)
         requires queued { IfSome (item_at number self.old.exchanges.items)
             (λ x. is_queued x ≡ true) }
@@ -175,10 +175,11 @@ impl UnderWay {
                   };
             } }
     {
+        self.seek_exchange(number);
         self.exchanges.send(number, sending);
     }
 
-    /// `Exchanges::fire`.
+    /// Fires the timer of a request that was sent: `Exchanges::fire`.
     pub fn fire(&mut self, number: ExchangeNumber, now: Moment) -> Fire
         requires due { IfSome (item_at number self.old.exchanges.items) (IsDue now) }
         requires now { now ≤ 2 ^ 62 }
@@ -191,10 +192,11 @@ impl UnderWay {
                   };
             } }
     {
+        self.seek_exchange(number);
         self.exchanges.fire(number, now)
     }
 
-    /// `Exchanges::acked`.
+    /// Notes that a request was acknowledged: `Exchanges::acked`.
     pub fn acked(&mut self, number: ExchangeNumber)
         requires sent { IfSome (item_at number self.old.exchanges.items) (λ x. is_sent x ≡ true) }
         ensures acked { self.new
@@ -205,11 +207,44 @@ impl UnderWay {
                   };
             } }
     {
+        self.seek_exchange(number);
         self.exchanges.acked(number);
     }
 
-    /// `Exchanges::answered`. The first client that waits for it is then to be served.
+    /// Looks for the exchange numbered `number`, so that the calls about it that follow find it at
+    /// once.
+    fn seek_exchange(&mut self, number: ExchangeNumber)
+        ensures { self.new ≡ self.old }
+    {
+        self.exchanges.seek(number);
+    }
+
+    /// The same for the waiter numbered `number`.
+    fn seek_waiter(&mut self, number: WaiterNumber)
+        ensures { self.new ≡ self.old }
+    {
+        self.waiters.seek(number);
+    }
+
+    /// Records an answer: `Exchanges::answered`. The first client that waits for it is then to be
+    /// served.
     pub fn answered(&mut self, number: ExchangeNumber, answer: Answer)
+        requires open { IfSome (item_at number self.old.exchanges.items)
+            (λ x. is_done x ≡ false) }
+        ensures answered { self.new
+            ≡ record self.old {
+              exchanges =
+                  record self.old.exchanges {
+                    items = changed_at number (answered answer) self.old.exchanges.items;
+                  };
+            } }
+    {
+        self.seek_exchange(number);
+        self.note_answer(number, answer);
+    }
+
+    /// Records an answer. The first client that waits for it is then to be served.
+    fn note_answer(&mut self, number: ExchangeNumber, answer: Answer)
         requires open { IfSome (item_at number self.old.exchanges.items)
             (λ x. is_done x ≡ false) }
         ensures answered { self.new
@@ -226,7 +261,7 @@ impl UnderWay {
         self.ready.replace(None, is);
     }
 
-    /// `Exchanges::taint`.
+    /// Taints the exchanges of a changed target: `Exchanges::taint`.
     pub fn taint(&mut self, target: &Target)
         ensures tainted { self.new
             ≡ record self.old {
@@ -304,7 +339,7 @@ impl UnderWay {
         self.ready.replace(was, is);
     }
 
-    /// Removes a client: `Waiters::close`.
+    /// Removes a waiter: `Waiters::close`.
     pub fn close_waiter(&mut self, number: WaiterNumber)
         ensures closed { self.new
             ≡ record self.old {
@@ -312,10 +347,11 @@ impl UnderWay {
                   record self.old.waiters { items = without number self.old.waiters.items };
             } }
     {
+        self.seek_waiter(number);
         self.update_waiter(number, None);
     }
 
-    /// `Waiters::deliver`.
+    /// Notes that a waiter was sent its response: `Waiters::deliver`.
     pub fn deliver(&mut self, number: WaiterNumber, bytes: Seq<u8>, id: u16, timer: Timer)
         requires waiting { IfSome (item_at number self.old.waiters.items)
             (λ w. is_waiting w ≡ true) }
@@ -328,10 +364,11 @@ impl UnderWay {
                   };
             } }
     {
+        self.seek_waiter(number);
         self.update_waiter(number, Some(WaiterChange::Deliver { bytes, id, timer }));
     }
 
-    /// `Waiters::fire`.
+    /// Fires the timer of a waiter that was sent its response: `Waiters::fire`.
     pub fn fire_waiter(&mut self, number: WaiterNumber, now: Moment) -> Fire
         requires due { IfSome (item_at number self.old.waiters.items) (waiters.IsDue now) }
         requires now { now ≤ 2 ^ 62 }
@@ -344,11 +381,12 @@ impl UnderWay {
                   };
             } }
     {
+        self.seek_waiter(number);
         self.waiters.laws();
         self.waiters.fire(number, now)
     }
 
-    /// `Waiters::update`. Which client of its exchange is to be served first follows.
+    /// `Waiters::update`. Who of its exchange is to be served first is brought up to date.
     fn update_waiter(&mut self, number: WaiterNumber, change: Option<WaiterChange>)
         requires { waiters.CanUpdate change (item_at number self.old.waiters.items) }
         ensures { self.new
@@ -392,8 +430,7 @@ fn got_in(exchanges: &Exchanges, number: Option<ExchangeNumber>) -> Option<Momen
     Some(answer.got)
 }
 
-/// The same as `ready_in`, if there is an exchange, for one whose answer came at this moment, if it
-/// has.
+/// `ready_in` of the exchange, if there is one, given the moment when its answer came, if it has.
 fn ready_since(
     got: Option<Moment>,
     waiters: &Waiters,

@@ -1,22 +1,20 @@
 //! Tables of waiters: who waits for which exchange, which are being sent a response, and which is
 //! due.
-ghost use Rattle.std.specs.Prelude.{◌≡◌, ◌+◌, ◌-◌, ◌<◌, ◌≤◌, ◌^◌, ◌==◌, ◌↔◌, length, if◌then◌else◌, true, false, nat_eq, OnOk, OnErr, IfOk, IfErr, IfSome, IfNone};
-ghost use Rattle.std.specs.Map.{set_value};
-ghost use Rattle.std.specs.Option.{option_copied, option_map};
+ghost use Rattle.std.specs.Prelude.{◌≡◌, ◌+◌, ◌-◌, ◌<◌, ◌≤◌, ◌^◌, ◌==◌, ◌↔◌, length, true, false, OnOk, OnErr, IfOk, IfErr, IfSome};
+ghost use Rattle.std.specs.Option.{option_copied};
 ghost use Rattle.indexmap.specs.IndexMap.{get};
 ghost use Rattle.coap_exchange.specs.declared.table.AdmitError.TheVariants.{ClientFull, Full};
 ghost use Rattle.coap_exchange.specs.Answered.{due_at};
 ghost use Rattle.coap_endpoint.specs.declared.endpoint.Endpoint.{Endpoint};
 ghost use Rattle.endpoint_counts.specs.Clients.{count_of, AreOfClients, AreWithin};
 ghost use Rattle.coap_pending.specs.Due.{due_row, first_due};
-ghost use Rattle.coap_exchange.specs.WaiterIndex.{answered_of, end_of, waiter_keys_at};
+ghost use Rattle.coap_exchange.specs.WaiterIndex.{answered_of, end_of};
 ghost use Rattle.coap_pending.specs.Table.{empty_table, item_at, admitted_to, without, withdrawn, changed_at, count, first_that, passes, IsTable};
-ghost use Rattle.coap_pending.specs.Waiters.{awaited_by, changed_by, delivered, due_after, fire_at, fired_waiter, is_of, is_waiting, joined, waits_for, was_sent_as, CanChange, CanUpdate, IsDue};
-ghost use Rattle.coap_exchange.specs.Updates.{leaver, updated, updated_at, Allows};
+ghost use Rattle.coap_pending.specs.Waiters.{awaited_by, delivered, due_after, fire_at, fired_waiter, is_of, is_waiting, joined, waits_for, was_sent_as, IsDue};
 
 use crate::exchanges::Exchanges;
-use crate::table::{AdmitError, Items, Table};
-use crate::waiter_index::{WaiterIndex, WaiterKeys, waiter_keys_in, waiter_keys_of};
+use crate::table::{AdmitError, Table};
+use crate::waiter_index::{WaiterIndex, waiter_keys_in, waiter_keys_of};
 use coap_endpoint::Endpoint;
 use coap_message::{Moment, OutOfMemory, Seq};
 use coap_pending::due::{due_under, sooner};
@@ -29,14 +27,14 @@ use std::marker::Model;
 /// Waiters in order of number. A contract sees the table. Only `new`, `seeded` and `admit`
 /// allocate.
 pub struct Waiters {
-    table: Table<Waiter>,
+    pub(crate) table: Table<Waiter>,
     /// The number of waiters that wait for an exchange.
-    waiting: usize,
+    pub(crate) waiting: usize,
     /// The number of waiters of each client.
-    clients: EndpointMap,
+    pub(crate) clients: EndpointMap,
     /// What they are looked up by.
-    index: WaiterIndex,
-    alloc: Global,
+    pub(crate) index: WaiterIndex,
+    pub(crate) alloc: Global,
 }
 
 impl Drop for Waiters {
@@ -156,6 +154,13 @@ impl Waiters {
         ensures sound { IsTable self.now }
     {
         self.table.get(number)
+    }
+
+    /// Looks for the waiter numbered `number`, so that the calls about it that follow find it at once.
+    pub(crate) fn seek(&mut self, number: WaiterNumber)
+        ensures { self.new ≡ self.old }
+    {
+        self.table.seek(number);
     }
 
     /// The number of the waiter whose response was sent to the endpoint `at` with Message ID `id`,
@@ -356,60 +361,9 @@ impl Waiters {
         self.update(number, Some(WaiterChange::Fire(now)));
         fire
     }
-
-    /// Changes the waiter numbered `number`, or removes it if there is no change. Nothing happens
-    /// if there is no such waiter. What is counted of it and what it is looked up by follow.
-    pub(crate) fn update(&mut self, number: WaiterNumber, change: Option<WaiterChange>)
-        requires { CanUpdate change (item_at number self.old.items) }
-        ensures { self.new
-            ≡ record self.old { items = updated_at changed_by change number self.old.items } }
-    {
-        let found = self.table.get(number);
-        let waiting = waiting_without(self.waiting, &self.table, number, found);
-        depart(&mut self.clients, leaver_of(found, &change));
-        let was = waiter_keys_in(found);
-        self.waiting = waiting;
-        let is = self.table.update(number, change, self.alloc);
-        self.index.rekey(number, was, is);
-    }
 }
 
 impl Table<Waiter> {
-    /// Changes the waiter numbered `number`, or removes it if there is no change, and returns what
-    /// it is looked up by then.
-    fn update(
-        &mut self,
-        number: WaiterNumber,
-        change: Option<WaiterChange>,
-        alloc: Global,
-    ) -> WaiterKeys
-        requires { Allows CanChange change (item_at number self.old.items) }
-        ensures updated { self.new
-            ≡ record self.old { items = updated_at changed_by change number self.old.items } }
-        ensures keys { result
-            ≡ waiter_keys_at (updated changed_by change (item_at number self.old.items)) }
-    {
-        match change {
-            Some(change) => self.change(number, change, alloc),
-            None => {
-                self.close(number);
-                waiter_keys_in(None)
-            }
-        }
-    }
-
-    /// Changes the waiter numbered `number`, if there is one, and returns what it is looked up by
-    /// then.
-    fn change(&mut self, number: WaiterNumber, change: WaiterChange, alloc: Global) -> WaiterKeys
-        requires { IfSome (item_at number self.old.items) (CanChange change) }
-        ensures changed { self.new
-            ≡ record self.old { items = changed_at number (changed_by change) self.old.items } }
-        ensures keys { result
-            ≡ waiter_keys_at (option_map (changed_by change) (item_at number self.old.items)) }
-    {
-        change_under(&mut self.items, number, change, alloc)
-    }
-
     /// Which waiter is due first because an answer has come. All are scanned.
     fn first_answered(&self, exchanges: &Exchanges) -> Option<(Moment, WaiterNumber)>
         ensures exact { result ≡ first_due (answered_of exchanges.now.items) self.now.items }
@@ -442,61 +396,6 @@ fn answered_at(
     let exchange = waiter.exchange()?;
     let answer = exchanges.answer_of(exchange)?;
     due_under(number, Some(answer.got))
-}
-
-fn change_under(
-    waiters: &mut Items<Waiter>,
-    number: WaiterNumber,
-    change: WaiterChange,
-    alloc: Global,
-) -> WaiterKeys
-    requires { IfSome (get nat_eq waiters.old number) (CanChange change) }
-    ensures found { IfSome (get nat_eq waiters.old number) (λ w.
-        waiters.new.entries
-        ≡ set_value (nat_eq number) waiters.old.entries (changed_by change w)) }
-    ensures missing { IfNone (get nat_eq waiters.old number)
-        (waiters.new.entries ≡ waiters.old.entries) }
-    ensures keys { result
-        ≡ waiter_keys_at (option_map (changed_by change) (get nat_eq waiters.old number)) }
-{
-    match waiters.get_mut(&number) {
-        Some(waiter) => {
-            waiter.change(change, alloc);
-            waiter_keys_of(waiter)
-        }
-        None => waiter_keys_in(None),
-    }
-}
-
-/// The number of waiters that wait for an exchange, once `found`, which is the waiter numbered
-/// `number`, no longer does.
-fn waiting_without(
-    waiting: usize,
-    waiters: &Table<Waiter>,
-    number: WaiterNumber,
-    found: Option<&Waiter>,
-) -> usize
-    requires waiting { waiting ≡ count is_waiting waiters.now.items }
-    requires found { option_copied found ≡ item_at number waiters.now.items }
-    ensures fewer { result + (if passes is_waiting (item_at number waiters.now.items) then 1 else 0)
-        ≡ waiting }
-    ensures sound { IsTable waiters.now }
-{
-    waiters.laws();
-    match found {
-        Some(waiter) if waiter.is_waiting() => waiting - 1,
-        _ => waiting,
-    }
-}
-
-/// The client of a waiter that is removed, if it is and there is one.
-fn leaver_of(found: Option<&Waiter>, change: &Option<WaiterChange>) -> Option<Peer>
-    ensures exact { result ≡ leaver (λ w. w.client) change.now (option_copied found.entry) }
-{
-    match (found, change) {
-        (Some(waiter), None) => Some(Peer::new(waiter.client)),
-        (None, _) | (_, Some(_)) => None,
-    }
 }
 
 /// The exchange that a waiter waits for, if there is a waiter and it does.

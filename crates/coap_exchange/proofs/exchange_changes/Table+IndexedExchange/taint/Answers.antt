@@ -2,7 +2,7 @@ use Rattle.std.proofs.Common.{refl}
 use Rattle.coap_pending.specs.Exchanges.{tainted_by}
 use Rattle.coap_pending.specs.Table.{by_number}
 use Rattle.coap_pending.proofs.Changes.{changed_at-is, written-is}
-use Rattle.coap_exchange.proofs.exchanges.Table+IndexedExchange.taint.Goals as goal
+use Rattle.coap_exchange.proofs.exchange_changes.Table+IndexedExchange.taint.Goals as goal
 
 pub invariant_of-self : goal.invariant_of-self
 invariant_of-self c =

@@ -3,7 +3,7 @@ use Rattle.coap_pending.specs.Exchanges.{answered}
 use Rattle.coap_exchange.specs.Ready.{Tables}
 use Rattle.endpoint_counts.proofs.Indexing.{changed-others}
 use Rattle.coap_exchange.proofs.Readying.{exchange-elsewhere, free-as, moved-as, open-unready, room-as}
-use Rattle.coap_exchange.proofs.under_way.UnderWay.answered.Goals as goal
+use Rattle.coap_exchange.proofs.under_way.UnderWay.note_answer.Goals as goal
 
 pub replace-requires-clause-free : goal.replace-requires-clause-free
 replace-requires-clause-free c =

@@ -2,7 +2,7 @@ use Rattle.coap_pending.specs.Exchanges.{tainted_by}
 use Rattle.coap_pending.proofs.Changes.{changed_at-is}
 use Rattle.coap_exchange.proofs.Indexing.{all-can-pass, all-have-passed}
 use Rattle.endpoint_counts.proofs.Indexing.{moves-changed}
-use Rattle.coap_exchange.proofs.exchanges.taint_one.Goals as goal
+use Rattle.coap_exchange.proofs.exchange_changes.taint_one.Goals as goal
 
 pub rekey-requires : goal.rekey-requires
 rekey-requires c =

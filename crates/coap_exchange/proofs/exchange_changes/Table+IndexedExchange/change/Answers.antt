@@ -5,7 +5,7 @@ use Rattle.coap_pending.specs.Exchanges.{changed_by, CanChange}
 use Rattle.coap_pending.specs.Table.{Table, by_number, item_at}
 use Rattle.coap_pending.proofs.Changes.{changed_at-is, written-is}
 use Rattle.coap_pending.proofs.ByNumber.{item_at-by_number}
-use Rattle.coap_exchange.proofs.exchanges.Table+IndexedExchange.change.Goals as goal
+use Rattle.coap_exchange.proofs.exchange_changes.Table+IndexedExchange.change.Goals as goal
 
 pub change_under-requires : goal.change_under-requires
 change_under-requires c =

@@ -1,5 +1,5 @@
 use Rattle.std.proofs.Common.{rules}
-use Rattle.coap_exchange.proofs.exchanges.Table+IndexedExchange.update.Goals as goal
+use Rattle.coap_exchange.proofs.exchange_changes.Table+IndexedExchange.update.Goals as goal
 
 pub returns-in-None-clause-keys : goal.returns-in-None-clause-keys
 returns-in-None-clause-keys c = search rules

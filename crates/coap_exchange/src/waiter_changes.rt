@@ -1,0 +1,127 @@
+//! What a change of a waiter, or its removal, does to all that is kept of it.
+ghost use Rattle.std.specs.Prelude.{◌≡◌, ◌+◌, ◌-◌, ◌<◌, if◌then◌else◌, nat_eq, IfSome, IfNone};
+ghost use Rattle.std.specs.Map.{set_value};
+ghost use Rattle.std.specs.Option.{option_copied, option_map};
+ghost use Rattle.indexmap.specs.IndexMap.{get};
+ghost use Rattle.coap_exchange.specs.WaiterIndex.{waiter_keys_at};
+ghost use Rattle.coap_pending.specs.Table.{item_at, changed_at, count, passes, IsTable};
+ghost use Rattle.coap_pending.specs.Waiters.{changed_by, is_waiting, CanChange, CanUpdate};
+ghost use Rattle.coap_exchange.specs.Updates.{leaver, updated, updated_at, Allows};
+
+use crate::table::{Items, Table};
+use crate::waiter_index::{WaiterKeys, waiter_keys_in, waiter_keys_of};
+use crate::waiters::Waiters;
+use coap_pending::{Waiter, WaiterChange, WaiterNumber};
+use endpoint_counts::Peer;
+use endpoint_counts::by_client::depart;
+use std::alloc::Global;
+
+impl Waiters {
+    /// Changes the waiter numbered `number`, or removes it if there is no change. Nothing happens
+    /// if there is no such waiter. What is counted of it and what it is looked up by follow.
+    pub(crate) fn update(&mut self, number: WaiterNumber, change: Option<WaiterChange>)
+        requires { CanUpdate change (item_at number self.old.items) }
+        ensures { self.new
+            ≡ record self.old { items = updated_at changed_by change number self.old.items } }
+    {
+        let found = self.table.get(number);
+        let waiting = waiting_without(self.waiting, &self.table, number, found);
+        depart(&mut self.clients, leaver_of(found, &change));
+        let was = waiter_keys_in(found);
+        self.waiting = waiting;
+        let is = self.table.update(number, change, self.alloc);
+        self.index.rekey(number, was, is);
+    }
+}
+
+impl Table<Waiter> {
+    /// Changes the waiter numbered `number`, or removes it if there is no change, and returns what
+    /// it is looked up by then.
+    fn update(
+        &mut self,
+        number: WaiterNumber,
+        change: Option<WaiterChange>,
+        alloc: Global,
+    ) -> WaiterKeys
+        requires { Allows CanChange change (item_at number self.old.items) }
+        ensures updated { self.new
+            ≡ record self.old { items = updated_at changed_by change number self.old.items } }
+        ensures keys { result
+            ≡ waiter_keys_at (updated changed_by change (item_at number self.old.items)) }
+    {
+        match change {
+            Some(change) => self.change(number, change, alloc),
+            None => {
+                self.close(number);
+                waiter_keys_in(None)
+            }
+        }
+    }
+
+    /// Changes the waiter numbered `number`, if there is one, and returns what it is looked up by
+    /// then.
+    fn change(&mut self, number: WaiterNumber, change: WaiterChange, alloc: Global) -> WaiterKeys
+        requires { IfSome (item_at number self.old.items) (CanChange change) }
+        ensures changed { self.new
+            ≡ record self.old { items = changed_at number (changed_by change) self.old.items } }
+        ensures keys { result
+            ≡ waiter_keys_at (option_map (changed_by change) (item_at number self.old.items)) }
+    {
+        change_under(&mut self.items, number, change, alloc)
+    }
+}
+
+fn change_under(
+    waiters: &mut Items<Waiter>,
+    number: WaiterNumber,
+    change: WaiterChange,
+    alloc: Global,
+) -> WaiterKeys
+    requires { IfSome (get nat_eq waiters.old number) (CanChange change) }
+    ensures found { IfSome (get nat_eq waiters.old number) (λ w.
+        waiters.new.entries
+        ≡ set_value (nat_eq number) waiters.old.entries (changed_by change w)) }
+    ensures missing { IfNone (get nat_eq waiters.old number)
+        (waiters.new.entries ≡ waiters.old.entries) }
+    ensures keys { result
+        ≡ waiter_keys_at (option_map (changed_by change) (get nat_eq waiters.old number)) }
+{
+    match waiters.get_mut(&number) {
+        Some(waiter) => {
+            waiter.change(change, alloc);
+            waiter_keys_of(waiter)
+        }
+        None => waiter_keys_in(None),
+    }
+}
+
+/// The number of waiters that wait for an exchange, once `found`, which is the waiter numbered
+/// `number`, no longer does.
+fn waiting_without(
+    waiting: usize,
+    waiters: &Table<Waiter>,
+    number: WaiterNumber,
+    found: Option<&Waiter>,
+) -> usize
+    requires waiting { waiting ≡ count is_waiting waiters.now.items }
+    requires found { option_copied found ≡ item_at number waiters.now.items }
+    ensures fewer { result + (if passes is_waiting (item_at number waiters.now.items) then 1 else 0)
+        ≡ waiting }
+    ensures sound { IsTable waiters.now }
+{
+    waiters.laws();
+    match found {
+        Some(waiter) if waiter.is_waiting() => waiting - 1,
+        _ => waiting,
+    }
+}
+
+/// The client of a waiter that is removed, if it is and there is one.
+fn leaver_of(found: Option<&Waiter>, change: &Option<WaiterChange>) -> Option<Peer>
+    ensures exact { result ≡ leaver (λ w. w.client) change.now (option_copied found.entry) }
+{
+    match (found, change) {
+        (Some(waiter), None) => Some(Peer::new(waiter.client)),
+        (None, _) | (_, Some(_)) => None,
+    }
+}
