@@ -83,6 +83,11 @@ module _ {S : Type 0} (sets : S → Bool → Result ⊤ ErrorKind → S → Type
     pub given : IsEvent read event
     pub left : q ≡ after_read p q.system q.waiting
 
+-- the moment is still the last one, and the draw is drawn now
+abbrev pub IsDrawn : {S : Type 0} → (S → ℕ → S → Type 0) → Udp S → ℕ → ℕ → Udp S → Type 0
+IsDrawn draws p now draw q = (number : ℕ) × draws p.system number q.system
+    × (now ≡ p.last) × (draw ≡ draw_of number) × (q ≡ record p { system = q.system })
+
 module _ {S : Type 0} (shows : S → Option ℕ → S → Type 0) (draws : S → ℕ → S → Type 0) where
   -- the moment is what the clock shows now, and the draw is drawn now
   abbrev pub IsTimed : Udp S → ℕ → ℕ → Udp S → Type 0
@@ -95,9 +100,10 @@ module _ {S : Type 0} (sets : S → Bool → Result ⊤ ErrorKind → S → Type
     (receives : S → ℕ → Result (List ℕ × SocketAddr) ErrorKind → S → Type 0)
     (awaits : S → ℕ → Result Bool ErrorKind → S → Type 0)
     (shows : S → Option ℕ → S → Type 0) (draws : S → ℕ → S → Type 0) where
-  -- without a wait (`true`) a tick; otherwise what was read, and then the moment and the draw
+  -- without a wait (`true`) a tick at the last moment; otherwise what was read, and then the
+  -- moment and the draw
   abbrev pub GivesBy : Bool → ℕ → Udp S → ℕ → Turn → Udp S → Type 0
-  GivesBy true room p wait t q = (t.event ≡ tick) × IsTimed shows draws p t.now t.draw q
+  GivesBy true room p wait t q = (t.event ≡ tick) × IsDrawn draws p t.now t.draw q
   GivesBy false room p wait t q = (m : Udp S)
       × Arrives sets receives awaits room p wait t.event m × IsTimed shows draws m t.now t.draw q
 

@@ -3,7 +3,7 @@ ghost use Rattle.std.specs.Prelude.{◌≡◌, ◌≤◌, ◌<◌, ◌+◌, ◌^
 ghost use Rattle.coap_model.specs.Events.{event_given};
 ghost use Rattle.coap_port.specs.Given.{IsOnward, given_by};
 ghost use Rattle.coap_udp.specs.Systems.{IsTo, read_of};
-ghost use Rattle.coap_udp.specs.Udp.{Arrives, EndsBy, IsRead, IsTimed, ReadsInto, is_of_ipv6, new_port, port_over};
+ghost use Rattle.coap_udp.specs.Udp.{Arrives, EndsBy, IsDrawn, IsRead, IsTimed, ReadsInto, is_of_ipv6, new_port, port_over};
 
 use crate::address::{address_of, endpoint_of};
 use crate::exchanging::{read_by, send_whole};
@@ -23,8 +23,9 @@ use std::time::Clock;
 /// A port over one UDP socket.
 ///
 /// Its moments are the milliseconds since it was created, or the last moment if the clock can't be
-/// read. Its draws come from a generator that is seeded from the system's random source. The
-/// contracts say which calls it makes to the system, and not what the system gives.
+/// read. It reads the clock once after each read: a tick without a wait has the last moment again.
+/// Its draws come from a generator that is seeded from the system's random source. The contracts say
+/// which calls it makes to the system, and not what the system gives.
 ///
 /// A datagram is read straight into the buffer that the port is handed, and the system cuts it to
 /// the room there. A read takes one system call while datagrams come, and so does a send. If
@@ -216,6 +217,21 @@ impl<S: System + Drop> UdpPort<S> {
             from,
         }
     }
+
+    /// A tick at the last moment, for what is due already.
+    fn tick(&mut self) -> Turn
+        ensures drawn { IsDrawn S.draws self.old result.now result.draw self.new }
+        ensures moment { result.now ≤ 2 ^ 62 }
+        ensures draw { result.draw ≤ 1000 }
+        ensures from { result.from ≡ None }
+    {
+        let drawn = self.system.random();
+        Turn {
+            now: self.last,
+            draw: draw_of(drawn),
+            from: None,
+        }
+    }
 }
 
 impl<S: System + Drop> Port for UdpPort<S> {
@@ -252,7 +268,7 @@ impl<S: System + Drop> Port for UdpPort<S> {
     {
         if wait == 0 {
             into.clear();
-            return Ok(self.turn(None));
+            return Ok(self.tick());
         }
         let from = self.arrival(wait, into)?;
         Ok(self.turn(from))

@@ -105,7 +105,7 @@ fn moment<P: Port>(
     ensures { OnOk result (P.failures port.new ≡ P.failures port.old) }
 {
     clock.shown.set(shown);
-    Ok(port.next(0, into)?.now)
+    Ok(port.next(1, into)?.now)
 }
 
 /// The moments while a clock shows sixty days, goes back, can't be read, comes to the last moment,
@@ -134,6 +134,18 @@ fn moments_are_those_of_the_clock(rt: HostRuntime) -> Result<(), Fail> {
         moments(&mut port, &clock, &mut into)?,
         [SIXTY_DAYS, SIXTY_DAYS, SIXTY_DAYS, LAST_MOMENT, LAST_MOMENT]
     );
+    Ok(())
+}
+
+#[test]
+fn a_tick_without_a_wait_has_the_last_moment(rt: HostRuntime) -> Result<(), Fail> {
+    let clock = SetClock::at(START);
+    let mut into = Datagram::new(rt.alloc(), 5)?;
+    let mut port = UdpPort::bind_by(&rt, &clock, &rt, rt.alloc(), FREE)?;
+    assert_eq!(rt; moment(&mut port, &clock, &mut into, Some(START + 7))?, 7);
+    clock.shown.set(Some(START + 9));
+    assert_eq!(rt; port.next(0, &mut into)?.now, 7);
+    assert_eq!(rt; port.next(1, &mut into)?.now, 9);
     Ok(())
 }
 

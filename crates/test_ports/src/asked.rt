@@ -88,8 +88,8 @@ fn first_turn(alloc: Global, script: Script, wait: u64) -> Result<(Turn, Datagra
 /// First turns: what the first read is answered, the wait, what is read, and what the port asks
 /// for.
 const TURNS: [(First, u64, &str, &str); 9] = [
-    // without a wait nothing is read
-    (First::Nothing, 0, "", "clock, draw; "),
+    // without a wait nothing is read, and the clock isn't either
+    (First::Nothing, 0, "", "draw; "),
     // nothing comes
     (First::Nothing, 1000, "", "read 5, wait 996, clock, draw; "),
     (
@@ -138,9 +138,10 @@ fn a_turn_asks_for_what_it_needs(rt: HostRuntime) -> Result<(), Fail> {
     let alloc = rt.alloc();
     for (first, wait, read, calls) in TURNS {
         let (turn, into, asked) = first_turn(alloc, system(alloc, first)?, wait)?;
+        let now = if wait == 0 { 0 } else { 9 };
         assert_eq!(rt;
             (turn.now, turn.draw, into.bytes()),
-            (9, 499, read.as_bytes())
+            (now, 499, read.as_bytes())
         );
         assert_eq!(rt; turn.from.is_none(), read.is_empty());
         assert_eq!(rt; asked.as_str(), calls);
@@ -151,10 +152,13 @@ fn a_turn_asks_for_what_it_needs(rt: HostRuntime) -> Result<(), Fail> {
 #[test]
 fn a_clock_that_cannot_be_read_shows_nothing(rt: HostRuntime) -> Result<(), Fail> {
     let alloc = rt.alloc();
-    let (turn, into, asked) = first_turn(alloc, Script::new(alloc), 0)?;
+    let (turn, into, asked) = first_turn(alloc, Script::new(alloc), 1)?;
     assert_eq!(rt; (turn.now, turn.draw, into.bytes()), (0, 0, b"".as_slice()));
     assert!(rt; turn.from.is_none());
-    assert_eq!(rt; asked.as_str(), "clock, draw; ");
+    assert_eq!(rt;
+        asked.as_str(),
+        "not waiting, read 5, wait 1, clock, draw; "
+    );
     Ok(())
 }
 
