@@ -29,10 +29,11 @@ use Rattle.coap_model.specs.Verdicts.{Verdict, refused_with, may_ask, verdict_of
 use Rattle.coap_model.specs.State.{State, Step, reserved, has_ids, can_reply, has_exchange_room, has_waiter_room, has_room_to_join, has_room_to_open, known_of, remembers, repeats}
 use Rattle.coap_model.specs.Requests.{lacks_id, refuses, overloads, opens, turns_down, turns_away, hits, joins, on_exchange_needed, on_joinable, on_miss, on_entry, on_key, on_verdict, on_new}
 use Rattle.coap_core.specs.Arrivals.{of_arrival}
-use Rattle.coap_core.specs.Steps.{Does, IsDone, CanAsk, IsForwardable, missed_step, needing_step, opening_step, repetition_of, wants_memory}
+use Rattle.coap_core.specs.Asked.{CanAsk, IsForwardable, missed_step, needing_step, opening_step}
+use Rattle.coap_core.specs.Done.{Does, IsDone, repetition_of, wants_memory}
 use Rattle.coap_core.specs.declared.arrival.Arrival.{Arrival}
 use Rattle.coap_core.specs.declared.request_target.CacheQuery.{CacheQuery}
-use Rattle.coap_core.specs.declared.requests.Missed.{Missed}
+use Rattle.coap_core.specs.declared.misses.Missed.{Missed}
 use Rattle.coap_model.proofs.Verdicts.{askable}
 use Rattle.coap_core.proofs.Puts.{taken-takes}
 use Rattle.coap_core.proofs.Records.{held-same}

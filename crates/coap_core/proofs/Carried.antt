@@ -15,11 +15,12 @@ use Rattle.coap_limits.specs.Limits.{AreLimits}
 use Rattle.coap_model.specs.Carries.{Carries}
 use Rattle.coap_model.specs.Ranges.{AreInRange}
 use Rattle.coap_model.specs.Ticks.{next_due}
-use Rattle.coap_model.proofs.Bounding.{next-bounded}
-use Rattle.coap_model.proofs.Carrying.{keeps_step}
+use Rattle.coap_model.proofs.DueBound.{next-bounded}
+use Rattle.coap_model.proofs.AllCases.{keeps_step}
 use Rattle.coap_model.proofs.Frames.{opened-few, admitted-few}
-use Rattle.coap_model.proofs.Running.{setting_stays}
-use Rattle.coap_core.specs.Steps.{Does, CanGoOn, observation_told}
+use Rattle.coap_model.proofs.Runs.{setting_stays}
+use Rattle.coap_core.specs.Done.{Does, observation_told}
+use Rattle.coap_core.specs.Needs.{CanGoOn}
 
 -- what is remembered came at the last moment, or before
 until : (w : State) (actions : List Action) → w.last ≡ last_of actions → (rs : List Record) → AreUpTo (last_of actions) rs → AreUpTo w.last rs

@@ -7,7 +7,7 @@ use Rattle.coap_pending.specs.Ids.{left_of}
 use Rattle.coap_pending.specs.Table.{Numbered, item_at, count}
 use Rattle.coap_pending.specs.Waiters.{is_waiting}
 use Rattle.coap_model.specs.State.{State}
-use Rattle.coap_core.specs.Steps.{CanGoOn}
+use Rattle.coap_core.specs.Needs.{CanGoOn}
 
 -- an item that passes is counted
 counted : {A : Type 0} (test : A → Bool) (n : ℕ) (xs : List (Numbered A)) (x : A) → item_at n xs ≡ Some x → test x ≡ true → 0 < count test xs

@@ -32,7 +32,8 @@ use Rattle.coap_model.specs.State.{State, Step, later, silent, says, accepts, ha
 use Rattle.coap_model.specs.Empties.{on_exchange}
 use Rattle.coap_model.specs.Responses.{awaiting, on_awaited, on_separate}
 use Rattle.coap_core.proofs.Awaiting.{awaited}
-use Rattle.coap_core.specs.Steps.{Does, IsOpenAt, resets, wants_memory}
+use Rattle.coap_core.specs.Done.{Does, resets, wants_memory}
+use Rattle.coap_core.specs.Needs.{IsOpenAt}
 use Rattle.coap_core.specs.Storing.{IsKept, IsPut, answering, answering_at, awaited_step, separate_step, if_storable, accepted, accepted_bytes, accepted_to}
 
 -- the choice of a test that is known

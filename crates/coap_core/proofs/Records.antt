@@ -11,7 +11,7 @@ use Rattle.coap_message.specs.Message.{Message}
 use Rattle.coap_endpoint.specs.declared.endpoint.Endpoint.{Endpoint}
 use Rattle.coap_model.specs.State.{State, records_of, has_record_room, known_of, remembers}
 use Rattle.coap_model.specs.Requests.{on_new, on_request}
-use Rattle.coap_core.specs.Steps.{CanGoOn}
+use Rattle.coap_core.specs.Needs.{CanGoOn}
 
 -- they are records
 pub are-records : (w : State) (kind : Kind) → CanGoOn w → AreRecords (records_of kind w)

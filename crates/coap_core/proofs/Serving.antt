@@ -18,7 +18,7 @@ use Rattle.coap_forward.specs.Messages.{is_con}
 use Rattle.coap_model.specs.History.{is_con_datagram}
 use Rattle.coap_model.specs.Ticks.{abandons, redelivers, on_delivery_timeout}
 use Rattle.coap_model.specs.State.{State}
-use Rattle.coap_core.specs.Steps.{answer_in_state, unheard, delivery_timeout_at}
+use Rattle.coap_core.specs.Dues.{answer_in_state, unheard, delivery_timeout_at}
 
 -- ---- what is done where the timeout has ended
 

@@ -22,7 +22,8 @@ use Rattle.coap_model.specs.declared.due.DueItem.TheVariants.{OfExchange, OfWait
 use Rattle.coap_model.specs.State.{State, later, next_id}
 use Rattle.coap_model.specs.Ticks.{exchange_due, waiter_due, first_item, item_due, if_due, sends, resends, gives_up, on_request_timeout, on_item, on_tick}
 use Rattle.coap_model.proofs.FirstDue.{first_due-holds}
-use Rattle.coap_core.specs.Steps.{HasCome, IsClientDue, IsExchangeDue, IsFound, exchange_at, waiter_at, sending_at, request_timeout_at, form_at}
+use Rattle.coap_core.specs.Dues.{HasCome, IsClientDue, IsExchangeDue, exchange_at, waiter_at, sending_at, request_timeout_at, form_at}
+use Rattle.coap_core.specs.Needs.{IsFound}
 use Rattle.coap_core.specs.declared.timing.Timing.{Timing}
 
 -- ---- items of a table

@@ -2,9 +2,14 @@ pub mod Arrivals
 pub mod Events
 pub mod Forms
 pub mod Settings
-pub mod Steps
+pub mod Asked
+pub mod Done
+pub mod Dues
+pub mod Needs
 pub mod Within
 pub mod Storing
+pub mod Told
+pub mod Watched
 pub mod Watching
 pub use Rattle.coap_model.specs.Setting
 pub use Rattle.coap_model.specs.State

@@ -1,5 +1,5 @@
 -- What the tables of a core keep to after each step.
-use Rattle.std.specs.Prelude.{◌≡◌, ℕ, ◌≤◌, length}
+use Rattle.std.specs.Prelude.{◌≤◌, length}
 use Rattle.coap_dedup.specs.Records.{living_at}
 use Rattle.coap_endpoint.specs.declared.endpoint.Endpoint.{Endpoint}
 use Rattle.coap_store.specs.Entries.{entry_size}

@@ -6,7 +6,8 @@ ghost use Rattle.coap_forward.specs.Messages.{is_bare};
 ghost use Rattle.coap_model.specs.Empties.{acknowledges, closes, on_client, on_exchange, on_empty};
 ghost use Rattle.coap_model.specs.History.{grown_of};
 ghost use Rattle.coap_core.specs.Arrivals.{of_arrival, of_grown};
-ghost use Rattle.coap_core.specs.Steps.{Does, CanGoOn, IsSentAt, resets};
+ghost use Rattle.coap_core.specs.Done.{Does, resets};
+ghost use Rattle.coap_core.specs.Needs.{CanGoOn, IsSentAt};
 
 use crate::arrival::Arrival;
 use crate::state::{State, silent};
@@ -103,7 +104,7 @@ impl<S: Store + Drop> State<S> {
         }
     }
 
-    /// Removes the client numbered `number`, which has acknowledged its answer, or rejected it.
+    /// Removes the waiter numbered `number`, which has acknowledged its answer, or rejected it.
     fn close_client(&mut self, now: Moment, number: WaiterNumber, out: &mut Datagram) -> Report
         requires { CanGoOn self.old }
         ensures { Does (closes self.old now number) result out.old out.new self.new }

@@ -8,7 +8,8 @@ ghost use Rattle.coap_forward.specs.Messages.{acknowledgement, reply_kind, reply
 ghost use Rattle.coap_model.specs.State.{next_id, records_of, has_record_room, can_reply, drops, known_of, with_record};
 ghost use Rattle.coap_model.specs.Requests.{replied};
 ghost use Rattle.coap_core.specs.Arrivals.{of_arrival};
-ghost use Rattle.coap_core.specs.Steps.{CanGoOn, CanRemember, CanReplyTo, CanStep, Does, IsSaid, repetition_of};
+ghost use Rattle.coap_core.specs.Done.{Does, IsSaid, repetition_of};
+ghost use Rattle.coap_core.specs.Needs.{CanGoOn, CanRemember, CanReplyTo, CanStep};
 ghost use Rattle.coap_core.specs.Storing.{accepted_bytes, accepted_to};
 
 use crate::arrival::Arrival;

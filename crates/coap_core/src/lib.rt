@@ -1,4 +1,5 @@
-//! The step of a proxy in code: exactly the model's step, for one event at a time.
+//! The step of a proxy in code: exactly the model's step, for one event at a time; and watchers,
+//! which are told what each turn was and what it did.
 //!
 //! # First use
 //!
@@ -18,11 +19,14 @@
 #![tactic(auto)]
 
 mod arrival;
+mod both;
 mod copies;
 mod empties;
 mod event;
+mod holders;
 mod known;
 mod laws;
+mod misses;
 mod proxy;
 mod request_target;
 mod requests;
@@ -32,8 +36,10 @@ mod state;
 mod step;
 mod ticks;
 mod timing;
+mod watch;
 mod watching;
 
+pub use both::Both;
 pub use coap_endpoint::{Endpoint, Ip};
 pub use coap_exchange::{EndpointMap, Exchange, Waiter};
 pub use coap_message::{Code, Datagram, LAST_MOMENT, MOST_JITTER, Moment, OutOfMemory};
@@ -43,4 +49,6 @@ pub use coap_model::{
 pub use coap_store::Store;
 pub use coap_target::{RouteError, Routes};
 pub use event::Event;
+pub use holders::{Holder, Holders, SharedTable};
 pub use proxy::{Core, MOST_EVENTS};
+pub use watch::{Seen, Unwatched, Watch};

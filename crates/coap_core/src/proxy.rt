@@ -10,10 +10,11 @@ ghost use Rattle.coap_model.specs.History.{grown_of};
 ghost use Rattle.coap_model.specs.Step.{step_of};
 ghost use Rattle.coap_model.specs.Carries.{Carries};
 ghost use Rattle.coap_core.specs.Events.{IsUnread, seen};
-ghost use Rattle.coap_core.specs.Steps.{CarriesOn, Does, GivesConfirmable, KeepsWordOn, LeavesRoomOn, PromisesOn, observation_told, wants_memory};
+ghost use Rattle.coap_core.specs.Done.{CarriesOn, Does, GivesConfirmable, KeepsWordOn, LeavesRoomOn, PromisesOn, observation_told, wants_memory};
 ghost use Rattle.coap_core.specs.Within.{AreWithinLimits};
 
 use crate::event::Event;
+use crate::request_target::CacheQuery;
 use crate::setting::Setting;
 use crate::state::State;
 use crate::ticks::moment_of;
@@ -35,11 +36,17 @@ pub struct Core<S: Store> {
     pub(crate) state: State<S>,
     /// What is due first in the state.
     pub(crate) due: Option<DueItem>,
+    /// Room for what the next request asks for, which never grows.
+    pub(crate) query: CacheQuery,
 }
 
 impl<S: Store + Drop> Drop for Core<S> {
     fn drop(self) {
-        let Core { state: _, due: _ } = self;
+        let Core {
+            state: _,
+            due: _,
+            query: _,
+        } = self;
     }
 }
 
@@ -94,8 +101,9 @@ impl<S: Store + Drop> Core<S> {
             salt,
         };
         let state = State::new(alloc, seed, setting)?;
+        let query = CacheQuery::for_any(alloc, &state.setting)?;
         let due = state.first_due();
-        Ok(Core { state, due })
+        Ok(Core { state, due, query })
     }
 
     /// Handles one event at the moment `now`. `draw` is a random number of milliseconds, added to
@@ -131,7 +139,7 @@ impl<S: Store + Drop> Core<S> {
 
         ensures short { length out.new.bytes ≤ self.new.setting.limits.datagram }
 
-        // A core that carries a history then carries it with the step's entry in front.
+        // A core that carries a history then carries it with the step's observation in front.
         ensures carries { IfOk result (λ report.
             CarriesOn self.old (observation_told now draw (seen event.entry) report out.new.bytes)
             self.new) }
@@ -181,7 +189,9 @@ impl<S: Store + Drop> Core<S> {
         laws::settings_stay();
         event.laws();
         let timing = Timing { now, draw };
-        let done = self.state.step(timing, event, self.due, out);
+        let done = self
+            .state
+            .step(timing, event, self.due, &mut self.query, out);
         self.due = self.state.first_due();
         done
     }

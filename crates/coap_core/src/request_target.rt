@@ -4,6 +4,7 @@ ghost use Rattle.coap_option.specs.Selection.{tags_of};
 ghost use Rattle.coap_model.specs.Keys.{request_key};
 ghost use Rattle.coap_core.specs.Forms.{seen};
 
+use crate::setting::Setting;
 use coap_endpoint::{Endpoint, Ip, Target};
 use coap_message::{MessageRef, OptionList, OutOfMemory, Pieces, Seq};
 use coap_option::{key_options_into, tags_into};
@@ -67,7 +68,7 @@ const LONGEST_HOST: usize = 255;
 
 impl CacheQuery {
     /// One without any room. Doesn't allocate.
-    pub(crate) fn new(alloc: Global) -> CacheQuery {
+    fn new(alloc: Global) -> CacheQuery {
         let nowhere = Endpoint {
             ip: Ip::V4([0; 4]),
             port: 0,
@@ -87,17 +88,25 @@ impl CacheQuery {
         }
     }
 
+    /// Room for what any request to a proxy of this setting asks for.
+    ///
+    /// # Errors
+    /// Out of memory.
+    pub(crate) fn for_any(alloc: Global, setting: &Setting) -> Result<CacheQuery, OutOfMemory> {
+        let mut path = 0;
+        for map in setting.routes.maps() {
+            path = path.max(map.origin.path.size());
+        }
+        CacheQuery::with_room(alloc, setting.limits.values().datagram as usize, path)
+    }
+
     /// Room for what any request of at most `datagram` bytes asks for, if the path of an origin
     /// takes at most `path` bytes. None of its lists takes more than the options that it is read
     /// from, so that nothing is allocated later.
     ///
     /// # Errors
     /// Out of memory.
-    pub(crate) fn with_room(
-        alloc: Global,
-        datagram: usize,
-        path: usize,
-    ) -> Result<CacheQuery, OutOfMemory> {
+    fn with_room(alloc: Global, datagram: usize, path: usize) -> Result<CacheQuery, OutOfMemory> {
         let mut query = CacheQuery::new(alloc);
         query.make_room(alloc, datagram, path)?;
         Ok(query)

@@ -11,7 +11,8 @@ ghost use Rattle.coap_model.specs.Responses.{has_id, awaiting, on_response};
 ghost use Rattle.coap_model.specs.History.{grown_of};
 ghost use Rattle.coap_core.specs.Arrivals.{of_arrival, of_grown};
 ghost use Rattle.coap_core.specs.Storing.{IsKept, answering_at, awaited_step, confirmable_step, separate_step, if_storable, targets_in, accepted, accepted_bytes, accepted_to};
-ghost use Rattle.coap_core.specs.Steps.{CanDo, CanGoOn, CanRemember, Does, IsDoneBy, IsNew, IsOpenAt, wants_memory};
+ghost use Rattle.coap_core.specs.Done.{Does, IsDoneBy, wants_memory};
+ghost use Rattle.coap_core.specs.Needs.{CanDo, CanGoOn, CanRemember, IsNew, IsOpenAt};
 
 use crate::arrival::Arrival;
 use crate::copies::copy_of_message;
@@ -260,7 +261,7 @@ impl<S: Store + Drop> State<S> {
         Ok(send)
     }
 
-    /// Does nothing: a datagram of 128 bytes isn't too long.
+    /// A law: the limit of a datagram is at least 128 bytes.
     fn laws(&self)
         ensures { 128 ≤ self.now.setting.limits.datagram }
     {

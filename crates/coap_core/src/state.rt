@@ -5,9 +5,8 @@ ghost use Rattle.coap_pending.specs.Table.{empty_table};
 ghost use Rattle.coap_limits.specs.Limits.{AreLimits};
 ghost use Rattle.coap_model.specs.State.{next_id, later, reserved, has_ids, has_exchange_room, has_waiter_room, has_room_to_join, has_room_to_open, new_state, no_con_records, no_non_records, client_counts, counts};
 ghost use Rattle.coap_core.specs.Settings.{seen};
-ghost use Rattle.coap_core.specs.Steps.{CanGoOn, CanStep};
+ghost use Rattle.coap_core.specs.Needs.{CanGoOn, CanStep};
 
-use crate::request_target::CacheQuery;
 use crate::setting::Setting;
 use coap_dedup::{EXCHANGE_LIFETIME, NON_LIFETIME, Records};
 use coap_endpoint::Endpoint;
@@ -15,10 +14,8 @@ use coap_exchange::{Exchanges, Ids, UnderWay, Waiters};
 use coap_message::{Moment, OutOfMemory};
 use coap_model::{ClientCounts, Counts, Limits, Outcome, Report};
 use coap_store::Store;
-use coap_target::Routes;
 use std::alloc::Global;
 use std::marker::Model;
-use std::mem;
 
 /// What a proxy was made with, and what it holds. A contract sees the model's state.
 pub(crate) struct State<S: Store> {
@@ -27,8 +24,6 @@ pub(crate) struct State<S: Store> {
     /// Exchanges, and the clients that wait for them.
     pub(crate) under_way: UnderWay,
     pub(crate) store: S,
-    /// Room for what the next request asks for, which never grows.
-    pub(crate) room: CacheQuery,
     pub(crate) con_records: Records,
     pub(crate) non_records: Records,
     pub(crate) ids: Ids,
@@ -43,7 +38,6 @@ impl<S: Store + Drop> Drop for State<S> {
             setting: _,
             under_way: _,
             store: _,
-            room: _,
             con_records: _,
             non_records: _,
             ids: _,
@@ -100,34 +94,18 @@ impl<S: Store + Drop> State<S> {
         let store = S::with_limits(alloc, seed, bytes, entries as usize)?;
         let (con_records, non_records) = new_records(alloc, &limits)?;
         let under_way = new_tables(alloc, &limits, setting.salt)?;
-        let room = new_room(alloc, &limits, &setting.routes)?;
         let ids = Ids::new(setting.first_id);
         Ok(State {
             alloc,
             setting,
             under_way,
             store,
-            room,
             con_records,
             non_records,
             ids,
             last: 0,
             events: 0,
         })
-    }
-
-    /// Takes the room for what a request asks for, until it is given back.
-    pub(crate) fn take_scratch(&mut self) -> CacheQuery
-        ensures { self.new ≡ self.old }
-    {
-        mem::replace(&mut self.room, CacheQuery::new(self.alloc))
-    }
-
-    /// Gives the room back.
-    pub(crate) fn return_scratch(&mut self, room: CacheQuery)
-        ensures { self.new ≡ self.old }
-    {
-        self.room = room;
     }
 
     /// Advances the clock by one event.
@@ -235,15 +213,6 @@ impl<S: Store + Drop> State<S> {
             waiters: self.under_way.waiters().len() as u64,
         }
     }
-}
-
-/// Room for what any request asks for.
-fn new_room(alloc: Global, limits: &Limits, routes: &Routes) -> Result<CacheQuery, OutOfMemory> {
-    let mut path = 0;
-    for map in routes.maps() {
-        path = path.max(map.origin.path.size());
-    }
-    CacheQuery::with_room(alloc, limits.values().datagram as usize, path)
 }
 
 /// Empty tables of exchanges and of waiters, with room for as many as the limits say.

@@ -9,10 +9,12 @@ ghost use Rattle.coap_model.specs.Step.{message_in, on_message, on_datagram, ste
 ghost use Rattle.coap_model.specs.Ticks.{item_due, on_tick};
 ghost use Rattle.coap_core.specs.Arrivals.{of_grown};
 ghost use Rattle.coap_core.specs.Events.{IsUnread, seen};
-ghost use Rattle.coap_core.specs.Steps.{CanDo, CanGoOn, Does, GivesConfirmable, IsDoneBy, wants_memory};
+ghost use Rattle.coap_core.specs.Done.{Does, GivesConfirmable, IsDoneBy, wants_memory};
+ghost use Rattle.coap_core.specs.Needs.{CanDo, CanGoOn};
 
 use crate::arrival::Arrival;
 use crate::event::Event;
+use crate::request_target::CacheQuery;
 use crate::state::{State, silent};
 use crate::timing::Timing;
 use coap_endpoint::Endpoint;
@@ -22,13 +24,14 @@ use coap_model::{DueItem, Outcome, Report};
 use coap_store::Store;
 
 impl<S: Store + Drop> State<S> {
-    /// One step. `due` is what is due first. If it runs out of memory, nothing has happened, and
-    /// `out` is empty.
+    /// One step. `due` is what is due first; what a request asks for is read into `asked`. If it
+    /// runs out of memory, nothing has happened, and `out` is empty.
     pub(crate) fn step(
         &mut self,
         timing: Timing,
         event: Event<'_>,
         due: Option<DueItem>,
+        asked: &mut CacheQuery,
         out: &mut Datagram,
     ) -> Result<Report, OutOfMemory>
         requires due { due ≡ item_due self.old }
@@ -49,7 +52,9 @@ impl<S: Store + Drop> State<S> {
             → IsOk result }
     {
         let done = match event {
-            Event::Datagram { from, bytes } => self.on_datagram(timing.now, from, bytes, out),
+            Event::Datagram { from, bytes } => {
+                self.on_datagram(timing.now, from, bytes, asked, out)
+            }
             Event::Tick => self.on_tick(timing, due, out),
         };
         if done.is_err() {
@@ -63,6 +68,7 @@ impl<S: Store + Drop> State<S> {
         now: Moment,
         source: Endpoint,
         bytes: &[u8],
+        asked: &mut CacheQuery,
         out: &mut Datagram,
     ) -> Result<Report, OutOfMemory>
         requires can { CanDo (on_datagram self.old now true source bytes.now) now self.old out.old }
@@ -79,7 +85,7 @@ impl<S: Store + Drop> State<S> {
                 from: source,
                 message: &message,
             };
-            return self.on_message(arrival, out);
+            return self.on_message(arrival, asked, out);
         }
         match head_of(bytes) {
             Some(head) => Ok(self.unprocessed(now, source, head, out)),
@@ -102,6 +108,7 @@ impl<S: Store + Drop> State<S> {
     fn on_message(
         &mut self,
         arrival: Arrival<'_, '_>,
+        asked: &mut CacheQuery,
         out: &mut Datagram,
     ) -> Result<Report, OutOfMemory>
         requires can { CanDo (of_grown (on_message self.old) arrival true)
@@ -113,7 +120,7 @@ impl<S: Store + Drop> State<S> {
     {
         match arrival.message.kind() {
             Kind::Con | Kind::Non if arrival.message.code().is_request() => {
-                self.on_request(arrival, out)
+                self.on_request(arrival, asked, out)
             }
             Kind::Con | Kind::Non | Kind::Ack if arrival.message.code().is_response() => {
                 self.on_response(arrival, out)

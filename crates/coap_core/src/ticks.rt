@@ -8,7 +8,9 @@ ghost use Rattle.coap_model.specs.History.{is_con_datagram};
 ghost use Rattle.coap_model.specs.Ticks.{abandons, item_due, moment_of, gives_up, idles, on_tick, without_idle};
 ghost use Rattle.coap_pending.specs.Waiters as waiters;
 ghost use Rattle.coap_pending.specs.Waiters.{is_waiting};
-ghost use Rattle.coap_core.specs.Steps.{CanDo, CanGoOn, CanStep, Does, GivesConfirmable, HasAnswer, IsClientDue, IsDone, IsExchangeDue, IsFound, IsServed, answer_at, delivery_at, exchange_at, request_timeout_at, form_at, given_at, sending_at, told_in, delivery_timeout_at, waiter_at};
+ghost use Rattle.coap_core.specs.Done.{Does, GivesConfirmable, IsDone};
+ghost use Rattle.coap_core.specs.Dues.{HasAnswer, IsClientDue, IsExchangeDue, IsServed, answer_at, delivery_at, exchange_at, request_timeout_at, form_at, given_at, sending_at, told_in, delivery_timeout_at, waiter_at};
+ghost use Rattle.coap_core.specs.Needs.{CanDo, CanGoOn, CanStep, IsFound};
 
 use crate::laws;
 use crate::state::{State, silent};
@@ -32,7 +34,7 @@ pub(crate) fn moment_of(due: Option<DueItem>) -> Option<Moment>
     }
 }
 
-/// An exchange or a client that was found due: its number, and the endpoint that is sent its
+/// An exchange or a waiter that was found due: its number, and the endpoint that is sent its
 /// request, or its answer.
 #[derive(Clone, Copy)]
 pub(crate) struct Due {
@@ -40,7 +42,7 @@ pub(crate) struct Due {
     to: Endpoint,
 }
 
-/// A client that was found due, and waits for this exchange: it is sent its answer in a message of
+/// A waiter that was found due, and waits for this exchange: it is sent its answer in a message of
 /// this type.
 #[derive(Clone, Copy)]
 pub(crate) struct Delivery {
@@ -50,7 +52,7 @@ pub(crate) struct Delivery {
 }
 
 impl<S: Store + Drop> State<S> {
-    /// `due` is what is due first.
+    /// Does what is due, if anything is; `due` is what is due first.
     pub(crate) fn on_tick(
         &mut self,
         timing: Timing,
@@ -74,7 +76,7 @@ impl<S: Store + Drop> State<S> {
         }
     }
 
-    /// What is due first; at the same moment exchanges come before clients.
+    /// What is due first; at the same moment exchanges come before waiters.
     pub(crate) fn first_due(&self) -> Option<DueItem>
         ensures { result ≡ item_due self.now }
     {
@@ -211,9 +213,9 @@ impl<S: Store + Drop> State<S> {
         silent(Outcome::GaveUp)
     }
 
-    // ---- clients
+    // ---- waiters
 
-    /// Handles the client numbered `number`, which is due: if it is waiting it is sent the answer
+    /// Handles the waiter numbered `number`, which is due: if it is waiting it is sent the answer
     /// of its exchange, and otherwise its answer is retransmitted or abandoned.
     fn on_waiter(
         &mut self,
@@ -367,7 +369,7 @@ impl<S: Store + Drop> State<S> {
         }
     }
 
-    /// Writes the answer that the client numbered `number` was sent.
+    /// Writes the answer that the waiter numbered `number` was sent.
     fn put_answer(&self, number: WaiterNumber, out: &mut Datagram)
         requires told { IsFound (λ v. is_waiting v ≡ false) number self.now.waiters }
         requires fits { length (answer_at number self.now.waiters) ≤ out.old.room }
@@ -383,7 +385,7 @@ impl<S: Store + Drop> State<S> {
         out.put(bytes.as_slice());
     }
 
-    /// Removes the client numbered `number`, which didn't acknowledge its answer in time.
+    /// Removes the waiter numbered `number`, which didn't acknowledge its answer in time.
     fn abandon(&mut self, now: Moment, number: WaiterNumber, out: &mut Datagram) -> Report
         requires { self.old.events < 2 ^ 63 }
         ensures { Does (abandons self.old now number) result out.old out.new self.new }

@@ -100,7 +100,7 @@ impl<S: Store + Drop> Core<S> {
     /// The key that the last request asked for of those that had one. It is what that step left
     /// behind, of which no clause speaks.
     pub fn last_key(&self) -> &CacheKey {
-        &self.state.room.key
+        &self.query.key
     }
 
     /// The store.

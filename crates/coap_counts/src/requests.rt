@@ -117,7 +117,15 @@ impl RequestCounts {
             Outcome::NoRecordRoom => one_more(&mut self.no_record_room),
             Outcome::NoId => one_more(&mut self.no_id),
             Outcome::Again => one_more(&mut self.again),
-            _ => {}
+            Outcome::Ignored
+            | Outcome::Rejected
+            | Outcome::Answered { .. }
+            | Outcome::Acked
+            | Outcome::SentRequest
+            | Outcome::Resent
+            | Outcome::Delivered
+            | Outcome::GaveUp
+            | Outcome::Idle => {}
         }
     }
 }

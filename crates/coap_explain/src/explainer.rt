@@ -3,12 +3,11 @@
 use crate::due::{Came, Due};
 use crate::messages::{put_endpoint, put_kind, put_target};
 use crate::outcomes::{Before, put_outcome};
-use coap_core::{Core, Event, Routes};
+use coap_core::{Core, Event, Routes, Seen, Watch};
 use coap_message::{MessageRef, Moment, OutOfMemory};
 use coap_option::screen_request_ref;
 use coap_store::Store;
 use coap_target::TargetError;
-use coap_watch::{Seen, Watch};
 use jiff::Timestamp;
 use std::alloc::Global;
 use std::io;

@@ -16,6 +16,7 @@ mod causes;
 mod due;
 mod explainer;
 mod lacks;
+mod log_fields;
 mod logger;
 mod messages;
 mod outcomes;

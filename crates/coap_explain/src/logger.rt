@@ -3,48 +3,32 @@
 use crate::causes::{BadGateway, Silence, overload_of};
 use crate::due::{Came, Due, DueAnswer, DueExchange};
 use crate::lacks::{Lacks, Usage};
-use crate::messages::{put_code, put_endpoint, put_ip, put_target};
+use crate::log_fields::{
+    Cause, NotedCause, TargetText, put_cause, put_exchange, put_lacks, put_number, put_peer,
+};
+use crate::messages::{put_code, put_ip};
 use crate::ring::Ring;
 use crate::silent::SilentOrigins;
-use coap_core::{Core, Event, LimitValues, Outcome, Report};
-use coap_endpoint::{Endpoint, Target};
+use coap_core::{Core, Event, Holder, Holders, LimitValues, Outcome, Report, Seen, Watch};
+use coap_endpoint::Endpoint;
 use coap_log::{Limiter, Line};
 use coap_message::{Code, LAST_MOMENT, MessageRef, Moment, OutOfMemory};
 use coap_store::Store;
-use coap_watch::{Holder, Holders, Seen, Watch};
 use std::alloc::Global;
 use std::io;
 use std::io::Write;
 
-/// The room for a line, in bytes, and that for the URI of a target in it. A longer URI is cut.
+/// The room for a line, in bytes.
 const LINE_ROOM: usize = 2_048;
-
-const TARGET_ROOM: usize = 640;
 
 /// How many causes of answers are known that clients are still to be sent.
 const CAUSES: usize = 4_096;
 
-/// Why an exchange has an answer of the proxy's own.
-#[derive(Clone, Copy, Debug, PartialEq, Eq)]
-enum Cause {
-    BadGateway(BadGateway),
-    Silence(Silence),
-}
-
-/// Why an exchange has an answer of the proxy's own: the exchange is known by its origin, by the
-/// Message ID of its request, and by the moment of its answer.
-#[derive(Clone, Copy, Debug, PartialEq, Eq)]
-struct NotedCause {
-    origin: Endpoint,
-    id: u16,
-    got: Moment,
-    cause: Cause,
-}
-
 /// Logs what goes wrong, in lines `WORD KEY=VALUE ..`: an exchange that is given up, a client that is
 /// sent 5.02, 5.03 or 5.04, a message that is dropped, who has most of a table that is full, and an
-/// origin that was silent and answers again. At most 20 lines are written at once, and 5 more a second; how many were left out is said
-/// before the next one. A line that the output doesn't take is left out, too.
+/// origin that was silent and answers again. At most 20 lines are written at once, and 5 more a
+/// second; how many were left out is said before the next one. A line that the output doesn't take
+/// is left out, too.
 ///
 /// All its memory is allocated when it is made.
 pub struct Logger<W: Write> {
@@ -83,86 +67,6 @@ impl<W: Write + Drop> Drop for Logger<W> {
 /// Whether the code of an answer is one that is logged.
 fn is_logged(code: Code) -> bool {
     code == Code::BAD_GATEWAY || code == Code::SERVICE_UNAVAILABLE || code == Code::GATEWAY_TIMEOUT
-}
-
-/// The URI of a target, of which the end is left out if it is long.
-#[derive(Drop)]
-struct TargetText {
-    text: Line,
-    is_cut: bool,
-}
-
-impl TargetText {
-    /// None yet. No other call allocates.
-    ///
-    /// # Errors
-    /// Out of memory.
-    fn new(alloc: Global) -> Result<TargetText, OutOfMemory> {
-        Ok(TargetText {
-            text: Line::new(alloc, TARGET_ROOM)?,
-            is_cut: false,
-        })
-    }
-
-    /// Takes the URI of a target in place of what there was.
-    fn take(&mut self, target: &Target) {
-        self.text.begin("");
-        self.is_cut = put_target(&mut self.text, target).is_err();
-    }
-
-    /// Adds it to a line, with three dots for an end that was left out.
-    fn put(&self, line: &mut Line) -> io::Result<()> {
-        line.key("target");
-        line.write_all(self.text.bytes())?;
-        if self.is_cut {
-            line.write_all(b"...")?;
-        }
-        Ok(())
-    }
-}
-
-/// Adds a key, and an endpoint.
-fn put_peer(line: &mut Line, key: &str, endpoint: Endpoint) -> io::Result<()> {
-    line.key(key);
-    put_endpoint(line, endpoint)
-}
-
-/// Adds a key, and a number.
-fn put_number(line: &mut Line, key: &str, number: u64) -> io::Result<()> {
-    line.key(key);
-    write!(line, "{number}")
-}
-
-/// Adds what is lacking: for each share its count and its limit.
-fn put_lacks(line: &mut Line, lacks: &Lacks) -> io::Result<()> {
-    for lack in lacks.iter().flatten() {
-        let (count, limit) = (lack.count, lack.limit);
-        line.key(lack.share.key());
-        write!(line, "{count}/{limit}")?;
-    }
-    Ok(())
-}
-
-/// Adds why a client is sent an answer of the proxy's own.
-fn put_cause(line: &mut Line, cause: Cause) -> io::Result<()> {
-    line.key("cause");
-    match cause {
-        Cause::Silence(silence) => line.write_all(silence.word().as_bytes()),
-        Cause::BadGateway(bad) => {
-            line.write_all(bad.word().as_bytes())?;
-            match bad {
-                BadGateway::Option(number) => put_number(line, "option", u64::from(number)),
-                BadGateway::Reset | BadGateway::Tag | BadGateway::TooLong => Ok(()),
-            }
-        }
-    }
-}
-
-/// Adds what an exchange was: its origin, how often its request was sent, and how long it took.
-fn put_exchange(line: &mut Line, exchange: &DueExchange, now: Moment) -> io::Result<()> {
-    put_peer(line, "origin", exchange.origin)?;
-    put_number(line, "sent", u64::from(exchange.sends))?;
-    put_number(line, "ms", exchange.took(now))
 }
 
 impl<W: Write + Drop> Logger<W> {

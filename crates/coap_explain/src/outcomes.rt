@@ -4,12 +4,11 @@ use crate::causes::{BadGateway, overload_of, put_lacks, put_refusal, put_unproce
 use crate::due::{Came, Due};
 use crate::lacks::Usage;
 use crate::messages::{put_code, put_endpoint, put_sent};
-use coap_core::{Core, Event, Outcome, Report, Storing};
+use coap_core::{Core, Event, Outcome, Report, Seen, Storing};
 use coap_endpoint::Endpoint;
 use coap_forward::{SentRequest, answer_of};
 use coap_message::{Code, MessageRef};
 use coap_store::Store;
-use coap_watch::Seen;
 use std::alloc::Global;
 use std::io;
 use std::io::Write;

@@ -20,10 +20,10 @@ use Rattle.coap_model.specs.Cached.{Cached, cached_key, cached_size, entry_marke
 use Rattle.coap_model.specs.Justified.{IsObtainedHere, entry_here, size_here, JustifiedBy, AllJustified, IsKeptIfGrown, IsOwed, AllOwed}
 use Rattle.coap_model.specs.Carries.{Carries}
 use Rattle.coap_model.proofs.Positions.{here, index_below}
-use Rattle.coap_model.proofs.Changing.{told-on, told-contrary, storable-quiet}
+use Rattle.coap_model.proofs.MarksAndTaints.{told-on, told-contrary, storable-quiet}
 use Rattle.coap_model.proofs.Cached.{same-entry, clash, apart}
 use Rattle.coap_model.proofs.OneStoring.{one-former, one-size}
-use Rattle.coap_model.proofs.Owing.{given_again, given_dropped, given_no_room, given_hit}
+use Rattle.coap_model.proofs.OwedActions.{given_again, given_dropped, given_no_room, given_hit}
 
 module _ (setting : Setting) (past : List Action) (d : Action) where
   -- an answer that is small enough is kept, unless memory runs out

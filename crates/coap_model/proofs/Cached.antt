@@ -20,7 +20,7 @@ use Rattle.coap_model.specs.Keys.{request_key}
 use Rattle.coap_model.specs.History.{Action, Position, IsPositionOf, Opens, Brings, Gets}
 use Rattle.coap_model.specs.Changed.{key_asked}
 use Rattle.coap_model.specs.Cached.{Cached, cached_key, cached_size, cached_with, cached_here, copied, entry_got, leaves, IsCacheOf, empty, kept, too_large, hit, otherwise, WasCacheAt}
-use Rattle.coap_model.proofs.Changing.{one-getting}
+use Rattle.coap_model.proofs.MarksAndTaints.{one-getting}
 use Rattle.coap_model.proofs.Lists.{find-holds, All-filter}
 use Rattle.coap_model.proofs.Positions.{here, Opens-unique, one-brought}
 

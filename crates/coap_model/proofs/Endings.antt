@@ -12,7 +12,7 @@ use Rattle.coap_model.specs.Changed.{asked_of, key_asked, to_get}
 use Rattle.coap_model.specs.Cached.{Cached, cached_key, kept_for, copied, answer_got, IsCacheOf}
 use Rattle.coap_model.specs.Justified.{EndsWith, got, given_up}
 use Rattle.coap_model.proofs.Cached.{cache-holds, found-holds}
-use Rattle.coap_model.proofs.Showing.{IsHoldable, answer-holdable, matches-response, timeout-is}
+use Rattle.coap_model.proofs.ShownResponses.{IsHoldable, answer-holdable, matches-response, timeout-is}
 
 -- the response that is kept for a key can be sent, if all kept responses can
 pub kept-holdable : (setting : Setting) (key : CacheKey) (cached : List Cached) → AllByRecursion (λ c. IsHoldable setting.limits.datagram c.response) cached → IfSome (kept_for key cached) (IsHoldable setting.limits.datagram)

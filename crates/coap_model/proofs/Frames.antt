@@ -8,7 +8,7 @@ use Rattle.coap_pending.specs.Table.{all_changed, Numbered}
 use Rattle.coap_forward.specs.Changes.{changed_by, concerns}
 use Rattle.coap_model.specs.Answers.{tainted_all}
 use Rattle.coap_model.specs.Changed.{key_asked, IsTold}
-use Rattle.coap_model.proofs.Changing.{told-stays, told-on}
+use Rattle.coap_model.proofs.MarksAndTaints.{told-stays, told-on}
 use Rattle.std.specs.List.{AllByRecursion}
 use Rattle.std.proofs.lemmas.Bool.{eqb-true, eq-eqb}
 use Rattle.coap_endpoint.proofs.Lists.{All-weaken}

@@ -7,7 +7,7 @@ use Rattle.coap_model.specs.Setting.{Setting}
 use Rattle.coap_model.specs.History.{moves, Action, Position, IsPositionOf, Never, opened_in, ends, Sends, Ends, Serves}
 use Rattle.coap_model.specs.Changed.{ChangesAfter}
 use Rattle.coap_model.specs.Justified.{verdict_on, IsGet, IsJoinable, IsOpening, IsForwarding, IsDelivery, IsGivingUp, overdue, unheard, unacknowledged, JustifiedBy, AllJustified}
-use Rattle.coap_model.proofs.Owing.{one_key, taken-so}
+use Rattle.coap_model.proofs.OwedActions.{one_key, taken-so}
 use Rattle.coap_model.proofs.Positions.{first-once, same_moves, same_serves, never-before, position-before, in-order, request-unique, justified-at}
 use Rattle.coap_model.proofs.Stages.{all-before, queued-unsent}
 

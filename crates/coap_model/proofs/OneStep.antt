@@ -10,8 +10,8 @@ use Rattle.coap_model.specs.Justified.{HaveOneMemory, AllJustified, MayFollow}
 use Rattle.coap_model.specs.Runs.{observation_of}
 use Rattle.coap_model.specs.Carries.{Carries}
 use Rattle.coap_model.proofs.Positions.{doing}
-use Rattle.coap_model.proofs.Carrying.{keeps_actions}
-use Rattle.coap_model.proofs.Running.{setting_stays}
+use Rattle.coap_model.proofs.AllCases.{keeps_actions}
+use Rattle.coap_model.proofs.Runs.{setting_stays}
 use Rattle.coap_model.proofs.OneAnswer.{one-answer}
 
 -- what may follow is the observation of the step, with the same memory

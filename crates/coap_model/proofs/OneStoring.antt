@@ -13,7 +13,7 @@ use Rattle.coap_model.specs.Changed.{asked_of, key_asked, to_get}
 use Rattle.coap_model.specs.Cached.{Cached, cached_size, cached_here, copied, answer_got, WasCacheAt}
 use Rattle.coap_model.specs.Justified.{IsAnswer, IsObtainedHere, entry_here, size_here, JustifiedBy, HaveOneMemory}
 use Rattle.coap_model.proofs.Positions.{here}
-use Rattle.coap_model.proofs.Changing.{one-getting}
+use Rattle.coap_model.proofs.MarksAndTaints.{one-getting}
 use Rattle.coap_model.proofs.Cached.{same-entry, former-once}
 
 -- ---- at one action

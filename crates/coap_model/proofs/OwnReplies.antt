@@ -11,7 +11,7 @@ use Rattle.coap_message.specs.Uint.{uint_spelling}
 use Rattle.coap_message.proofs.Spellings.{spelling-length}
 use Rattle.coap_forward.specs.Messages.{is_con, brings_requests, own_reply, busy_reply, at_once, reply_id}
 use Rattle.coap_model.specs.State.{State, has_ids, can_reply}
-use Rattle.coap_model.proofs.Spelled.{length-uint_spelling}
+use Rattle.coap_model.proofs.Encodings.{length-uint_spelling}
 
 -- the immediate form of a message is a message
 pub at_once-is : (m reply : Message) → IsMessage reply → IsMessage (at_once m reply)

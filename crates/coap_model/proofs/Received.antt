@@ -26,8 +26,8 @@ use Rattle.coap_model.specs.Cached.{entry_of_cached, copied, answer_got, entry_g
 use Rattle.coap_model.specs.Justified.{IsAnswer, IsObtainedHere, JustifiedBy}
 use Rattle.coap_model.specs.Carries.{IsInFlight, Bears}
 use Rattle.coap_model.proofs.Cached.{former-once}
-use Rattle.coap_model.proofs.Changing.{one-getting, told-on, storable-quiet}
-use Rattle.coap_model.proofs.Missing.{clean-flight, not-true}
+use Rattle.coap_model.proofs.MarksAndTaints.{one-getting, told-on, storable-quiet}
+use Rattle.coap_model.proofs.AbsentFromHistory.{clean-flight, not-true}
 use Rattle.coap_model.proofs.Positions.{here, index_below}
 use Rattle.coap_model.proofs.Rules.{changed_state, IsStoring, kept, too_large, no_memory, not_stored}
 use Rattle.coap_model.proofs.Stores.{marked-on, store-kept, store-too_large, store-marked, none-found}

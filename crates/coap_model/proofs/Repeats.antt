@@ -22,7 +22,7 @@ use Rattle.coap_model.specs.Remembered.{is_remembered, remembered_at}
 use Rattle.coap_model.specs.Duplicates.{Repeats}
 use Rattle.coap_model.specs.Justified.{known_of, HasRecordRoom, IsAnswer, Accepts, JustifiedBy, AllJustified}
 use Rattle.coap_model.proofs.Arrivals.{head_kind}
-use Rattle.coap_model.proofs.Owing.{taken-so}
+use Rattle.coap_model.proofs.OwedActions.{taken-so}
 use Rattle.coap_model.proofs.Sorts.{con-so}
 use Rattle.coap_model.proofs.Duplicates.{known-position, position-known}
 use Rattle.coap_model.proofs.Positions.{arrival-same, in-order, justified-at}

@@ -55,7 +55,7 @@ use Rattle.coap_model.specs.declared.due.DueItem.{DueItem}
 use Rattle.coap_model.specs.declared.due.DueItem.TheVariants.{OfExchange, OfWaiter}
 use Rattle.coap_model.specs.Ticks.{item_due, if_due, sends, resends, gives_up, on_request_timeout, in_time, on_exchange, given_to, tells, redelivers, abandons, on_delivery_timeout, on_answer, on_awaited as on_exchange_of, on_waiting, on_waiter, idles, on_item}
 use Rattle.coap_model.specs.Step.{on_no_response, on_no_request, on_message, message_in, on_read, step_of}
-use Rattle.coap_model.proofs.Spelled.{message_in-is}
+use Rattle.coap_model.proofs.Encodings.{message_in-is}
 
 -- a request that is processed arrived in these bytes
 pub record Asked (w : State) (bytes : List ℕ) (m : Message) : Type 0 where

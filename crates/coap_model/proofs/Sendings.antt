@@ -30,7 +30,7 @@ use Rattle.coap_model.specs.Justified.{IsForwarding, IsToSendAgain, request_agai
 use Rattle.coap_model.specs.MessageIds.{GivesId}
 use Rattle.coap_model.specs.Carries.{IsTimer, WasAsked, WasSent, IsInFlight, IsState, IsExchangeOf, Bears}
 use Rattle.coap_model.proofs.Frames.{same_act-self, same_act-true, sends-grow}
-use Rattle.coap_model.proofs.Giving.{ids-differ}
+use Rattle.coap_model.proofs.GivenIds.{ids-differ}
 use Rattle.coap_model.proofs.Lists.{Has, Has-holds, find-holds}
 use Rattle.coap_model.proofs.Moments.{not-later}
 use Rattle.coap_model.proofs.Once.{sent-once}

@@ -16,7 +16,7 @@ use Rattle.coap_model.specs.Standing.{Standing, Stage, queued, sent, acked, done
 use Rattle.coap_model.specs.Justified.{IsOpening, IsSettled, Settles, a_request, an_answer, IsForwarding, IsGivingUp, overdue, unheard, unacknowledged, JustifiedBy, AllJustified}
 use Rattle.coap_model.proofs.Lists.{find-holds, All-filter}
 use Rattle.coap_model.proofs.Positions.{here, same_moves, same_admits, never-from, justified-at, opened-number}
-use Rattle.coap_model.proofs.Owing.{taken-so}
+use Rattle.coap_model.proofs.OwedActions.{taken-so}
 
 -- ---- what holds of the open exchanges
 

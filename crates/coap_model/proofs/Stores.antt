@@ -25,9 +25,9 @@ use Rattle.coap_model.specs.History.{Action, Brings, takes, Gets}
 use Rattle.coap_model.specs.Pairs.{Pairs, Both}
 use Rattle.coap_model.specs.Changed.{key_asked, IsTold}
 use Rattle.coap_model.specs.Cached.{Cached, cached_key, cached_size, entry_of_cached, entry_got, kept_for, store_limits, leaves, IsCacheOf, empty, kept, too_large, hit, otherwise, WasCacheAt, IsStored, IsStoreOf, IsEntryOf}
-use Rattle.coap_model.proofs.Changing.{told-stays, told-on}
+use Rattle.coap_model.proofs.MarksAndTaints.{told-stays, told-on}
 use Rattle.coap_model.proofs.Positions.{here, index_below}
-use Rattle.coap_model.proofs.Pairs.{Pairs-length, Pairs-weaken, Pairs-distinct, Pairs-total, Pairs-of_key, Pairs-others, Pairs-used, Pairs-put}
+use Rattle.coap_model.proofs.RelatedLists.{Pairs-length, Pairs-weaken, Pairs-distinct, Pairs-total, Pairs-of_key, Pairs-others, Pairs-used, Pairs-put}
 
 -- ---- the entries of a store
 

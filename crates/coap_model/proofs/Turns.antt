@@ -15,11 +15,11 @@ use Rattle.coap_model.specs.Carries.{stage_at, IsExchangeOf, Bears}
 use Rattle.coap_model.specs.Due.{IsToSend}
 use Rattle.coap_model.specs.Justified.{InTime}
 use Rattle.coap_model.specs.History.{Action, Position}
-use Rattle.coap_model.proofs.Acting.{due_of, min-cases, stage-is, turn-is, exchange-turn}
+use Rattle.coap_model.proofs.DueByHistory.{due_of, min-cases, stage-is, turn-is, exchange-turn}
 use Rattle.coap_model.proofs.Lists.{Has, Has-all}
 use Rattle.coap_model.proofs.FirstDue.{first_due-holds}
 use Rattle.coap_model.proofs.Positions.{one-opened}
-use Rattle.coap_model.proofs.Room.{sent-count}
+use Rattle.coap_model.proofs.CountsAndRoom.{sent-count}
 use Rattle.coap_model.proofs.Rules.{IsTurnOf}
 use Rattle.coap_model.proofs.Tables.{item-Has, item-holds, one-item}
 

@@ -18,13 +18,13 @@ use Rattle.coap_model.specs.Runs.{Taken, turns_of, AreTurns, new_run, run_of}
 use Rattle.coap_model.specs.Word.{until, IsCacheWithin, IsFromCache, IsToldAgain, KeepsItsWord}
 use Rattle.coap_model.proofs.BySize.{all-owed}
 use Rattle.coap_model.proofs.Cached.{cache-before}
-use Rattle.coap_model.proofs.Carrying.{starts}
-use Rattle.coap_model.proofs.Giving.{ids-differ}
-use Rattle.coap_model.proofs.Obtaining.{found-obtained}
+use Rattle.coap_model.proofs.AllCases.{starts}
+use Rattle.coap_model.proofs.GivenIds.{ids-differ}
+use Rattle.coap_model.proofs.ObtainedResponses.{found-obtained}
 use Rattle.coap_model.proofs.OwedThere.{owed-at, again-there}
 use Rattle.coap_model.proofs.Positions.{one-brought, justified-at}
 use Rattle.coap_model.proofs.Repeats.{told-there}
-use Rattle.coap_model.proofs.Running.{runs_carry}
+use Rattle.coap_model.proofs.Runs.{runs_carry}
 use Rattle.coap_model.proofs.Stages.{all-before}
 use Rattle.coap_model.proofs.Stores.{cache-few, store-within}
 use Rattle.coap_model.proofs.Within.{upto-justified, upto-ordered, within-at}

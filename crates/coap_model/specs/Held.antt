@@ -81,7 +81,7 @@ held w =
     + sum_by exchange_bytes w.exchanges
     + sum_by waiter_bytes w.waiters
 
--- ---- the bytes held, as the values count
+-- ---- the bytes held, counted by the values alone: never more than `held`
 
 -- A response counts as a stored one does, without the 64 bytes of an entry: the values of its
 -- options with one extra byte each, and its payload.

@@ -23,7 +23,7 @@ abbrev pub IsFullOf : Limits → Message → ℕ → List Action → Type 0
 IsFullOf limits m now history =
     most_remembered m.kind limits ≤ length (remembered_at m.kind now history)
 
--- a limit on open exchanges or on pending clients is reached, or too few Message IDs are free for a
+-- a limit on open exchanges or on waiters is reached, or too few Message IDs are free for a
 -- request and its answer
 pub data IsShort (limits : Limits) (now : ℕ) (history : List Action) : Type 0 where
   of_exchanges : limits.exchanges ≤ length (open_in history) → IsShort limits now history

@@ -11,6 +11,8 @@
 pub mod cache_laws;
 mod due;
 pub mod examples;
+pub mod exchange_examples;
+pub mod history_laws;
 pub mod laws;
 mod report;
 pub mod word_examples;

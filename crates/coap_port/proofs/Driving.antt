@@ -8,8 +8,8 @@ use Rattle.coap_model.specs.Ticks.{next_due}
 use Rattle.coap_model.specs.State.{State}
 use Rattle.coap_endpoint.specs.declared.endpoint.Endpoint.{Endpoint}
 use Rattle.std.specs.Prelude.{is_some}
-use Rattle.coap_watch.specs.Told.{Told}
-use Rattle.coap_watch.specs.Watched.{WasTold}
+use Rattle.coap_core.specs.Told.{Told}
+use Rattle.coap_core.specs.Watched.{WasTold}
 use Rattle.coap_port.specs.Driven.{taken_of, takes_some, told_by, tolds_of, DidTurn, DidWatched, DoesTurn, Given, IsDriven, IsWatched, came_last, last_moment, run_at, run_by, run_given, sent_at, stats_of, wait_for, state_by}
 use Rattle.coap_port.specs.Stats.{no_stats, with_turn}
 use Rattle.coap_port.specs.declared.stats.Stats.{Stats}

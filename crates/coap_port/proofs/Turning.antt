@@ -1,8 +1,8 @@
 -- What one turn does, by the contracts of its calls.
 use Rattle.std.proofs.Common.{◌≡◌, ◌+◌, ◌≤◌, ℕ, Bool, true, false, List, [], ◌∷◌, Option, Some, None, option_map, is_some, refl, sym, ap, ◌∙◌, subst, arith}
-use Rattle.coap_core.specs.Steps.{CarriesOn, Does, observation_told, wants_memory}
+use Rattle.coap_core.specs.Done.{CarriesOn, Does, observation_told, wants_memory}
 use Rattle.coap_message.specs.Datagram.{Datagram}
-use Rattle.coap_model.proofs.Running.{clock_after}
+use Rattle.coap_model.proofs.Runs.{clock_after}
 use Rattle.coap_model.specs.Carries.{Carries}
 use Rattle.coap_model.specs.Events.{Event, IsEvent, event_given}
 use Rattle.coap_model.specs.History.{Observation, grown_of}
@@ -12,7 +12,7 @@ use Rattle.coap_model.specs.Ticks.{next_due}
 use Rattle.coap_model.specs.State.{Step, State}
 use Rattle.coap_model.specs.declared.report.Report.{Report}
 use Rattle.coap_endpoint.specs.declared.endpoint.Endpoint.{Endpoint}
-use Rattle.coap_watch.specs.Told.{Told}
+use Rattle.coap_core.specs.Told.{Told}
 use Rattle.coap_port.specs.Driven.{DidWatched, HandsOver, datagram_of, is_arrival, wait_for}
 use Rattle.coap_port.specs.Stats.{with_turn}
 use Rattle.coap_port.specs.declared.stats.Stats.{Stats}

@@ -10,9 +10,9 @@ use Rattle.coap_model.specs.Step.{step_of}
 use Rattle.coap_model.specs.Ticks.{next_due}
 use Rattle.coap_model.specs.Word.{KeepsItsWord}
 use Rattle.coap_model.specs.State.{Step, State}
-use Rattle.coap_core.specs.Steps.{wants_memory}
-use Rattle.coap_watch.specs.Told.{Told}
-use Rattle.coap_watch.specs.Watched.{WasTold}
+use Rattle.coap_core.specs.Done.{wants_memory}
+use Rattle.coap_core.specs.Told.{Told}
+use Rattle.coap_core.specs.Watched.{WasTold}
 use Rattle.coap_port.specs.Stats.{no_stats, with_turn}
 use Rattle.coap_port.specs.declared.error.DriveError.{DriveError}
 use Rattle.coap_port.specs.declared.error.DriveError.TheVariants.{Port, OutOfMemory}

@@ -2,5 +2,5 @@ pub mod Given
 pub mod Stats
 pub mod Driven
 pub mod Memory
-pub use Rattle.coap_watch.specs.Told
-pub use Rattle.coap_watch.specs.Watched
+pub use Rattle.coap_core.specs.Told
+pub use Rattle.coap_core.specs.Watched

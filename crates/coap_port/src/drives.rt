@@ -6,9 +6,8 @@ use crate::error::{DriveError, PortFault};
 use crate::port::Port;
 use crate::stats::Stats;
 use crate::turns::Drive;
-use coap_core::Core;
+use coap_core::{Core, Unwatched, Watch};
 use coap_store::Store;
-use coap_watch::{Unwatched, Watch};
 use std::alloc::Global;
 
 /// Drives a core over a port for `turns` turns: the core handles each turn that the port gives, and

@@ -6,11 +6,10 @@ ghost use Rattle.coap_port.specs.Stats.{AreWithin, no_stats, with_turn};
 use crate::error::PortFault;
 use crate::port::Port;
 use crate::stats::Stats;
-use coap_core::Core;
+use coap_core::{Core, Seen, Watch};
 use coap_endpoint::Endpoint;
 use coap_message::{Datagram, Moment, OutOfMemory};
 use coap_store::Store;
-use coap_watch::{Seen, Watch};
 use std::alloc::Global;
 
 /// The longest wait, in milliseconds.

@@ -10,7 +10,7 @@ use Rattle.coap_port.specs.declared.error.DriveError.{DriveError}
 use Rattle.coap_port.specs.declared.stats.Stats.{Stats}
 use Rattle.coap_endpoint.specs.declared.endpoint.Endpoint.{Endpoint}
 use Rattle.coap_replay.specs.declared.error.ReplayError.{ReplayError}
-use Rattle.coap_watch.specs.Told.{Told}
+use Rattle.coap_core.specs.Told.{Told}
 use Rattle.coap_replay.specs.Watched as replay
 use Rattle.coap_proxyd.specs.declared.fault.Fault.{Fault}
 use Rattle.coap_proxyd.specs.declared.fault.Fault.TheVariants.{OutOfMemory}

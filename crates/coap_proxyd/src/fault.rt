@@ -114,7 +114,7 @@ impl From<UriError> for Fault {
     fn from(error: UriError) -> Fault {
         match error {
             UriError::OutOfMemory => Fault::OutOfMemory,
-            _ => Fault::Address,
+            UriError::Bad | UriError::Scheme => Fault::Address,
         }
     }
 }
@@ -125,7 +125,8 @@ impl From<ProxyOptionError> for Fault {
     fn from(error: ProxyOptionError) -> Fault {
         match error {
             ProxyOptionError::OutOfMemory => Fault::OutOfMemory,
-            _ => Fault::ProxyOption,
+            ProxyOptionError::NoComma | ProxyOptionError::NextProxy | ProxyOptionError::BadName =>
+                Fault::ProxyOption,
         }
     }
 }

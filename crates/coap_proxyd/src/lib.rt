@@ -36,7 +36,7 @@ pub use coap_config::{
     WordsError, parse_map_option, parse_proxy_option, read_config, read_words,
 };
 pub use coap_core::{
-    Code, Core, Counts, Datagram, Endpoint, Event, Ip, LimitError, LimitValues, Limits,
+    Both, Code, Core, Counts, Datagram, Endpoint, Event, Ip, LimitError, LimitValues, Limits,
     OutOfMemory, Outcome, Report, RouteError, Routes, Store, Storing,
 };
 pub use coap_port::{
@@ -48,7 +48,6 @@ pub use coap_replay::{Input, Output, ReplayError, replay};
 pub use coap_store_list::ListStore;
 pub use coap_store_lru::LruStore;
 pub use coap_udp::UdpPort;
-pub use coap_watch::Both;
 pub use fault::{ConfigFault, Fault};
 pub use journal::Journal;
 pub use planning::{Plan, read_plan};

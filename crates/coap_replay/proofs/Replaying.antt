@@ -9,7 +9,7 @@ use Rattle.coap_model.specs.State.{State}
 use Rattle.coap_model.specs.Events.{IsEvent}
 use Rattle.coap_model.specs.Carries.{Carries}
 use Rattle.coap_model.specs.Runs.{Turn, Taken, turns_of, AreTurns, Run, one_turn, run_of, step_taken}
-use Rattle.coap_model.proofs.Running.{clock_after, runs_carry}
+use Rattle.coap_model.proofs.Runs.{clock_after, runs_carry}
 use Rattle.coap_model.proofs.Word.{keeps-word}
 use Rattle.coap_lines.specs.declared.reading.turn.Turn.{Turn as TurnRead}
 use Rattle.coap_lines.specs.Turns.{turn_seen}

@@ -2,7 +2,7 @@
 use Rattle.std.proofs.Common.{◌≡◌, ◌≢◌, ◌++◌, ◌∙◌, ℕ, true, List, [], ◌∷◌, Option, Some, None, false, Result, Ok, Err, inl, inr, refl, sym, ap, subst}
 use Rattle.std.specs.Io.KnownBytes.{Appends}
 use Rattle.std.specs.Result.{OnErr, is_err}
-use Rattle.coap_core.specs.Steps.{Does}
+use Rattle.coap_core.specs.Done.{Does}
 use Rattle.coap_message.specs.Datagram.{Datagram}
 use Rattle.coap_model.specs.Events.{Event}
 use Rattle.coap_model.specs.History.{grown_of}
@@ -10,7 +10,7 @@ use Rattle.coap_model.specs.Step.{step_of}
 use Rattle.coap_model.specs.declared.report.Report.{Report}
 use Rattle.coap_model.specs.Runs.{Run, Taken, Turn, one_turn, step_taken}
 use Rattle.coap_model.specs.State.{Step, State}
-use Rattle.coap_watch.specs.Told as watch
+use Rattle.coap_core.specs.Told as watch
 use Rattle.coap_replay.specs.Replays.{DoesTurn, line_for, run_at, taken, state_after}
 use Rattle.coap_replay.specs.Watched.{AreTold, DoesTold, EndsTold, IsTold, TellsTurn, lost_in, told_in}
 use Rattle.coap_replay.specs.declared.error.ReplayError.{ReplayError}

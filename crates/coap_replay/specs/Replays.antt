@@ -10,7 +10,7 @@ use Rattle.coap_model.specs.Carries.{Carries}
 use Rattle.coap_model.specs.Word.{KeepsItsWord}
 use Rattle.coap_model.specs.Step.{step_of}
 use Rattle.coap_model.specs.Runs.{Taken, turns_of, step_taken, Turn, AreTurns, Run, run_of}
-use Rattle.coap_core.specs.Steps.{wants_memory}
+use Rattle.coap_core.specs.Done.{wants_memory}
 use Rattle.coap_replay.specs.declared.error.ReplayError.{ReplayError}
 use Rattle.coap_replay.specs.declared.error.ReplayError.TheVariants.{BadEvent, OutOfMemory, Read, Write}
 use Rattle.coap_replay.specs.declared.replays.Asked.{Asked}

@@ -2,7 +2,7 @@
 use Rattle.std.specs.Prelude.{◌≡◌, ◌⊎◌, Bool, true, false, List, [], ◌∷◌, Some, None, Result, Ok, Err}
 use Rattle.coap_model.specs.Runs.{Taken, Turn, step_taken}
 use Rattle.coap_model.specs.State.{State}
-use Rattle.coap_watch.specs.Told as watch
+use Rattle.coap_core.specs.Told as watch
 use Rattle.coap_replay.specs.Replays.{taken, state_after}
 use Rattle.coap_replay.specs.declared.error.ReplayError.{ReplayError}
 use Rattle.coap_replay.specs.declared.error.ReplayError.TheVariants.{BadEvent, OutOfMemory, Read, Write}

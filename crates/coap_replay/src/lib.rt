@@ -17,8 +17,8 @@ pub mod laws;
 mod replays;
 mod whole;
 
+pub use coap_core::{Seen, Unwatched, Watch};
 pub use coap_lines::{Input, Output};
-pub use coap_watch::{Seen, Unwatched, Watch};
 pub use error::ReplayError;
 pub use replays::{Budget, replay_turns, replay_watched};
 pub use whole::replay;

@@ -9,11 +9,10 @@ ghost use Rattle.coap_lines.specs.Turns.{turn_seen};
 
 use crate::buffers::Buffers;
 use crate::error::ReplayError;
-use coap_core::{Core, MOST_EVENTS, Report};
+use coap_core::{Core, MOST_EVENTS, Report, Seen, Unwatched, Watch};
 use coap_lines::{Input, Next, Output, Turn, is_skipped, put_line, read_turn};
 use coap_message::{Datagram, Moment};
 use coap_store::Store;
-use coap_watch::{Seen, Unwatched, Watch};
 use std::alloc::Global;
 use std::io::{BufRead, Write};
 

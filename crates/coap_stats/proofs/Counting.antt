@@ -4,8 +4,8 @@ use Rattle.std.specs.Prelude.{count_by}
 use Rattle.std.proofs.lemmas.List.Sums.{sum_by-cons}
 use Rattle.coap_stats.specs.Tally.{capped, more, no_tally, tally_of, with_told}
 use Rattle.coap_stats.specs.declared.tally.Tally.{Tally}
-use Rattle.coap_watch.specs.Told.{Told}
-use Rattle.coap_watch.specs.Watched.{WasTold}
+use Rattle.coap_core.specs.Told.{Told}
+use Rattle.coap_core.specs.Watched.{WasTold}
 
 -- one more of a number that is capped
 one : (b : Bool) (n : ℕ) → more b (capped n) ≡ capped (cond b 1 0 + n)

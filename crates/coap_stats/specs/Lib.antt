@@ -5,5 +5,5 @@ pub mod Statistics
 pub mod Clock
 pub mod Examples
 pub mod Line
-pub use Rattle.coap_watch.specs.Told
-pub use Rattle.coap_watch.specs.Watched
+pub use Rattle.coap_core.specs.Told
+pub use Rattle.coap_core.specs.Watched

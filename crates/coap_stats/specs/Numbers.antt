@@ -1,7 +1,7 @@
 -- The counts of a tally as numbers of turns.
 use Rattle.std.specs.Prelude.{◌≡◌, ℕ, Bool, List, count_by}
 use Rattle.coap_model.specs.declared.report.Outcome.{Outcome}
-use Rattle.coap_watch.specs.Told.{Told}
+use Rattle.coap_core.specs.Told.{Told}
 use Rattle.coap_stats.specs.Tally.{came, capped, did, is_again, is_answered, is_given_up, is_hit, is_joined, is_kept, is_not_stored, is_opened, is_overloaded, is_refused, is_resent, is_too_large, lacks_id, lacks_memory, lacks_record_room, was_lost, was_not_taken, was_taken}
 use Rattle.coap_stats.specs.declared.tally.Tally.{Tally}
 

@@ -10,7 +10,7 @@ use Rattle.coap_model.specs.Events.{Event, arrival, tick}
 use Rattle.coap_model.specs.State.{State}
 use Rattle.coap_core.specs.Watching.{awaited, due_exchange}
 use Rattle.coap_target.specs.declared.routes.Routes.{Routes}
-use Rattle.coap_watch.specs.Told.{Told}
+use Rattle.coap_core.specs.Told.{Told}
 use Rattle.coap_stats.specs.Tally as tally
 use Rattle.coap_stats.specs.Turns as turns
 use Rattle.coap_stats.specs.declared.turns.Foreseen.{Foreseen}

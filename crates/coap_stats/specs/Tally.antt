@@ -7,7 +7,7 @@ use Rattle.coap_model.specs.declared.report.Report.{Report}
 use Rattle.coap_model.specs.declared.report.Storing.{Storing}
 use Rattle.coap_model.specs.declared.report.Storing.TheVariants.{Kept, TooLarge, NoMemory, NotStored}
 use Rattle.coap_model.specs.Events.{Event, arrival, tick}
-use Rattle.coap_watch.specs.Told.{Told}
+use Rattle.coap_core.specs.Told.{Told}
 use Rattle.coap_stats.specs.declared.tally.AnswerCounts.{AnswerCounts}
 use Rattle.coap_stats.specs.declared.tally.Tally.{Tally}
 

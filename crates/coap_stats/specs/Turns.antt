@@ -21,7 +21,7 @@ use Rattle.coap_model.specs.declared.report.Report.{Report}
 use Rattle.coap_pending.specs.Table.{item_at}
 use Rattle.coap_store.specs.Entries.{stored_for}
 use Rattle.coap_target.specs.declared.routes.Routes.{Routes}
-use Rattle.coap_watch.specs.Told.{Told}
+use Rattle.coap_core.specs.Told.{Told}
 use Rattle.coap_stats.specs.Tally.{did, is_opened}
 use Rattle.coap_stats.specs.declared.turns.Foreseen.{Foreseen}
 

@@ -1,8 +1,8 @@
 //! Labels of metrics: the part of a proxy that a number is about.
 use crate::line::put;
+use coap_core::Holder;
 use coap_endpoint::{Endpoint, Ip};
 use coap_message::{OutOfMemory, Pieces};
-use coap_watch::Holder;
 use percent_encoding::percent_encode_byte;
 use std::io::Write;
 use std::net::{IpAddr, Ipv4Addr, Ipv6Addr, SocketAddr};

@@ -5,9 +5,9 @@ use crate::metrics::{
     Family, Metric, put_head, put_name, put_number_of, put_requests, put_sample, put_samples,
 };
 use crate::words::{Word, class_words};
+use coap_core::{Holder, Holders};
 use coap_counts::{AnswerTimes, MapTable, OriginCounts, OriginTable, RequestCounts};
 use coap_message::{Moment, OutOfMemory};
-use coap_watch::{Holder, Holders};
 
 const MAP_REQUESTS: Metric = Metric {
     name: "coap_proxyd_map_requests_total",

@@ -6,13 +6,12 @@ ghost use Rattle.coap_stats.specs.Statistics as spec;
 
 use crate::tally::Tally;
 use crate::turns::{Foreseen, count_opening, count_origin, count_way, is_response};
-use coap_core::{Core, Event, Exchange, LimitValues};
+use coap_core::{Core, Event, Exchange, Holders, LimitValues, Seen, Watch};
 use coap_counts::{MapTable, OpeningCounts, OriginTable};
 use coap_endpoint::Endpoint;
 use coap_message::{MessageRef, Moment, OutOfMemory};
 use coap_store::{Evictions, Store};
 use coap_target::Routes;
-use coap_watch::{Holders, Seen, Watch};
 use std::alloc::Global;
 
 /// How many origins have counts of their own, besides those of maps.

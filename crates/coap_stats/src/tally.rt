@@ -2,13 +2,12 @@
 ghost use Rattle.std.specs.Prelude.{◌≡◌};
 ghost use Rattle.coap_model.specs.State.{State};
 ghost use Rattle.coap_stats.specs.Tally as spec;
-ghost use Rattle.coap_watch.specs.Told.{told};
+ghost use Rattle.coap_core.specs.Told.{told};
 
-use coap_core::{Core, Event, Outcome, Storing};
+use coap_core::{Core, Event, Outcome, Seen, Storing, Watch};
 use coap_counts::{RequestCounts, one_more};
 use coap_message::Moment;
 use coap_store::Store;
-use coap_watch::{Seen, Watch};
 
 /// How many answers came, by what the cache did with them.
 #[derive(Clone, Copy, Debug, PartialEq, Eq)]

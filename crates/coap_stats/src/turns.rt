@@ -4,15 +4,14 @@ ghost use Rattle.coap_core.specs.Events.{seen};
 ghost use Rattle.coap_message.specs.Reading.{read_message};
 ghost use Rattle.coap_model.specs.State.{State};
 ghost use Rattle.coap_stats.specs.Turns as spec;
-ghost use Rattle.coap_watch.specs.Told.{told};
+ghost use Rattle.coap_core.specs.Told.{told};
 
-use coap_core::{Core, Event, Outcome, Report};
+use coap_core::{Core, Event, Outcome, Report, Seen};
 use coap_counts::{MapTable, OpeningCounts, OriginAnswer, OriginEvent, OriginTable, way_of};
 use coap_endpoint::Endpoint;
 use coap_message::{MessageRef, Moment, head_of};
 use coap_store::Store;
 use coap_target::Routes;
-use coap_watch::Seen;
 
 /// What is known of a turn before its step, and isn't held any more after it.
 #[derive(Clone, Copy, Debug, PartialEq, Eq)]
@@ -103,7 +102,19 @@ fn event_of(turn: Seen<'_>, foreseen: Foreseen) -> Option<(Endpoint, OriginEvent
         Outcome::Resent => sent(report, turn.sent, OriginEvent::Resent),
         Outcome::Answered { .. } => answered(turn.event, turn.now, foreseen.asked),
         Outcome::GaveUp => Some((foreseen.due?, OriginEvent::GaveUp)),
-        _ => None,
+        Outcome::Ignored
+        | Outcome::Rejected
+        | Outcome::Again
+        | Outcome::NoRecordRoom
+        | Outcome::NoId
+        | Outcome::Refused(_)
+        | Outcome::Hit
+        | Outcome::Joined
+        | Outcome::Overloaded
+        | Outcome::Opened
+        | Outcome::Acked
+        | Outcome::Delivered
+        | Outcome::Idle => None,
     }
 }
 

@@ -24,7 +24,7 @@ use Rattle.coap_model.specs.Keys.{key_sent, target_sent}
 use Rattle.coap_model.specs.OptionExamples.{key_of_temp}
 use Rattle.coap_model.specs.WordExamples.{asks_tagged, tagged_past, validated_past}
 use Rattle.coap_model.proofs.CacheExamples.{are-bytes, first_asks}
-use Rattle.coap_model.proofs.Changing.{newest-unchanged, one-getting}
+use Rattle.coap_model.proofs.MarksAndTaints.{newest-unchanged, one-getting}
 use Rattle.coap_model.proofs.Positions.{here}
 use Rattle.test_promises.specs.Ages.{ageless, ageless_bytes, ageless_valid, ageless_valid_bytes, gets_ageless, gets_ageless_valid}
 use Rattle.test_promises.specs.Fetches.{get_past}

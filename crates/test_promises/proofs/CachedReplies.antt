@@ -24,8 +24,8 @@ use Rattle.coap_model.specs.Verdicts.{may_ask, refused_with, verdict_of, Verdict
 use Rattle.coap_model.specs.Word.{IsFromCache}
 use Rattle.coap_model.specs.declared.report.Storing.TheVariants.{Kept}
 use Rattle.coap_model.proofs.CacheExamples.{are-bytes, first_gets}
-use Rattle.coap_model.proofs.Changing.{one-getting}
-use Rattle.coap_model.proofs.ForgingHits.{first_obtained, got-elsewhere, was_unchanged}
+use Rattle.coap_model.proofs.MarksAndTaints.{one-getting}
+use Rattle.coap_model.proofs.ForgedHits.{first_obtained, got-elsewhere, was_unchanged}
 use Rattle.coap_model.proofs.Positions.{here, request-unique}
 use Rattle.test_promises.specs.Replies.{accepting, accepting_bytes, key_accepting, key_of_part, part, part_bytes, put, put_bytes, replied_to, IsShownTo}
 

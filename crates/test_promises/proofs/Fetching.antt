@@ -22,8 +22,8 @@ use Rattle.coap_model.specs.LimitExamples as limited
 use Rattle.coap_model.specs.OptionExamples.{key_of_temp}
 use Rattle.coap_model.specs.declared.report.Storing.TheVariants.{Kept}
 use Rattle.coap_model.proofs.CacheExamples.{are-bytes, content_gets, first_asks, first_gets, first_got, second_sent, unsent}
-use Rattle.coap_model.proofs.Changing.{newest-unchanged, one-getting, told-contrary, told-stays}
-use Rattle.coap_model.proofs.ForgingHits.{early_unsent}
+use Rattle.coap_model.proofs.MarksAndTaints.{newest-unchanged, one-getting, told-contrary, told-stays}
+use Rattle.coap_model.proofs.ForgedHits.{early_unsent}
 use Rattle.coap_model.proofs.Positions.{here}
 use Rattle.test_promises.specs.Fetches.{asks_put, error, error_bytes, get_past, gets_error, opens_put, put_past, put_sent, put_sent_bytes, quiet_past, IsAnswerTo}
 use Rattle.test_promises.specs.Replies.{key_accepting, key_of_part}

@@ -27,8 +27,8 @@ use Rattle.coap_model.specs.Keys.{key_sent, target_sent}
 use Rattle.coap_model.specs.OptionExamples.{key_of_temp}
 use Rattle.coap_model.specs.WordExamples.{asks_tagged, gets_tagged, gets_valid, setting_with, tagged_bytes, tagged_content, tagged_get, tagged_get_bytes, tagged_past, valid_bytes, valid_message, validated_past}
 use Rattle.coap_model.proofs.CacheExamples.{are-bytes, first_asks, unsent}
-use Rattle.coap_model.proofs.Changing.{newest-unchanged, one-getting}
-use Rattle.coap_model.proofs.ForgingHits.{early_unsent}
+use Rattle.coap_model.proofs.MarksAndTaints.{newest-unchanged, one-getting}
+use Rattle.coap_model.proofs.ForgedHits.{early_unsent}
 use Rattle.coap_model.proofs.Positions.{here}
 use Rattle.test_promises.specs.Validations.{asks_other, format_valid, format_valid_bytes, gets_format_valid, gets_other_valid, limits_of, other_get, other_get_bytes, other_past, other_valid, other_valid_bytes, renewed_by, tags_asked, IsAsked}
 use Rattle.test_promises.proofs.Arriving.{fetched-by, gets-by}

@@ -9,6 +9,7 @@
 pub mod ages;
 pub mod choices;
 pub mod fetches;
+pub mod limits;
 pub mod promises;
 pub mod replies;
 pub mod schedules;

@@ -1,12 +1,13 @@
-//! `coap_core`, `coap_watch`, `coap_port`, `coap_udp`.
+//! `coap_core` and its watchers, `coap_port`, `coap_udp`.
 use crate::fixtures;
 use crate::fixtures::{CLIENT, ORIGIN};
-use coap_core::{Core, Datagram, Endpoint, Event, Ip, LimitValues, Limits, Routes, Store};
+use coap_core::{
+    Core, Datagram, Endpoint, Event, Ip, LimitValues, Limits, Routes, Seen, Store, Watch,
+};
 use coap_message::Seq;
 use coap_port::{MemoryPort, Scripted, drive, drive_watched};
 use coap_proxyd::ListStore;
 use coap_udp::UdpPort;
-use coap_watch::{Seen, Watch};
 use std::test::*;
 
 #[test]
@@ -46,7 +47,7 @@ impl Watch for LastLost {
 }
 
 #[test]
-fn coap_watch(rt: HostRuntime) -> Result<(), Fail> {
+fn coap_core_watched(rt: HostRuntime) -> Result<(), Fail> {
     let alloc = rt.alloc();
     let mut core = fixtures::core(alloc)?;
     let mut watcher = LastLost(0);

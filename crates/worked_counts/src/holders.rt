@@ -1,7 +1,7 @@
 //! Who has most of each table.
 
+use coap_core::{Holder, Holders, SharedTable};
 use coap_endpoint::Ip;
-use coap_watch::{Holder, Holders, SharedTable};
 
 const FIRST: Ip = Ip::V4([192, 0, 2, 81]);
 

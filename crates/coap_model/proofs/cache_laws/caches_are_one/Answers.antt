@@ -1,5 +1,5 @@
 use Rattle.coap_model.proofs.Cached.{cache-unique}
-use Rattle.coap_model.proofs.Obtaining.{cache-obtained}
+use Rattle.coap_model.proofs.ObtainedResponses.{cache-obtained}
 use Rattle.coap_model.proofs.Stores.{cache-within}
 use Rattle.coap_model.proofs.cache_laws.caches_are_one.Goals as goal
 

@@ -1,4 +1,4 @@
-use Rattle.coap_model.proofs.ForgingHits.{as_it_is, was_changed, was_unchanged, after_a_change, too_late, as_received, from_cache, not_from_cache, from_cache_but_for_the_change, overtaken_kept, two_exchanges}
+use Rattle.coap_model.proofs.ForgedHits.{as_it_is, was_changed, was_unchanged, after_a_change, too_late, as_received, from_cache, not_from_cache, from_cache_but_for_the_change, overtaken_kept, two_exchanges}
 use Rattle.coap_model.proofs.cache_laws.forged_hits_are_refused.Goals as goal
 
 pub returns : goal.returns

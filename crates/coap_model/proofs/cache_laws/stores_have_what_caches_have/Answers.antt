@@ -7,7 +7,7 @@ use Rattle.coap_model.specs.History.{Action}
 use Rattle.coap_model.specs.Changed.{IsTold}
 use Rattle.coap_model.specs.Cached.{Cached, cached_key, cached_size, entry_marked, IsStored, IsStoreOf}
 use Rattle.coap_model.proofs.Stores.{found-cached, cached-found, none-found, stored-found, store-within}
-use Rattle.coap_model.proofs.Pairs.{Pairs-length, Pairs-total}
+use Rattle.coap_model.proofs.RelatedLists.{Pairs-length, Pairs-total}
 use Rattle.coap_model.proofs.cache_laws.stores_have_what_caches_have.Goals as goal
 
 -- the entry of the cache for a key is in the store, with its mark

@@ -1,4 +1,4 @@
-use Rattle.coap_model.proofs.Obtaining.{came-obtained, renewed-obtained}
+use Rattle.coap_model.proofs.ObtainedResponses.{came-obtained, renewed-obtained}
 use Rattle.coap_model.proofs.cache_laws.what_came_so_may_be_stored.Goals as goal
 
 pub returns : goal.returns

@@ -6,7 +6,7 @@ use Rattle.coap_model.specs.Setting.{Setting}
 use Rattle.coap_model.specs.History.{Action}
 use Rattle.coap_model.specs.Cached.{cached_key, IsObtained, WasObtained}
 use Rattle.coap_model.specs.Justified.{IsHit, AllJustified}
-use Rattle.coap_model.proofs.Obtaining.{found-obtained}
+use Rattle.coap_model.proofs.ObtainedResponses.{found-obtained}
 use Rattle.coap_model.proofs.cache_laws.what_is_shown_was_received.Goals as goal
 
 -- the entry that is sent from the cache was obtained

@@ -1,4 +1,4 @@
-use Rattle.coap_model.proofs.Obtaining.{obtained-here, obtained-fetched, obtained-lasting}
+use Rattle.coap_model.proofs.ObtainedResponses.{obtained-here, obtained-fetched, obtained-lasting}
 use Rattle.coap_model.proofs.cache_laws.what_is_stored_was_obtained.Goals as goal
 
 pub returns : goal.returns

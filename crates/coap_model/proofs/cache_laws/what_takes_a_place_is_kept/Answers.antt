@@ -1,4 +1,4 @@
-use Rattle.coap_model.proofs.Obtaining.{kept-there}
+use Rattle.coap_model.proofs.ObtainedResponses.{kept-there}
 use Rattle.coap_model.proofs.cache_laws.what_takes_a_place_is_kept.Goals as goal
 
 pub returns : goal.returns

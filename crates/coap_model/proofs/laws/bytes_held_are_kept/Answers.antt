@@ -1,6 +1,6 @@
 use Rattle.std.proofs.Common.{arith}
-use Rattle.coap_model.proofs.Counting.{bytes-kept}
-use Rattle.coap_model.proofs.Holding.{within-bound}
+use Rattle.coap_model.proofs.CountedBytes.{bytes-kept}
+use Rattle.coap_model.proofs.HeldBytes.{within-bound}
 use Rattle.coap_model.proofs.laws.bytes_held_are_kept.Goals as goal
 
 pub returns : goal.returns

@@ -1,6 +1,6 @@
 use Rattle.coap_message.specs.declared.kind.Kind.TheVariants.{Con, Non}
-use Rattle.coap_model.proofs.Room.{exchanges-count, waiters-count}
-use Rattle.coap_model.proofs.Counted.{records-own}
+use Rattle.coap_model.proofs.CountsAndRoom.{exchanges-count, waiters-count}
+use Rattle.coap_model.proofs.CountsOfHistory.{records-own}
 use Rattle.coap_model.proofs.laws.client_counts_are_of_the_history.Goals as goal
 
 pub returns : goal.returns

@@ -1,6 +1,6 @@
 use Rattle.coap_message.specs.declared.kind.Kind.TheVariants.{Con, Non}
-use Rattle.coap_model.proofs.Room.{exchanges-length, waiters-length}
-use Rattle.coap_model.proofs.Counted.{store-entries, store-bytes, records-living}
+use Rattle.coap_model.proofs.CountsAndRoom.{exchanges-length, waiters-length}
+use Rattle.coap_model.proofs.CountsOfHistory.{store-entries, store-bytes, records-living}
 use Rattle.coap_model.proofs.laws.counts_are_of_the_history.Goals as goal
 
 pub returns : goal.returns

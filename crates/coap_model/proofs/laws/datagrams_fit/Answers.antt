@@ -1,4 +1,4 @@
-use Rattle.coap_model.proofs.Fitting.{datagrams_fit}
+use Rattle.coap_model.proofs.DatagramsFit.{datagrams_fit}
 use Rattle.coap_model.proofs.laws.datagrams_fit.Goals as goal
 
 pub returns : goal.returns

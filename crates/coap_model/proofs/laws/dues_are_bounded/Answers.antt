@@ -1,4 +1,4 @@
-use Rattle.coap_model.proofs.Bounding.{next-bounded}
+use Rattle.coap_model.proofs.DueBound.{next-bounded}
 use Rattle.coap_model.proofs.laws.dues_are_bounded.Goals as goal
 
 pub returns : goal.returns

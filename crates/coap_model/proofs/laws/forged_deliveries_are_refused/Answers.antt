@@ -1,5 +1,5 @@
-use Rattle.coap_model.proofs.Forging.{for_nobody, for_another, again, nothing_got, to_another, untimely, out_of_turn, early, elsewhere, another_age, con_for_non, non_for_con}
-use Rattle.coap_model.proofs.ForgingClosings.{by_its_id, by_another_id, by_another_client}
+use Rattle.coap_model.proofs.ForgedDeliveries.{for_nobody, for_another, again, nothing_got, to_another, untimely, out_of_turn, early, elsewhere, another_age, con_for_non, non_for_con}
+use Rattle.coap_model.proofs.ForgedClosings.{by_its_id, by_another_id, by_another_client}
 use Rattle.coap_model.proofs.RightDelivery.{is_right, is_right_in_con}
 use Rattle.coap_model.proofs.laws.forged_deliveries_are_refused.Goals as goal
 

@@ -1,4 +1,4 @@
-use Rattle.coap_model.proofs.Telling.{step-told, wanting-told}
+use Rattle.coap_model.proofs.ReportsOfMemory.{step-told, wanting-told}
 use Rattle.coap_model.proofs.laws.memory_is_told.Goals as goal
 
 pub returns : goal.returns

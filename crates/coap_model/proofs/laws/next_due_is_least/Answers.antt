@@ -1,4 +1,4 @@
-use Rattle.coap_model.proofs.Acting.{next-is, no-next, one-next}
+use Rattle.coap_model.proofs.DueByHistory.{next-is, no-next, one-next}
 use Rattle.coap_model.proofs.laws.next_due_is_least.Goals as goal
 
 pub returns : goal.returns

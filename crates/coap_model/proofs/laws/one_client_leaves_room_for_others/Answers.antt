@@ -1,4 +1,4 @@
-use Rattle.coap_model.proofs.Leaving.{leaves-room, runs-leave-room}
+use Rattle.coap_model.proofs.RoomForOthers.{leaves-room, runs-leave-room}
 use Rattle.coap_model.proofs.laws.one_client_leaves_room_for_others.Goals as goal
 
 pub returns : goal.returns

@@ -1,4 +1,4 @@
-use Rattle.coap_model.proofs.Asking.{key-kept}
+use Rattle.coap_model.proofs.ForwardedRequests.{key-kept}
 use Rattle.coap_model.proofs.laws.requests_keep_their_key.Goals as goal
 
 pub returns : goal.returns

@@ -1,4 +1,4 @@
-use Rattle.coap_model.proofs.Running.{runs_keep_setting, runs_promise}
+use Rattle.coap_model.proofs.Runs.{runs_keep_setting, runs_promise}
 use Rattle.coap_model.proofs.laws.runs_are_promised.Goals as goal
 
 pub returns : goal.returns

@@ -1,4 +1,4 @@
-use Rattle.coap_model.proofs.Running.{setting_stays}
+use Rattle.coap_model.proofs.Runs.{setting_stays}
 use Rattle.coap_model.proofs.laws.settings_stay.Goals as goal
 
 pub returns : goal.returns

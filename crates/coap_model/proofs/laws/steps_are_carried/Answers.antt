@@ -1,4 +1,4 @@
-use Rattle.coap_model.proofs.Carrying.{keeps_step}
+use Rattle.coap_model.proofs.AllCases.{keeps_step}
 use Rattle.coap_model.proofs.laws.steps_are_carried.Goals as goal
 
 pub returns : goal.returns

@@ -1,5 +1,5 @@
 use Rattle.std.proofs.Common.{◌≤◌, ◌<◌, arith}
-use Rattle.coap_model.proofs.ForgingWords.{five_are_spaced, six_are_spaced}
+use Rattle.coap_model.proofs.ForgedWords.{five_are_spaced, six_are_spaced}
 use Rattle.coap_model.proofs.word_examples.a_sixth_transmission_is_refused.Goals as goal
 
 pub returns : goal.returns

@@ -1,4 +1,4 @@
-use Rattle.coap_model.proofs.ForgingWords.{not_as_received, not_stale, not_to_another, not_with_a_token, stale_if_fresh}
+use Rattle.coap_model.proofs.ForgedWords.{not_as_received, not_stale, not_to_another, not_with_a_token, stale_if_fresh}
 use Rattle.coap_model.proofs.word_examples.forged_replies_are_refused.Goals as goal
 
 pub returns : goal.returns

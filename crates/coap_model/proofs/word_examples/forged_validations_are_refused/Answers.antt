@@ -1,4 +1,4 @@
-use Rattle.coap_model.proofs.ForgingWords.{block_if_passed, not_blocked, not_older, not_untagged, older_if_before, renewed_obtained, untagged_if_tagged}
+use Rattle.coap_model.proofs.ForgedWords.{block_if_passed, not_blocked, not_older, not_untagged, older_if_before, renewed_obtained, untagged_if_tagged}
 use Rattle.coap_model.proofs.word_examples.forged_validations_are_refused.Goals as goal
 
 pub returns : goal.returns

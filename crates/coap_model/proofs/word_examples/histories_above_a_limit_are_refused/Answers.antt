@@ -1,6 +1,6 @@
 use Rattle.std.proofs.Common.{◌≤◌, arith}
 use Rattle.coap_model.specs.Examples.{client}
-use Rattle.coap_model.proofs.ForgingWords.{two_within}
+use Rattle.coap_model.proofs.ForgedWords.{two_within}
 use Rattle.coap_model.proofs.word_examples.histories_above_a_limit_are_refused.Goals as goal
 
 pub returns : goal.returns

@@ -1,6 +1,6 @@
 use Rattle.std.proofs.Common.{inl, inr, refl}
 use Rattle.coap_model.specs.CacheExamples.{asked_past}
-use Rattle.coap_model.proofs.ForgingHits.{first_obtained}
+use Rattle.coap_model.proofs.ForgedHits.{first_obtained}
 use Rattle.test_promises.proofs.Aging.{ageless_fetched, ageless_message, ageless_valid_asked, ageless_valid_fits, ageless_valid_tags, not_ageless, not_ageless_valid}
 use Rattle.test_promises.proofs.ages.responses_without_an_age_are_refused.Goals as goal
 

@@ -1,4 +1,4 @@
-use Rattle.coap_model.proofs.ForgingHits.{first_fetched}
+use Rattle.coap_model.proofs.ForgedHits.{first_fetched}
 use Rattle.test_promises.specs.Replies.{key_accepting, key_of_part}
 use Rattle.test_promises.proofs.Fetching.{not_accepting, not_part, still_unchanged}
 use Rattle.test_promises.proofs.fetches.fetches_for_another_key_are_refused.Goals as goal

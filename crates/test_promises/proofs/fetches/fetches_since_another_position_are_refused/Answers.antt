@@ -1,4 +1,4 @@
-use Rattle.coap_model.proofs.ForgingHits.{first_fetched}
+use Rattle.coap_model.proofs.ForgedHits.{first_fetched}
 use Rattle.test_promises.proofs.Fetching.{earlier_unchanged, not_since}
 use Rattle.test_promises.proofs.fetches.fetches_since_another_position_are_refused.Goals as goal
 

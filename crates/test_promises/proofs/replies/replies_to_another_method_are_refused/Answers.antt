@@ -1,4 +1,4 @@
-use Rattle.coap_model.proofs.ForgingHits.{from_cache}
+use Rattle.coap_model.proofs.ForgedHits.{from_cache}
 use Rattle.test_promises.proofs.CachedReplies.{not_to_put, put_shown}
 use Rattle.test_promises.proofs.replies.replies_to_another_method_are_refused.Goals as goal
 

@@ -7,12 +7,12 @@ use Rattle.coap_model.specs.Promised.{Promised}
 use Rattle.coap_model.specs.Shares.{LeavesRoom}
 use Rattle.coap_model.specs.State.{State}
 use Rattle.coap_model.specs.Word.{KeepsItsWord}
-use Rattle.coap_model.proofs.Leaving.{leaves-room}
-use Rattle.coap_model.proofs.Promising.{promises}
+use Rattle.coap_model.proofs.RoomForOthers.{leaves-room}
+use Rattle.coap_model.proofs.PromisesHold.{promises}
 use Rattle.coap_model.proofs.Word.{keeps-word}
 use Rattle.coap_model.specs.Step.{step_of}
 use Rattle.coap_core.specs.Events.{seen}
-use Rattle.coap_core.specs.Steps.{observation_told}
+use Rattle.coap_core.specs.Done.{observation_told}
 use Rattle.coap_core.proofs.Carried.{IsLeft, can_go_on, holds-on, is-left, is-short}
 use Rattle.coap_core.proofs.proxy.Core.step.Given.{Over}
 use Rattle.coap_core.proofs.proxy.Core.step.Goals.{After-step-done}

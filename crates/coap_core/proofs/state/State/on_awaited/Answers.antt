@@ -6,7 +6,7 @@ use Rattle.coap_model.specs.declared.report.Report.{Report}
 use Rattle.coap_model.specs.History.{grown_of}
 use Rattle.coap_model.specs.Responses.{on_awaited}
 use Rattle.coap_model.specs.State.{Step}
-use Rattle.coap_core.specs.Steps.{Does, wants_memory}
+use Rattle.coap_core.specs.Done.{Does, wants_memory}
 use Rattle.coap_core.specs.Storing.{answering_at, awaited_step}
 use Rattle.coap_core.proofs.Awaiting.{awaited}
 use Rattle.coap_core.proofs.Puts.{answer-takes, awaited-does}

@@ -4,7 +4,7 @@ use Rattle.coap_model.specs.declared.report.Report.{Report}
 use Rattle.coap_model.specs.History.{grown_of}
 use Rattle.coap_model.specs.Step.{on_message, on_datagram}
 use Rattle.coap_model.specs.State.{Step}
-use Rattle.coap_core.specs.Steps.{Does, wants_memory}
+use Rattle.coap_core.specs.Done.{Does, wants_memory}
 use Rattle.coap_core.proofs.Read.{on_read-message}
 use Rattle.coap_core.proofs.state.State.on_datagram.Given.{Over}
 use Rattle.coap_core.proofs.state.State.on_datagram.Goals.{In-Some}

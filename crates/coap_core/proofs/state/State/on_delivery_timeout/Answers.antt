@@ -7,7 +7,8 @@ use Rattle.coap_message.specs.Datagram.{holding}
 use Rattle.coap_model.specs.declared.report.Outcome.TheVariants.{Resent}
 use Rattle.coap_model.specs.Ticks.{abandons, redelivers}
 use Rattle.coap_model.specs.State.{State, Step}
-use Rattle.coap_core.specs.Steps.{Does, answer_at, answer_in_state}
+use Rattle.coap_core.specs.Done.{Does}
+use Rattle.coap_core.specs.Dues.{answer_at, answer_in_state}
 use Rattle.coap_core.proofs.Serving.{again-step, over-step, fired-answer, fired-same, fired-told}
 use Rattle.coap_core.proofs.Ticking.{changed-found, changed-same}
 use Rattle.coap_core.proofs.state.State.on_delivery_timeout.Goals as goal

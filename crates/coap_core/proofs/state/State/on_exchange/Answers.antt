@@ -2,7 +2,8 @@ use Rattle.std.proofs.Common.{◌≡◌, ◌≤◌, ◌∙◌, Some, length, ref
 use Rattle.std.proofs.lemmas.Option.{same_Some}
 use Rattle.coap_pending.specs.Table.{item_at}
 use Rattle.coap_model.specs.State.{Step}
-use Rattle.coap_core.specs.Steps.{Does, IsExchangeDue}
+use Rattle.coap_core.specs.Done.{Does}
+use Rattle.coap_core.specs.Dues.{IsExchangeDue}
 use Rattle.coap_core.proofs.Ticking.{is-open, has-ended, queued-step, sent-step}
 use Rattle.coap_core.proofs.state.State.on_exchange.Given.{Over}
 use Rattle.coap_core.proofs.state.State.on_exchange.Goals.{In-Some}

@@ -8,14 +8,24 @@ put_request-requires-clause-forwardable g c = forwardable c.requires.ask
 pub put_validating-requires-clause-forwardable : goal.put_validating-requires-clause-forwardable
 put_validating-requires-clause-forwardable g c = forwardable c.requires.ask
 
-pub refuse-requires-clause-fits : goal.refuse-requires-clause-fits
-refuse-requires-clause-fits g c = fits-as (too-long c.requires.ask (sym c.put_request.ensures.exact ∙ c.if-is_err.ensures.negation)) c.put_request.ensures.kept c.requires.can.fits
+pub refuse-requires : goal.refuse-requires
+refuse-requires g c = record {
+  can = record {
+    reply = c.requires.ask.reply;
+    fits = fits-as (too-long c.requires.ask (sym c.put_request.ensures.exact ∙ c.if-is_err.ensures.negation)) c.put_request.ensures.kept c.requires.can.fits;
+  };
+}
 
 pub returns-then-is_err : goal.returns-then-is_err
 returns-then-is_err g c = remembered-as c.args.arrival (too-long c.requires.ask (sym c.put_request.ensures.exact ∙ c.if-is_err.ensures.negation)) c.put_request.ensures.kept c.refuse.ensures
 
-pub overload-requires-clause-fits : goal.overload-requires-clause-fits
-overload-requires-clause-fits g c = fits-as (turned-away c.requires.ask (sym c.put_request.ensures.exact ∙ c.if-is_err.ensures.negation) (sym c.if-not-has_room_to_open.ensures)) c.put_request.ensures.kept c.requires.can.fits
+pub overload-requires : goal.overload-requires
+overload-requires g c = record {
+  can = record {
+    reply = c.requires.ask.reply;
+    fits = fits-as (turned-away c.requires.ask (sym c.put_request.ensures.exact ∙ c.if-is_err.ensures.negation) (sym c.if-not-has_room_to_open.ensures)) c.put_request.ensures.kept c.requires.can.fits;
+  };
+}
 
 pub returns-then-not-has_room_to_open : goal.returns-then-not-has_room_to_open
 returns-then-not-has_room_to_open g c = remembered-as c.args.arrival (turned-away c.requires.ask (sym c.put_request.ensures.exact ∙ c.if-is_err.ensures.negation) (sym c.if-not-has_room_to_open.ensures)) c.put_request.ensures.kept c.overload.ensures
@@ -23,7 +33,10 @@ returns-then-not-has_room_to_open g c = remembered-as c.args.arrival (turned-awa
 pub returns : goal.returns
 returns g c = remembered-as c.args.arrival (opened c.requires.ask (sym c.put_request.ensures.exact ∙ c.if-is_err.ensures.negation) (sym c.if-not-has_room_to_open.ensures)) (c.in_ok-copy.ensures.kept ∙ c.put_request.ensures.kept) (rw c.requires.ask.hashed at c.open.ensures)
 
-pub open-requires-clause-fits : goal.open-requires-clause-fits
-open-requires-clause-fits g c =
-    rw c.requires.ask.hashed
-    (fits-as (opened c.requires.ask (sym c.put_request.ensures.exact ∙ c.if-is_err.ensures.negation) (sym c.if-not-has_room_to_open.ensures)) (c.in_ok-copy.ensures.kept ∙ c.put_request.ensures.kept) c.requires.can.fits)
+pub open-requires-clause-can : goal.open-requires-clause-can
+open-requires-clause-can g c = record {
+  reply = c.requires.ask.reply;
+  fits =
+      rw c.requires.ask.hashed
+      (fits-as (opened c.requires.ask (sym c.put_request.ensures.exact ∙ c.if-is_err.ensures.negation) (sym c.if-not-has_room_to_open.ensures)) (c.in_ok-copy.ensures.kept ∙ c.put_request.ensures.kept) c.requires.can.fits);
+}

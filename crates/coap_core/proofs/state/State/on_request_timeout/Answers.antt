@@ -6,7 +6,7 @@ use Rattle.coap_message.specs.Datagram.{holding}
 use Rattle.coap_model.specs.Ticks.{gives_up, resends}
 use Rattle.coap_model.specs.declared.report.Outcome.TheVariants.{Resent}
 use Rattle.coap_model.specs.State.{State, Step}
-use Rattle.coap_core.specs.Steps.{Does}
+use Rattle.coap_core.specs.Done.{Does}
 use Rattle.coap_core.proofs.Awaiting.{sent-open}
 use Rattle.coap_core.proofs.Ticking.{changed-found, changed-same, fired-same, again-step, over-step}
 use Rattle.coap_core.proofs.state.State.on_request_timeout.Goals as goal

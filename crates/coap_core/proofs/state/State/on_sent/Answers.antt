@@ -4,7 +4,7 @@ use Rattle.coap_pending.specs.Table.{item_at}
 use Rattle.coap_forward.specs.Messages.{is_ack}
 use Rattle.coap_model.specs.History.{grown_of}
 use Rattle.coap_model.specs.State.{Step}
-use Rattle.coap_core.specs.Steps.{Does}
+use Rattle.coap_core.specs.Done.{Does}
 use Rattle.coap_core.proofs.Puts.{no-ack, reset-step}
 use Rattle.coap_core.proofs.state.State.on_sent.Goals as goal
 

@@ -6,7 +6,7 @@ use Rattle.coap_model.specs.declared.report.Report.{Report}
 use Rattle.coap_model.specs.History.{grown_of}
 use Rattle.coap_model.specs.Responses.{on_separate}
 use Rattle.coap_model.specs.State.{Step, has_record_room}
-use Rattle.coap_core.specs.Steps.{Does, wants_memory}
+use Rattle.coap_core.specs.Done.{Does, wants_memory}
 use Rattle.coap_core.specs.Storing.{answering_at, separate_step}
 use Rattle.coap_core.proofs.Awaiting.{awaited}
 use Rattle.coap_core.proofs.Puts.{answer-takes, separate-does}

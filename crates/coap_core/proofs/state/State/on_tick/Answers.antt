@@ -2,7 +2,8 @@ use Rattle.std.proofs.Common.{rules, ◌≡◌, ◌≤◌, Some, length, IfOk, O
 use Rattle.coap_model.specs.declared.due.DueItem.TheVariants.{OfExchange, OfWaiter}
 use Rattle.coap_model.specs.State.{Step}
 use Rattle.coap_model.specs.Ticks.{item_due, on_tick}
-use Rattle.coap_core.specs.Steps.{Does, GivesConfirmable, waiter_at}
+use Rattle.coap_core.specs.Done.{Does, GivesConfirmable}
+use Rattle.coap_core.specs.Dues.{waiter_at}
 use Rattle.coap_core.proofs.Ticking.{client-due-at, due-at, of-exchange, of-waiter}
 use Rattle.coap_core.proofs.state.State.on_tick.Given.{Over}
 use Rattle.coap_core.proofs.state.State.on_tick.Goals.{In-Some-OfExchange, In-Some-OfWaiter}

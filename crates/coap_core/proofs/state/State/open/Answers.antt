@@ -6,7 +6,7 @@ use Rattle.coap_core.proofs.state.State.open.Goals as goal
 
 pub accept_request-done-requires-clause-new : goal.accept_request-done-requires-clause-new
 accept_request-done-requires-clause-new g c =
-    let new = rw (← c.self.view_is) at c.requires.reply.new in
+    let new = rw (← c.self.view_is) at c.requires.can.reply.new in
     record { unknown = new.unknown; until = new.until; room = new.room }
 
 -- a state is itself, whatever came of a call
@@ -19,8 +19,8 @@ returns-in_err-form g c = record { exact = IfOk-from_err _ _ c.from_residual.ens
 
 pub accept_request-done-requires-clause-events : goal.accept_request-done-requires-clause-events
 accept_request-done-requires-clause-events g c =
-    let can = rw (← c.self.view_is) at c.requires.reply.ready.can in
+    let can = rw (← c.self.view_is) at c.requires.can.reply.ready.can in
     can.events
 
 pub open-requires-clause-now : goal.open-requires-clause-now
-open-requires-clause-now g c = c.requires.reply.ready.moment
+open-requires-clause-now g c = c.requires.can.reply.ready.moment

@@ -7,7 +7,7 @@ use Rattle.coap_message.specs.Datagram.{holding}
 use Rattle.coap_model.specs.Ticks.{sends}
 use Rattle.coap_model.specs.declared.report.Outcome.TheVariants.{SentRequest}
 use Rattle.coap_model.specs.State.{State, next_id, later}
-use Rattle.coap_core.specs.Steps.{sending_at, form_at}
+use Rattle.coap_core.specs.Dues.{sending_at, form_at}
 use Rattle.coap_core.proofs.Keeping.{id-for-queued}
 use Rattle.coap_core.proofs.Ticking.{changed-found, sent-form, sent-state}
 use Rattle.coap_core.proofs.state.State.send.Goals as goal

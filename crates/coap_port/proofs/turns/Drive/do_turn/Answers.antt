@@ -2,7 +2,7 @@ use Rattle.std.proofs.Common.{◌≡◌, ◌∙◌, ap, ap₂, subst, arith}
 use Rattle.coap_core.specs.Events.{seen}
 use Rattle.coap_model.specs.Events.{IsEvent, event_given}
 use Rattle.coap_model.specs.Ticks.{next_due}
-use Rattle.coap_watch.specs.Told.{Told}
+use Rattle.coap_core.specs.Told.{Told}
 use Rattle.coap_port.specs.Driven.{is_arrival, wait_for}
 use Rattle.coap_port.specs.Given.{given_by}
 use Rattle.coap_port.proofs.Turning.{arrival-is, did-nothing, did-step}

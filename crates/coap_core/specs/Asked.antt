@@ -1,0 +1,82 @@
+-- What a request asks for, as the program has it, and the steps of one that isn't answered from
+-- the store.
+use Rattle.std.specs.Prelude.{◌≡◌, ℕ, true, Option, None, is_some, if◌then◌else◌}
+use Rattle.coap_message.specs.Message.{Message}
+use Rattle.coap_forward.specs.Messages.{is_get, is_method}
+use Rattle.coap_model.specs.Verdicts as verdicts
+use Rattle.coap_option.specs.declared.side.Side.TheVariants.{Request}
+use Rattle.coap_option.specs.Screening.{first_refused}
+use Rattle.coap_option.specs.Selection.{tags_of}
+use Rattle.coap_endpoint.specs.declared.target.Target.{Target}
+use Rattle.coap_endpoint.specs.Target.{IsTarget}
+use Rattle.coap_store.specs.declared.key.CacheKey.{CacheKey}
+use Rattle.coap_store.specs.declared.stored.Stored.{Stored}
+use Rattle.coap_store.specs.Entries.{stored_for}
+use Rattle.coap_core.specs.declared.arrival.Arrival.{Arrival}
+use Rattle.coap_core.specs.declared.request_target.CacheQuery.{CacheQuery}
+use Rattle.coap_endpoint.specs.declared.endpoint.Endpoint.{Endpoint}
+use Rattle.coap_model.specs.State.{State, Step, has_room_to_join}
+use Rattle.coap_model.specs.Requests.{joins, opens, turns_away, on_exchange_needed, on_miss}
+use Rattle.coap_core.specs.declared.misses.Miss.{Miss}
+use Rattle.coap_core.specs.declared.misses.Missed.{Missed}
+use Rattle.coap_core.specs.declared.misses.Miss.TheVariants.{Nothing, Stale}
+use Rattle.coap_core.specs.declared.requests.Verdict.{Verdict}
+use Rattle.coap_core.specs.declared.requests.Verdict.TheVariants.{RefusedWith, MayAsk}
+use Rattle.coap_core.specs.Needs.{CanReplyTo}
+
+-- a verdict about a request for this key is this one of the model
+abbrev pub verdict_seen : Verdict → CacheKey → verdicts.Verdict
+verdict_seen (RefusedWith code) key = verdicts.refused_with code
+verdict_seen MayAsk key = verdicts.may_ask key
+
+-- a request may be forwarded to this target
+pub record IsForwardable (m : Message) (t : Target) : Type 0 where
+  pub method : is_method m.code ≡ true
+  pub screened : first_refused Request m.options ≡ None
+  pub target : IsTarget t
+
+-- the request may be forwarded: this is what it asks for
+pub record IsAsked (w : State) (m : Message) (asked : CacheQuery) : Type 0 where
+  pub key : verdicts.verdict_of w.setting.routes m ≡ verdicts.may_ask asked.key
+  pub tags : asked.tags ≡ tags_of m
+
+-- what is stored for the key of a request: only a GET is answered from the store, or validates
+abbrev pub held_for : State → Message → CacheKey → Option Stored
+held_for w m key = if is_get m.code then stored_for key w.store else None
+
+-- what a miss says of what is stored for the key of a request
+abbrev pub held_by : State → CacheKey → Miss → Option Stored
+held_by w key Nothing = None
+held_by w key Stale = stored_for key w.store
+
+-- what a miss says is what is stored for the request
+pub record IsMissed (w : State) (m : Message) (key : CacheKey) (miss : Miss) : Type 0 where
+  pub held : held_for w m key ≡ held_by w key miss
+  pub stale : miss ≡ Stale → is_some (stored_for key w.store) ≡ true
+
+-- an exchange may be joined or opened for this request: it may be forwarded, a reply may be sent
+-- at once, and it isn't answered from the store
+pub record CanAsk (request : Arrival) (query : CacheQuery) (known : Missed) (w : State) : Type 0
+  where
+    pub reply : CanReplyTo request w
+    pub asked : IsAsked w request.message.now query
+    pub missed : IsMissed w request.message.now query.key known.stored
+    pub hashed : known.key ≡ query.key
+
+-- the steps of a request that isn't answered from the store, of one that needs an exchange, and of
+-- one that opens it
+abbrev pub missed_step : State → ℕ → Endpoint → Message → CacheKey → Step
+missed_step w now client m key = on_miss w now client m key (held_for w m key)
+
+abbrev pub needing_step : State → ℕ → Endpoint → Message → CacheKey → Step
+needing_step w now client m key = on_exchange_needed w now client m key (held_for w m key)
+
+abbrev pub opening_step : State → ℕ → Endpoint → Message → CacheKey → Step
+opening_step w now client m key = opens w now client m key (held_for w m key)
+
+-- the step of a request whose key the exchange with this number is already in progress for
+abbrev pub joinable_step : State → ℕ → Endpoint → Message → ℕ → Step
+joinable_step w now client m exchange =
+    if has_room_to_join w now client
+    then joins w now client m exchange
+    else turns_away w now client m

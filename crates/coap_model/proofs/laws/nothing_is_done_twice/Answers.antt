@@ -1,6 +1,0 @@
-use Rattle.coap_model.proofs.Once.{sent-once, ended-once, served-once}
-use Rattle.coap_model.proofs.LettingGo.{gone-for-good}
-use Rattle.coap_model.proofs.laws.nothing_is_done_twice.Goals as goal
-
-pub returns : goal.returns
-returns c = record { sent = sent-once; ended = ended-once; served = served-once; gone = gone-for-good }
