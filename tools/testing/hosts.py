@@ -26,10 +26,10 @@ STANDING = b"coap-proxyd: the clock stands still\n"
 UPTIME = "coap_proxyd_uptime_seconds"
 
 
-def paced(program, speed):
-    """A program whose clock goes so many times as fast as it does."""
+def paced(program, speed, *more):
+    """A program whose clock goes so many times as fast as it does, with more settings of the environment."""
     settings, shimmed = programs.shimmed(program[-1], programs.PACING)
-    return ["env", f"CLOCK_SPEED={speed}", *settings, *program[:-1], shimmed]
+    return ["env", f"CLOCK_SPEED={speed}", *more, *settings, *program[:-1], shimmed]
 
 
 @contextlib.contextmanager
