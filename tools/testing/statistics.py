@@ -13,8 +13,8 @@ from testing.steps import T, expect_hit, fetch
 CASES, case = case_list()
 # The metric that is a histogram.
 TIMES = "coap_proxyd_origin_answer_seconds"
-# An address and a port.
-LISTEN = re.compile(r"(127(\.[0-9]{1,3}){3}|\[::1\]):[1-9][0-9]*")
+# An address of a test and a port.
+LISTEN = re.compile(r"(127(\.[0-9]{1,3}){3}|192\.0\.2\.1|\[::1\]):[1-9][0-9]*")
 
 KEYS = (
     "seconds received sent send_faults lost resent gave_up hit joined opened overloaded no_record_room no_id again "
