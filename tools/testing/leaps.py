@@ -10,11 +10,11 @@ import time
 
 from testing.coap import ACK, CON, CONTENT, EMPTY, GATEWAY_TIMEOUT, GET, MAX_AGE, RST, message, number
 from testing.hosts import paced
-from testing.network import PATIENCE, Broken, Failed, Stage, expect, expect_between, expect_message, left
+from testing.network import PATIENCE, Broken, Failed, Stage, case_list, expect, expect_between, expect_message, left
 from testing.recordings import replayed
 from testing.steps import T, TEMP, max_age
 
-CASES = []
+CASES, case = case_list()
 SECONDS = struct.Struct("@q")
 # How often it is asked, and how many days that takes at least.
 ROUNDS, DAYS = 1_500, 1_000
@@ -26,16 +26,11 @@ LIFETIME = 247
 SLACK = 0.003
 
 
-def case(*stand_ins):
-    """Notes a function that tries a program, with the stand-ins that it must find wrong."""
-    return lambda function: CASES.append((function, stand_ins))
-
-
 class Clock:
-    """The clock of a program, in seconds, which is ahead of that of this process."""
+    """The clock of a program, in seconds, which is ahead of that of this process, and may go faster."""
 
-    def __init__(self, folder):
-        self.path, self.ahead = os.path.join(folder, "ahead"), 0
+    def __init__(self, folder, speed=1):
+        self.path, self.ahead, self.speed = os.path.join(folder, "ahead"), 0, speed
         with open(self.path, "wb+") as file:
             file.write(bytes(SECONDS.size))
             file.flush()
@@ -47,7 +42,7 @@ class Clock:
         SECONDS.pack_into(self.map, 0, self.ahead)
 
     def now(self):
-        return time.monotonic() + self.ahead
+        return time.monotonic() * self.speed + self.ahead
 
 
 class Stored:
@@ -183,15 +178,13 @@ class Years:
                 told = self.repeat(client, data, *told)
 
 
-def expect_same_replay(program, path, seen):
+def expect_same_replay(program, path, seen, arranged=list):
     """Has a replay of a recording come to send what was seen, to the last datagram, once it is written."""
-    until, wanted, sent = time.monotonic() + PATIENCE, arranged(seen), []
+    until, wanted = time.monotonic() + PATIENCE, arranged(seen)
+    sent = arranged(replayed(program, path))
     while sent != wanted and time.monotonic() < until:
-        try:
-            sent = arranged(replayed(program, path))
-        except Failed:
-            # Its last line isn't whole yet.
-            time.sleep(0.2)
+        time.sleep(0.2)
+        sent = arranged(replayed(program, path))
     for at, (one, other) in enumerate(zip(wanted, sent)):
         expect(f"datagram {at} of the replay", one, other)
     expect("how many datagrams the replay sends", len(wanted), len(sent))

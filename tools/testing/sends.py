@@ -9,11 +9,11 @@ from testing import programs
 from testing.coap import CON, EMPTY, GET, NON, PROXY_URI, RST, message
 from testing.links import HERE, PORT, wait_until_ready
 from testing.namespaces import namespaces, socket_in
-from testing.network import PATIENCE, Failed, Stage, expect
+from testing.network import PATIENCE, Failed, Stage, case_list, expect
 from testing.statistics import metrics
 from testing.steps import path
 
-CASES = []
+CASES, case = case_list()
 RECEIVED, SENT, FAULTS, RESENT = (
     f"coap_proxyd_{name}_total" for name in ("datagrams_received", "datagrams_sent", "send_faults", "retransmissions")
 )
@@ -30,11 +30,6 @@ ERRORS = (
 RULES = {"198.18.0": "drop", "198.18.1": "reject"}
 ROUTES = {"198.18.2": "unreachable", "198.18.3": "prohibit", "198.18.4": "blackhole"}
 NETWORKS = (*RULES, *ROUTES, "198.18.5")
-
-
-def case(*stand_ins):
-    """Notes a function that tries a program, with the stand-ins that it must find wrong."""
-    return lambda function: CASES.append((function, stand_ins))
 
 
 def await_counts(counts, is_wanted):

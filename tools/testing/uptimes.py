@@ -10,19 +10,14 @@ from collections import deque
 from testing.buildings import Building
 from testing.coap import ACK, CON, CONTENT, GET, NON, NOT_FOUND, message
 from testing.models import LIFETIMES, Records, Script, check
-from testing.network import Broken
+from testing.network import Broken, case_list
 from testing.steps import TEMP, max_age, path
 
-CASES = []
+CASES, case = case_list()
 # How many times as many events there are, and each script that was made, by the function that makes it.
 TIMES, SCRIPTS, LOCK = int(os.environ.get("UPTIME", "1")), {}, threading.Lock()
 # The first moment that 32 bits don't count, and the greatest Max-Age, in seconds.
 WRAP, FOREVER = 1 << 32, (1 << 32) - 1
-
-
-def case(*stand_ins):
-    """Notes a function that tries a program, with the stand-ins that it must find wrong."""
-    return lambda function: CASES.append((function, stand_ins))
 
 
 def made(make):
