@@ -180,11 +180,13 @@ class Years:
 
 def expect_same_replay(program, path, seen, arranged=list):
     """Has a replay of a recording come to send what was seen, to the last datagram, once it is written."""
-    until, wanted = time.monotonic() + PATIENCE, arranged(seen)
-    sent = arranged(replayed(program, path))
+    until, wanted, sent = time.monotonic() + PATIENCE, arranged(seen), []
     while sent != wanted and time.monotonic() < until:
-        time.sleep(0.2)
-        sent = arranged(replayed(program, path))
+        try:
+            sent = arranged(replayed(program, path))
+        except Failed:
+            # Its last line isn't whole yet.
+            time.sleep(0.2)
     for at, (one, other) in enumerate(zip(wanted, sent)):
         expect(f"datagram {at} of the replay", one, other)
     expect("how many datagrams the replay sends", len(wanted), len(sent))
