@@ -116,7 +116,7 @@ def script_of_records():
 def records_come_and_are_forgotten(program):
     script = made(script_of_records)
     expect_many(script, REQUESTS // 50, "hit", "refused", "again", "no record room")
-    check(program, script, RECORDS, 50 * TIMES)
+    check(program, script, RECORDS, 120 * TIMES)
 
 
 # A building
@@ -137,4 +137,4 @@ def a_building_is_served_for_a_hundred_days(program):
     often = "hit", "joined", "opened", "again", "sent", "resent", "gave up", "answered", "acked", "delivered", "rejected"
     expect_many(script, 20, *often)
     maps = "".join(f'[[map]]\nprefix = "/d{n}"\norigin = "coap://10.1.0.{n}/value"\n' for n in range(DEVICES))
-    check(program, script, f"version = 2\n{maps}", 50 * TIMES)
+    check(program, script, f"version = 2\n{maps}", 120 * TIMES)
