@@ -20,7 +20,7 @@ living lifetime now records = filter (is_living lifetime now) records
 abbrev pub kept_with : ℕ → Record → List Record → List Record
 kept_with lifetime r records = living lifetime r.at records ++ r ∷ []
 
--- the record is of a message from this endpoint with this Message ID (RFC 7252, 4.4)
+-- the record is of a message from this endpoint with this Message ID (RFC 7252, 4.5)
 abbrev pub is_of : Endpoint → ℕ → Record → Bool
 is_of from id r = same_endpoint r.from from && (r.id == id)
 

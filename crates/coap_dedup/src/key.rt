@@ -6,7 +6,7 @@ ghost use Rattle.coap_dedup.specs.Keys.{same_key};
 
 use coap_endpoint::Endpoint;
 
-/// What identifies a message: its source endpoint and its Message ID (RFC 7252, 4.4). Keys are
+/// What identifies a message: its source endpoint and its Message ID (RFC 7252, 4.5). Keys are
 /// ordered by Message ID first, which usually differs already.
 #[derive(Clone, Copy, Debug, PartialOrd, Ord)]
 pub(crate) struct Key {

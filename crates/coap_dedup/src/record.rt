@@ -8,7 +8,7 @@ use crate::key::Key;
 use coap_endpoint::Endpoint;
 use coap_message::{Moment, Seq};
 
-/// A message that was seen, and what was sent immediately in reply to it.
+/// A message that was seen, and what its duplicate gets.
 pub struct Record {
     /// The endpoint that the message came from.
     pub from: Endpoint,
@@ -16,7 +16,8 @@ pub struct Record {
     pub id: u16,
     /// The time at which it arrived, in milliseconds.
     pub at: Moment,
-    /// The datagram that was sent in reply, if one was.
+    /// The datagram to send again for a duplicate: none for a Non-confirmable message, whatever was
+    /// sent for it.
     pub reply: Option<Seq<u8>>,
 }
 
@@ -51,7 +52,7 @@ impl Record {
         }
     }
 
-    /// The bytes of the reply, if there was one.
+    /// The datagram to send again, if there is one.
     pub(crate) fn reply(&self) -> Option<&[u8]>
         ensures { option_copied result ≡ self.now.reply }
     {

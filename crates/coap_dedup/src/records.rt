@@ -99,8 +99,8 @@ impl Records {
         })
     }
 
-    /// Whether a message from this endpoint with this Message ID was seen before, and what was sent
-    /// in reply (RFC 7252, 4.5). Doesn't allocate.
+    /// Whether there is a live record of a message from this endpoint with this Message ID, and what
+    /// its duplicate gets (RFC 7252, 4.5). Doesn't allocate.
     pub fn seen(&self, from: Endpoint, id: u16, now: Moment) -> Seen<'_>
         ensures exact { told result
             ≡ option_map (λ r. r.reply) (record_of from id (living_at now self.now)) }

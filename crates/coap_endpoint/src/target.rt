@@ -104,7 +104,7 @@ impl Target {
         copied
     }
 
-    /// The same, but if memory runs out, the other target may hold parts of both.
+    /// `copy_to`, except that if memory runs out, the other target may hold parts of both.
     fn overwrite(&self, target: &mut Target) -> Result<(), OutOfMemory>
         ensures { OnOk result (target.new ≡ self.now) }
     {

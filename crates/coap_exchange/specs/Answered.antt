@@ -19,7 +19,7 @@ got_of x = moment_of (answer_at x)
 abbrev pub got_in : ℕ → List (Numbered Exchange) → Option ℕ
 got_in number exchanges = moment_of (answer_in number exchanges)
 
--- the same, if there is an exchange
+-- `got_in` of an exchange, if there is one
 abbrev pub got_by : Option ℕ → List (Numbered Exchange) → Option ℕ
 got_by None exchanges = None
 got_by (Some number) exchanges = got_in number exchanges

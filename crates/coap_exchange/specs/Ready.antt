@@ -22,12 +22,12 @@ abbrev pub ready_at : Tables → ℕ → Option Pair
 ready_at t number =
     ready_of (got_in number t.exchanges.items) (first_that (waits_for number) t.waiters.items)
 
--- the same, if there is an exchange
+-- `ready_at` of an exchange, if there is one
 abbrev pub ready_in : Tables → Option ℕ → Option Pair
 ready_in t None = None
 ready_in t (Some number) = ready_at t number
 
--- the index holds that of each exchange, and nothing else
+-- the index holds `ready_at` of each exchange, and nothing else
 pub record AreReady (t : Tables) (index : OrderedIndex) : Type 0 where
   pub only : (p : Pair) → is_in p index.pairs ≡ true → (e : ℕ) × (ready_at t e ≡ Some p)
   pub all : (e : ℕ) (p : Pair) → ready_at t e ≡ Some p → is_in p index.pairs ≡ true

@@ -15,7 +15,7 @@ abbrev pub head_at : List (Numbered Exchange) → Endpoint → Option Pair
 head_at items at =
     option_map (λ n. (count (is_sent_to at) items, n)) (first_that (is_queued_to at) items)
 
--- the same, if there is an endpoint
+-- `head_at` of an endpoint, if there is one
 abbrev pub head_in : List (Numbered Exchange) → Option Endpoint → Option Pair
 head_in items None = None
 head_in items (Some at) = head_at items at

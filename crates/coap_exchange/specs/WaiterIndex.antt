@@ -21,7 +21,7 @@ abbrev pub end_in : WaiterState → Option ℕ
 end_in (Waiting exchange) = None
 end_in (Delivering bytes id timer) = Some timer.due
 
--- the Message ID of the response
+-- the Message ID of the answer
 abbrev pub id_of : Waiter → Option ℕ
 id_of w = id_in w.state
 

@@ -15,7 +15,8 @@ use endpoint_counts::Peer;
 use ordered_index::OrderedIndex;
 use std::alloc::Global;
 
-/// What decides whose turn it is, so that neither exchanges nor endpoints are scanned.
+/// What decides whose turn it is, so that neither exchanges nor endpoints are scanned. The head of
+/// an endpoint is its first queued exchange.
 #[derive(Drop)]
 pub(crate) struct SendQueue {
     /// The first queued exchange of each endpoint, by the number of exchanges sent to that

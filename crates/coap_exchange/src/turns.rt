@@ -37,7 +37,7 @@ pub(crate) fn first_turn(
     }
 }
 
-/// The same, if they were admitted in order.
+/// Which queued exchange is to be sent first, if they were admitted in order.
 fn first_in_order(
     exchanges: &Table<IndexedExchange>,
     send_queue: &SendQueue,
@@ -54,7 +54,7 @@ fn first_in_order(
     Some((exchange.admitted, number))
 }
 
-/// The same, in whatever order they were admitted. `queued` of them are waiting. A proxy, to which
+/// Which is to be sent first, in whatever order they were admitted. `queued` of them are waiting. A proxy, to which
 /// time never goes back, never comes here: only who admits exchanges at moments that go back does.
 fn first_of_all(
     exchanges: &Table<IndexedExchange>,

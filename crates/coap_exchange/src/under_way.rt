@@ -1,4 +1,4 @@
-//! What is under way: exchanges, and the clients that wait for them.
+//! What is under way: exchanges, and their waiters.
 ghost use Rattle.std.specs.Prelude.{◌≡◌, ◌+◌, ◌-◌, ◌<◌, ◌≤◌, ◌^◌, ◌↔◌, ◌==◌, if◌then◌else◌, [], true, false, length, OnOk, OnErr, IfOk, IfErr, IfSome};
 ghost use Rattle.std.specs.Option.{option_copied};
 ghost use Rattle.coap_pending.specs.declared.exchange.Exchange.{Exchange};
@@ -28,14 +28,13 @@ use ordered_index::OrderedIndex;
 use std::alloc::Global;
 use std::marker::Model;
 
-/// Exchanges, and the clients that wait for them. Its calls are those of the two tables; beside
-/// them it knows which waiting client is to be served first, so that none of those whose answers
-/// have come is looked at for that. A contract sees the two tables.
+/// Exchanges, and their waiters. Its calls are those of the two tables; it also keeps which waiter
+/// is to be served first, so that none is scanned. A contract sees the two tables.
 pub struct UnderWay {
     exchanges: Exchanges,
     waiters: Waiters,
-    /// For each exchange whose answer has come, and that a client waits for: the moment when it
-    /// came, and the first of those clients.
+    /// For each exchange whose answer has come, and that a waiter waits for: the moment when it came,
+    /// and the first of those waiters.
     ready: OrderedIndex,
 }
 
@@ -90,7 +89,7 @@ impl UnderWay {
         &self.exchanges
     }
 
-    /// The clients that wait for them, and those that are being sent a response.
+    /// The waiters.
     pub fn waiters(&self) -> &Waiters
         ensures exact { result.now ≡ self.now.waiters }
     {
@@ -162,7 +161,7 @@ impl UnderWay {
         self.ready.replace(was, None);
     }
 
-    /// Marks a request as sent: `Exchanges::send`.
+    /// Notes that a request is sent: `Exchanges::send`.
     pub fn send(&mut self, number: ExchangeNumber, sending: Sending)
         requires queued { IfSome (item_at number self.old.exchanges.items)
             (λ x. is_queued x ≡ true) }
@@ -219,15 +218,14 @@ impl UnderWay {
         self.exchanges.seek(number);
     }
 
-    /// The same for the waiter numbered `number`.
+    /// Looks for the waiter numbered `number`, likewise for the calls about it.
     fn seek_waiter(&mut self, number: WaiterNumber)
         ensures { self.new ≡ self.old }
     {
         self.waiters.seek(number);
     }
 
-    /// Records an answer: `Exchanges::answered`. The first client that waits for it is then to be
-    /// served.
+    /// Notes an answer: `Exchanges::answered`. The first waiter of its exchange is then to be served.
     pub fn answered(&mut self, number: ExchangeNumber, answer: Answer)
         requires open { IfSome (item_at number self.old.exchanges.items)
             (λ x. is_done x ≡ false) }
@@ -243,7 +241,7 @@ impl UnderWay {
         self.note_answer(number, answer);
     }
 
-    /// Records an answer. The first client that waits for it is then to be served.
+    /// Notes an answer. The first waiter of its exchange is then to be served.
     fn note_answer(&mut self, number: ExchangeNumber, answer: Answer)
         requires open { IfSome (item_at number self.old.exchanges.items)
             (λ x. is_done x ≡ false) }
@@ -351,7 +349,7 @@ impl UnderWay {
         self.update_waiter(number, None);
     }
 
-    /// Notes that a waiter was sent its response: `Waiters::deliver`.
+    /// Notes that a waiter was sent its answer: `Waiters::deliver`.
     pub fn deliver(&mut self, number: WaiterNumber, bytes: Seq<u8>, id: u16, timer: Timer)
         requires waiting { IfSome (item_at number self.old.waiters.items)
             (λ w. is_waiting w ≡ true) }
@@ -368,7 +366,7 @@ impl UnderWay {
         self.update_waiter(number, Some(WaiterChange::Deliver { bytes, id, timer }));
     }
 
-    /// Fires the timer of a waiter that was sent its response: `Waiters::fire`.
+    /// Fires the timer of a waiter that was sent its answer: `Waiters::fire`.
     pub fn fire_waiter(&mut self, number: WaiterNumber, now: Moment) -> Fire
         requires due { IfSome (item_at number self.old.waiters.items) (waiters.IsDue now) }
         requires now { now ≤ 2 ^ 62 }

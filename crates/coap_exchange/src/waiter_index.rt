@@ -12,9 +12,9 @@ use std::alloc::Global;
 pub(crate) struct WaiterIndex {
     /// Those that wait, by the exchange that they wait for.
     pub(crate) awaited: OrderedIndex,
-    /// Those that were sent their response, by its Message ID.
+    /// Those that were sent their answer, by its Message ID.
     pub(crate) ids: OrderedIndex,
-    /// The same, by the end of the current timeout.
+    /// Those that were sent their answer, by the end of the current timeout.
     pub(crate) ends: OrderedIndex,
 }
 
@@ -33,7 +33,7 @@ impl Drop for WaiterIndex {
 pub(crate) struct WaiterKeys {
     /// The exchange that it waits for.
     pub(crate) awaited: Option<ExchangeNumber>,
-    /// The Message ID of the response that was sent to it.
+    /// The Message ID of the answer that was sent for it.
     pub(crate) id: Option<u64>,
     /// When the current timeout ends, in milliseconds.
     pub(crate) end: Option<Moment>,

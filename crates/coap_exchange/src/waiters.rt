@@ -111,7 +111,7 @@ impl Waiters {
         self.table.len()
     }
 
-    /// The number of waiters of this client: of its requests that wait, and of those whose response
+    /// The number of waiters of this client: of its requests that wait, and of those whose answer
     /// it hasn't acknowledged. Doesn't allocate.
     pub fn count_of(&self, client: Endpoint) -> usize
         ensures exact { result ≡ count (is_of client) self.now.items }
@@ -163,7 +163,7 @@ impl Waiters {
         self.table.seek(number);
     }
 
-    /// The number of the waiter whose response was sent to the endpoint `at` with Message ID `id`,
+    /// The number of the waiter whose answer was sent to the endpoint `at` with Message ID `id`,
     /// less than 247,000 milliseconds before `now` (RFC 7252, 4.4). If there are several, the
     /// first.
     pub fn sent_as(&self, at: Endpoint, id: u16, now: Moment) -> Option<WaiterNumber>
@@ -210,7 +210,7 @@ impl Waiters {
         awaited_by(self.get(number))
     }
 
-    /// When the first timeout of those that were sent their response ends, in milliseconds, and the
+    /// When the first timeout of those that were sent their answer ends, in milliseconds, and the
     /// waiter's number.
     pub(crate) fn first_end(&self) -> Option<(Moment, WaiterNumber)>
         ensures exact { result ≡ first_due end_of self.now.items }
@@ -229,7 +229,7 @@ impl Waiters {
 
     /// The moment when the first waiter is due, in milliseconds, and its number. If several are due
     /// at the same moment, the one with the least number. A waiter is due when the answer of its
-    /// exchange comes, and, once the response was sent, at the end of the current timeout. All
+    /// exchange comes, and, once the answer was sent, at the end of the current timeout. All
     /// waiters are scanned: a proxy, which keeps who is due, calls `UnderWay::waiter_due`.
     pub fn due(&self, exchanges: &Exchanges) -> Option<(Moment, WaiterNumber)>
         ensures exact { result ≡ first_due (due_after exchanges.now.items) self.now.items }
@@ -329,8 +329,8 @@ impl Waiters {
         self.update(number, None);
     }
 
-    /// Marks the waiter numbered `number`, which was waiting for an exchange, as being sent its
-    /// response: `bytes`, with Message ID `id`. Its token and tags are dropped. The timer's timeout
+    /// Notes that the waiter numbered `number`, which was waiting for an exchange, is sent its
+    /// answer: `bytes`, with Message ID `id`. Its token and tags are dropped. The timer's timeout
     /// is at most 3,000 milliseconds, like that of a new timer.
     pub fn deliver(&mut self, number: WaiterNumber, bytes: Seq<u8>, id: u16, timer: Timer)
         requires waiting { IfSome (item_at number self.old.items) (λ w. is_waiting w ≡ true) }
@@ -344,8 +344,8 @@ impl Waiters {
         self.update(number, Some(WaiterChange::Deliver { bytes, id, timer }));
     }
 
-    /// Fires the timer of the waiter numbered `number`, which was sent its response, and returns
-    /// what is to be done. If the response is to be sent again, the timer counts that. `now` is in
+    /// Fires the timer of the waiter numbered `number`, which was sent its answer, and returns
+    /// what is to be done. If the answer is to be sent again, the timer counts that. `now` is in
     /// milliseconds, and at most 2^62.
     pub fn fire(&mut self, number: WaiterNumber, now: Moment) -> Fire
         requires due { IfSome (item_at number self.old.items) (IsDue now) }

@@ -42,7 +42,7 @@ sent_at key admitted now =
 abbrev pub queued : CacheKey → ℕ → Exchange
 queued key now = opened key now Queued None
 
--- the same for another client
+-- a queued exchange of another client
 abbrev pub queued_for : Endpoint → CacheKey → ℕ → Exchange
 queued_for at key now = record (queued key now) { client = at }
 

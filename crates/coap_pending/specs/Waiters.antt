@@ -1,4 +1,4 @@
--- Waiters: clients that wait for an exchange, or that are being sent a response.
+-- Waiters: requests that wait for an exchange, or whose answer isn't acknowledged yet.
 use Rattle.std.specs.Prelude.{◌≤◌, ℕ, ◌-◌, ◌^◌, ◌==◌, ◌&&◌, Bool, true, false, nat_lt, List, [], Option, Some, None, IfSome}
 use Rattle.std.specs.List.{AllByRecursion}
 use Rattle.coap_endpoint.specs.declared.endpoint.Endpoint.{Endpoint}
@@ -44,13 +44,13 @@ is_waiting w = is_waiting_state w.state
 abbrev pub waits_for : ℕ → Waiter → Bool
 waits_for number w = waits_in_state number w.state
 
--- the response was sent with this id, less than 247,000 ms ago
+-- the answer was sent with this id, less than 247,000 ms ago
 abbrev pub is_delivered_as : ℕ → ℕ → WaiterState → Bool
 is_delivered_as id now (Waiting exchange) = false
 is_delivered_as id now (Delivering bytes other timer) =
     (other == id) && nat_lt (now - timer.started) 247000
 
--- the response was sent to this endpoint with this id, less than 247,000 ms ago (RFC 7252, 4.4)
+-- the answer was sent to this endpoint with this id, less than 247,000 ms ago (RFC 7252, 4.4)
 abbrev pub was_sent_as : Endpoint → ℕ → ℕ → Waiter → Bool
 was_sent_as at id now w = same_endpoint w.client at && is_delivered_as id now w.state
 
@@ -72,7 +72,7 @@ joined joining =
 
 -- ---- changes
 
--- it is sent the response; its token and tags are no longer needed
+-- its client is sent the answer; its token and tags are no longer needed
 abbrev pub delivered : List ℕ → ℕ → Timer → Waiter → Waiter
 delivered bytes id timer w =
     record w { token = []; tags = []; state = Delivering bytes id timer }

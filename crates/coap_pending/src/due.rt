@@ -22,7 +22,7 @@ pub fn sooner(a: Option<(u64, u64)>, b: Option<(u64, u64)>) -> Option<(u64, u64)
     }
 }
 
-/// The same number, due `ms` milliseconds later.
+/// An item that is due, `ms` milliseconds later.
 pub fn later(due: Option<(u64, u64)>, ms: u64) -> Option<(u64, u64)>
     requires early { IfSome due (λ d. d.0 ≤ 2 ^ 62) }
     requires short { ms ≤ 600000 }

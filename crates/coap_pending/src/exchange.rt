@@ -38,8 +38,9 @@ impl Sending {
 ///                                                                  is served
 /// ```
 ///
-/// An answer may come in each of the first three states: a response, or the proxy's own answer if
-/// no response can come any more.
+/// An answer may come in each of the first three states: a response, or the proxy's own answer,
+/// which is 5.02 if the request was rejected or its response can't be passed on, and 5.04 if none
+/// came in time.
 #[derive(Drop)]
 pub enum ExchangeState {
     /// The request is waiting for its turn.

@@ -1,4 +1,4 @@
-//! Waiters: clients that wait for an exchange.
+//! Waiters: requests that wait for an exchange, or whose answer isn't acknowledged yet.
 ghost use Rattle.std.specs.Prelude.{◌≡◌, ◌≤◌, ◌^◌};
 ghost use Rattle.coap_pending.specs.Waiters.{changed_by, exchange_of, fire_of_state, fired_waiter, is_waiting, joined, was_sent_as, waits_for, CanChange, CanFire};
 
@@ -24,25 +24,25 @@ pub type WaiterNumber = u64;
 pub enum WaiterState {
     /// It is waiting for the exchange of this number.
     Waiting(ExchangeNumber),
-    /// It was sent the response in a Confirmable message, and hasn't acknowledged it.
+    /// Its client was sent the answer in a Confirmable message, and hasn't acknowledged it.
     Delivering {
-        /// The encoded response.
+        /// The encoded message.
         bytes: Seq<u8>,
-        /// The Message ID of the response.
+        /// Its Message ID.
         id: u16,
         timer: Timer,
     },
 }
 
-/// A client that waits for an exchange, or that is being sent a response.
+/// A request that waits for an exchange, or whose answer isn't acknowledged yet.
 pub struct Waiter {
     pub client: Endpoint,
     /// The type of the message that carried its request.
     pub kind: Kind,
-    /// The token of its request; empty once the response was sent.
+    /// The token of its request; empty once the answer was sent.
     pub token: Token,
-    /// The ETags of the responses that it already holds (RFC 7252, 5.10.6.2); none once the
-    /// response was sent.
+    /// The ETags of the responses that its client already holds (RFC 7252, 5.10.6.2); none once the
+    /// answer was sent.
     pub tags: Pieces,
     pub state: WaiterState,
 }
@@ -59,7 +59,7 @@ impl Drop for Waiter {
     }
 }
 
-/// A request that waits for an exchange.
+/// A request that is to wait for an exchange.
 #[derive(Drop)]
 pub struct Joining {
     /// The client that sent it.
@@ -91,7 +91,7 @@ impl Joining {
 /// A change to a waiter.
 #[derive(Drop)]
 pub enum WaiterChange {
-    /// It is sent the response.
+    /// Its client is sent the answer.
     Deliver {
         bytes: Seq<u8>,
         id: u16,
@@ -102,7 +102,7 @@ pub enum WaiterChange {
 }
 
 impl Waiter {
-    /// The exchange that it waits for, if the response wasn't sent yet.
+    /// The exchange that it waits for, until the answer is sent.
     pub fn exchange(&self) -> Option<ExchangeNumber>
         ensures exact { result ≡ exchange_of self.now.state }
     {
@@ -132,7 +132,7 @@ impl Waiter {
         }
     }
 
-    /// Whether the response was sent to the endpoint `at` with Message ID `id`, less than 247,000
+    /// Whether the answer was sent to the endpoint `at` with Message ID `id`, less than 247,000
     /// milliseconds before `now` (RFC 7252, 4.4).
     pub fn was_sent_as(&self, at: Endpoint, id: u16, now: Moment) -> bool
         ensures exact { result ≡ was_sent_as at id now self.now }

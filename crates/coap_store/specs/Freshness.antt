@@ -18,10 +18,10 @@ is_fresh now stored = nat_le (age_of now stored) (1000 * max_age_of stored.respo
 abbrev pub left_at : ℕ → Message → ℕ
 left_at age response = max_age_of response - div_ceil age 1000
 
--- the same for a stored response
+-- how many seconds a stored response stays fresh from this moment on
 abbrev pub left_of : ℕ → Stored → ℕ
 left_of now stored = left_at (age_of now stored) stored.response
 
--- it may answer a request: it is fresh, and its resource wasn't changed since its request was sent
+-- it may answer a request: it is fresh, and not marked
 abbrev pub is_usable : ℕ → Stored → Bool
 is_usable now stored = is_fresh now stored && not stored.marked

@@ -55,7 +55,7 @@ with_max_age seconds options = updated (max_age_option seconds ∷ []) options
 abbrev pub safe_options : List Opt → List Opt
 safe_options options = filter (λ o. not (is_unsafe o.number)) options
 
--- what a 2.03 renews: its safe options, and its Max-Age, 60 seconds if it has none
+-- what a 2.03 brings: its safe options, and its Max-Age, 60 seconds if it has none
 abbrev pub news_of : Message → List Opt
 news_of valid = with_max_age (max_age_of valid) (safe_options valid.options)
 
@@ -67,8 +67,8 @@ renewed response valid = record response { options = updated (news_of valid) res
 abbrev pub has_tag : List ℕ → Message → Bool
 has_tag tag m = option_map_or (same_bytes tag) (tag_of m.options) false
 
--- A 2.03 validates a stored 2.05 if it has the same tag (RFC 7252, 5.10.6.1). Without a tag nothing
--- is validated.
+-- A 2.03 validates a stored 2.05 if it has the same tag (RFC 7252, 5.6.2 and 5.9.1.3). Without a
+-- tag nothing is validated.
 abbrev pub is_validated : Message → Message → Bool
 is_validated response valid =
     is_code response.code CONTENT && is_code valid.code VALID

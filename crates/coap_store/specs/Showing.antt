@@ -46,8 +46,8 @@ aged m left = record m { options = with_max_age left m.options }
 abbrev pub told : Message → ℕ → List (List ℕ) → Message
 told m left tags = option_map_or (valid m left) (held_tag m tags) (aged m left)
 
--- What is sent to a client with these tags. `left` is the number of seconds left of an origin's
--- answer to a GET, and none for every other answer, which is sent as it is stored.
+-- What is sent to a client with these tags for a response. `left` is for how many seconds it stays
+-- fresh, if it is an origin's answer to a GET; without it the response is sent as it is.
 abbrev pub shown : Message → Option ℕ → List (List ℕ) → Message
 shown m None tags = m
 shown m (Some left) tags = if tells_age m.code then told m left tags else m

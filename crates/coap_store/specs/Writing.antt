@@ -10,10 +10,11 @@ abbrev pub is_in : Part → ℕ → Bool
 is_in Before number = nat_lt number MAX_AGE
 is_in After number = nat_lt MAX_AGE number
 
+-- the options in this part
 abbrev pub part_of : Part → List Opt → List Opt
 part_of part options = filter (λ o. is_in part o.number) options
 
--- the least number that can come before it
+-- the greatest number that an option before this part can have, 0 if there is none before it
 abbrev pub floor_of : Part → ℕ
 floor_of Before = 0
 floor_of After = MAX_AGE

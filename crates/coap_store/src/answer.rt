@@ -1,12 +1,13 @@
 //! Answers (RFC 7252, 5.7.1).
 use coap_message::{Message, Moment};
 
-/// The answer to a request: a response, and when it came.
+/// What those who wait for an exchange get: a message, and when it came.
 pub struct Answer {
     pub message: Message,
-    /// When it came, in milliseconds.
+    /// When it came, or was made if it is the proxy's own, in milliseconds.
     pub got: Moment,
-    /// Whether it is the proxy's own (5.02), in place of what the origin sent.
+    /// Whether it is the proxy's own (5.02 or 5.04), in place of what the origin sent or
+    /// didn't.
     pub own: bool,
 }
 

@@ -24,7 +24,7 @@ pub fn aged_fits(message: &Message, token: &Token, left: u64, most: usize) -> bo
     behind_aged(message, token, left, most).is_some()
 }
 
-/// The room behind it.
+/// The room that is left behind such a message, or none if it is longer than `room`.
 fn behind_aged(message: &Message, token: &Token, left: u64, room: usize) -> Option<usize>
     ensures { Leaves room
         (4 + length token.now + options_length 0 (with_max_age left message.now.options)

@@ -22,9 +22,9 @@ use coap_option::numbers;
 /// Writes what a client is sent for a response, with this kind, Message ID and token. Doesn't
 /// allocate.
 ///
-/// `left` is the number of seconds left of an origin's answer to a GET. If it is given, a 2.05 or a
-/// code of class 4 or 5 is sent with exactly one Max-Age, of that many seconds; and a 2.05 whose
-/// ETag is among the client's `tags` is sent as a 2.03 with just that ETag and the Max-Age. Every
+/// `left` is for how many seconds an origin's answer to a GET stays fresh. If it is given, a response
+/// with code 2.05 or one of class 4 or 5 is sent with exactly one Max-Age, of that many seconds; and
+/// a 2.05 whose ETag is among the client's `tags` is sent as a 2.03 with just that ETag and the Max-Age. Every
 /// other response, and each one without `left`, is sent as it is.
 ///
 /// # Errors

@@ -18,8 +18,8 @@ pub struct Stored {
     pub got_no: EventNumber,
     /// When it came, in milliseconds.
     pub got: Moment,
-    /// Whether its resource was changed since its request was sent, so that it answers no request
-    /// (RFC 7252, 5.9.1).
+    /// Whether a change of its target has passed through the proxy since its request was sent (RFC
+    /// 7252, 5.9.1.1, 5.9.1.2 and 5.9.1.4), so that it answers no request.
     pub marked: bool,
 }
 
@@ -53,8 +53,9 @@ impl Stored {
         self.age(now) <= 1000 * u64::from(max_age(&self.response))
     }
 
-    /// How many seconds it stays fresh, 0 if it isn't: its Max-Age less its age, where a second
-    /// that has begun counts as gone (RFC 7252, 5.7.1). `now` is in milliseconds.
+    /// How many whole seconds it stays fresh, 0 in the last one and once it is no longer fresh: its
+    /// Max-Age less its age, where a second that has begun counts as gone (RFC 7252, 5.7.1). `now`
+    /// is in milliseconds.
     pub fn left(&self, now: Moment) -> u32
         ensures { result ≡ left_of now self.now }
     {
@@ -69,8 +70,9 @@ impl Stored {
     }
 }
 
-/// How many seconds a response of this age, in milliseconds, stays fresh, 0 if it isn't: its
-/// Max-Age less its age, where a second that has begun counts as gone (RFC 7252, 5.7.1).
+/// How many whole seconds a response of this age, in milliseconds, stays fresh, 0 in the last one
+/// and once it is no longer fresh: its Max-Age less its age, where a second that has begun counts
+/// as gone (RFC 7252, 5.7.1).
 pub fn left_at(response: &Message, age: u64) -> u32
     ensures { result ≡ left_at age response.now }
 {

@@ -5,8 +5,8 @@ use thiserror::Error;
 /// Why a stored response isn't renewed: the first reason that applies, in this order.
 #[derive(Clone, Copy, Debug, PartialEq, Eq, Error)]
 pub enum RenewError {
-    /// It isn't a 2.05, or the other response isn't a 2.03 with its ETag.
-    #[error("the tag isn't that of the stored response")]
+    /// It isn't a 2.05 with an ETag, or the other response isn't a 2.03 with the same ETag.
+    #[error("not a 2.03 with the tag of a stored 2.05")]
     WrongTag,
     /// There was no memory for the renewed response.
     #[error("out of memory")]

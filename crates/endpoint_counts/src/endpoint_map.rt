@@ -156,7 +156,7 @@ impl EndpointMap {
         self.place_by_digest(at)
     }
 
-    /// The same, found by the endpoint's digest.
+    /// The number of the place of an endpoint, found by its digest.
     fn place_by_digest(&self, at: Peer) -> Option<u64>
         ensures exact { result ≡ first_that (is_entry_of at) self.now.items }
     {

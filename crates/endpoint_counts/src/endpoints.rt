@@ -8,7 +8,8 @@ ghost use Rattle.coap_pending.specs.Table.{first_that};
 use crate::endpoint_map::EndpointMap;
 use crate::peer::Peer;
 
-/// The number of exchanges with an endpoint; of the items of a client only that of all.
+/// The number of exchanges with an endpoint. For a client `all` counts its items, and the others
+/// are 0.
 #[derive(Clone, Copy)]
 pub struct EndpointCounts {
     /// All of them.
@@ -28,7 +29,8 @@ pub struct Stage {
     pub queued: bool,
 }
 
-/// How many exchanges were sent to an endpoint before a change, and how many are after it.
+/// How many exchanges with an endpoint were sent, and neither acknowledged nor answered, before a
+/// change, and how many are after it.
 #[derive(Clone, Copy)]
 pub struct SentCounts {
     pub was: usize,
@@ -52,7 +54,7 @@ pub fn counts_of(endpoints: &EndpointMap, at: Peer) -> EndpointCounts
     counts_at(endpoints, at, endpoints.place_of(at))
 }
 
-/// The same, where its place is known.
+/// The number of exchanges with an endpoint whose place is known.
 pub fn counts_at(endpoints: &EndpointMap, at: Peer, place: Option<u64>) -> EndpointCounts
     requires place { place ≡ first_that (is_entry_of at) endpoints.now.items }
     ensures all { result.all ≡ open_in endpoints.now at }

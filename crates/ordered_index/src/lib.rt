@@ -1,6 +1,6 @@
 //! Indexes of numbered items: pairs of a key and a number, in order. A table that finds its items
 //! by a key has an index for it. All room is made once, for as many pairs as there may ever be: no
-//! change of an index wants memory.
+//! change of an index needs memory.
 //!
 //! # First use
 //!

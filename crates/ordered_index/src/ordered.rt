@@ -9,7 +9,7 @@ use crate::pair_buffer::PairBuffer;
 use std::alloc::{AllocError, Global};
 use std::marker::Model;
 
-/// By how much of its limit, as a fraction, an index has more room than that.
+/// An index has room for a sixteenth more pairs than its limit.
 const SPARE: usize = 16;
 
 /// Pairs of a key and a number, each at most once, in increasing order. Only `new` allocates.
