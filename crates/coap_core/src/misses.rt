@@ -23,7 +23,7 @@ use coap_exchange::{ExchangeNumber, HashedKey, Joining, Opening};
 use coap_forward::{Form, put_forwarded, put_with_max_age, token_of, validating_tag};
 use coap_message::{Code, Datagram, Full, MessageRef, OutOfMemory, Pieces, Seq, Token};
 use coap_model::{Outcome, Report};
-use coap_store::{CacheKey, Store, Stored};
+use coap_store::{Store, Stored};
 
 /// What is stored for the key of a request that isn't answered from the store.
 #[derive(Clone, Copy)]
@@ -42,14 +42,11 @@ pub(crate) struct Missed<'k> {
 }
 
 impl<'k> Missed<'k> {
-    /// This is stored for the key, which is hashed here, once for the request.
-    pub(crate) fn new(key: &'k CacheKey, stored: Miss) -> Missed<'k>
-        ensures { result ≡ record { stored = stored; key = key.now } }
+    /// This is stored for the key.
+    pub(crate) fn new(key: HashedKey<'k>, stored: Miss) -> Missed<'k>
+        ensures { result ≡ record { stored = stored; key = key.entry } }
     {
-        Missed {
-            stored,
-            key: HashedKey::new(key),
-        }
+        Missed { stored, key }
     }
 }
 

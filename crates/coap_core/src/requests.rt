@@ -152,7 +152,7 @@ impl<S: Store + Drop> State<S> {
             result out.old out.new self.old self.new }
     {
         if !is_get(arrival.message.code()) {
-            let missed = Missed::new(&asked.key, Miss::Nothing);
+            let missed = self.missed(asked, Miss::Nothing);
             return self.on_exchange_needed(arrival, asked, missed, out);
         }
         match self.put_usable(arrival, asked, out) {
@@ -161,8 +161,18 @@ impl<S: Store + Drop> State<S> {
                 self.store.touch(&asked.key);
                 Ok(report)
             }
-            Err(stored) => self.on_miss(arrival, asked, Missed::new(&asked.key, stored), out),
+            Err(stored) => {
+                let missed = self.missed(asked, stored);
+                self.on_miss(arrival, asked, missed, out)
+            }
         }
+    }
+
+    /// That this is stored for the key of a request, which is hashed here, once for the request.
+    fn missed<'k>(&self, asked: &'k CacheQuery, stored: Miss) -> Missed<'k>
+        ensures { result ≡ record { stored = stored; key = asked.now.key } }
+    {
+        Missed::new(self.under_way.exchanges().hashed(&asked.key), stored)
     }
 
     /// Writes to `out` what the client is sent for a usable response that is stored for the key.

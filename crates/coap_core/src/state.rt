@@ -93,7 +93,7 @@ impl<S: Store + Drop> State<S> {
         let (bytes, entries) = (limits.values().cache_bytes, limits.values().cache_entries);
         let store = S::with_limits(alloc, seed, bytes, entries as usize)?;
         let (con_records, non_records) = new_records(alloc, &limits)?;
-        let under_way = new_tables(alloc, &limits, setting.salt)?;
+        let under_way = new_tables(alloc, &limits, store.secret())?;
         let ids = Ids::new(setting.first_id);
         Ok(State {
             alloc,
@@ -215,7 +215,8 @@ impl<S: Store + Drop> State<S> {
     }
 }
 
-/// Empty tables of exchanges and of waiters, with room for as many as the limits say.
+/// Empty tables of exchanges and of waiters, with room for as many as the limits say. What they are
+/// spread by depends on `seed`, which peers can't know.
 fn new_tables(alloc: Global, limits: &Limits, seed: u64) -> Result<UnderWay, OutOfMemory>
     ensures exchanges { IfOk result (λ made.
         made.exchanges ≡ empty_table limits.now.exchanges limits.now.client_exchanges) }

@@ -15,7 +15,7 @@ use Rattle.ordered_index.specs.Ordered.{is_before, Pair, OrderedIndex, is_in, is
 use Rattle.coap_endpoint.specs.declared.endpoint.Endpoint.{Endpoint}
 use Rattle.coap_endpoint.specs.Endpoint.{same_endpoint}
 use Rattle.coap_pending.specs.Exchanges.{answer_at, is_joinable, is_some_as, was_sent_as, due_among, due_in, is_blocked, is_queued, is_queued_state, is_sent_state, answer_in_state, is_missing, timer_or, AreTimely}
-use Rattle.coap_exchange.specs.Digests.{digest_of_key}
+use Rattle.coap_store.specs.Digests.{digest_of_key}
 use Rattle.coap_exchange.specs.Index.{cache_key_of, id_in, id_of, opening_of, end_in, end_of, turn_among, AreListed}
 use Rattle.endpoint_counts.specs.IndexOf.{key_at, IsIndexOf}
 use Rattle.coap_pending.specs.Table.{Numbered, IsRising, item_at, count, first_that, passes}
@@ -306,11 +306,11 @@ sent-by-id at id now x e = go (same_endpoint x.key.target.at at) x.sending e
     go true (Some s) f = same s.id (eqb s.id id) refl (ltb (now - s.timer.started) 247000) f
 
 -- a GET of an equal key is found by its digest
-pub joinable-by-key : (key : CacheKey) (x : Exchange) → is_joinable key x ≡ true → cache_key_of x ≡ Some (digest_of_key key)
-joinable-by-key key x e = go x.is_get (not x.tainted) (is_missing (answer_at x)) (same_key x.key key) refl e
+pub joinable-by-key : (secret : ℕ) (key : CacheKey) (x : Exchange) → is_joinable key x ≡ true → cache_key_of secret x ≡ Some (digest_of_key secret key)
+joinable-by-key secret key x e = go x.is_get (not x.tainted) (is_missing (answer_at x)) (same_key x.key key) refl e
   where
-    go : (get clean missing same : Bool) → same_key x.key key ≡ same → (get && (clean && (missing && same))) ≡ true → cond (get && (clean && missing)) (Some (digest_of_key x.key)) None ≡ Some (digest_of_key key)
-    go true true true true f h = ap (λ (k : CacheKey). Some (digest_of_key k)) (Tells-key.only x.key key f)
+    go : (get clean missing same : Bool) → same_key x.key key ≡ same → (get && (clean && (missing && same))) ≡ true → cond (get && (clean && missing)) (Some (digest_of_key secret x.key)) None ≡ Some (digest_of_key secret key)
+    go true true true true f h = ap (λ (k : CacheKey). Some (digest_of_key secret k)) (Tells-key.only x.key key f)
     go true true true false f h = absurd cc
     go true true false same f h = absurd cc
     go true false missing same f h = absurd cc

@@ -7,7 +7,7 @@ use Rattle.coap_exchange.specs.declared.index.ExchangeKeys.{ExchangeKeys}
 use Rattle.coap_exchange.specs.declared.index.Sought.{Sought}
 use Rattle.coap_exchange.specs.declared.index.Sought.TheVariants.{SentAs, Joinable, Queued}
 use Rattle.endpoint_counts.specs.Digests.{digest_of_endpoint}
-use Rattle.coap_exchange.specs.Digests.{digest_of_key, digest_of_target}
+use Rattle.coap_store.specs.Digests.{digest_of_key, digest_of_target}
 use Rattle.endpoint_counts.specs.IndexOf.{key_at, CanRekey, HasRekeyed, IsIndexOf}
 use Rattle.coap_pending.specs.Exchanges.{answer_at, is_acked, is_blocked, is_done, is_joinable, is_missing, is_queued, is_sent, was_sent_as, is_queued_to}
 use Rattle.ordered_index.specs.Ordered.{Pair, empty_index, is_in}
@@ -40,26 +40,27 @@ abbrev pub queue_of : Exchange → Option ℕ
 queue_of x = if is_queued x then Some (digest_of_endpoint x.key.target.at) else None
 
 -- the digest of the cache key of a GET, until it is tainted or its answer has come
-abbrev pub cache_key_of : Exchange → Option ℕ
-cache_key_of x =
-    if x.is_get && (not x.tainted && is_missing (answer_at x)) then Some (digest_of_key x.key)
+abbrev pub cache_key_of : ℕ → Exchange → Option ℕ
+cache_key_of secret x =
+    if x.is_get && (not x.tainted && is_missing (answer_at x)) then Some (digest_of_key secret x.key)
     else None
 
 -- the digest of its target, from when it is sent until it is tainted or its answer has come
-abbrev pub target_of : Exchange → Option ℕ
-target_of x =
-    if not x.tainted && (is_sent x || is_acked x) then Some (digest_of_target x.key.target)
+abbrev pub target_of : ℕ → Exchange → Option ℕ
+target_of secret x =
+    if not x.tainted && (is_sent x || is_acked x) then Some (digest_of_target secret x.key.target)
     else None
 
-abbrev pub keys_at : Option Exchange → ExchangeKeys
-keys_at found =
+-- what it is looked up by, if there is one, where digests are made with this secret
+abbrev pub keys_at : ℕ → Option Exchange → ExchangeKeys
+keys_at secret found =
     record {
       id = key_at id_of found;
       opening = key_at opening_of found;
       end = key_at end_of found;
       queue = key_at queue_of found;
-      cache_key = key_at cache_key_of found;
-      target = key_at target_of found;
+      cache_key = key_at (cache_key_of secret) found;
+      target = key_at (target_of secret) found;
     }
 
 pub record AreIndexed (items : List (Numbered Exchange)) (limit : ℕ) (index : Index) : Type 0 where
@@ -68,13 +69,14 @@ pub record AreIndexed (items : List (Numbered Exchange)) (limit : ℕ) (index : 
   pub openings : IsIndexOf opening_of items limit index.openings
   pub ends : IsIndexOf end_of items limit index.ends
   pub queues : IsIndexOf queue_of items limit index.queues
-  pub cache_keys : IsIndexOf cache_key_of items limit index.cache_keys
-  pub targets : IsIndexOf target_of items limit index.targets
+  pub cache_keys : IsIndexOf (cache_key_of index.secret) items limit index.cache_keys
+  pub targets : IsIndexOf (target_of index.secret) items limit index.targets
 
 -- nothing is looked up yet
-abbrev pub empty_indexes : ℕ → Index
-empty_indexes limit =
+abbrev pub empty_indexes : ℕ → ℕ → Index
+empty_indexes secret limit =
     record {
+      secret = secret;
       ids = empty_index limit;
       openings = empty_index limit;
       ends = empty_index limit;
@@ -92,6 +94,7 @@ pub record CanRekeyAll (index : Index) (number : ℕ) (was is : ExchangeKeys) : 
   pub targets : CanRekey index.targets number was.target is.target
 
 pub record HaveRekeyed (old new : Index) (number : ℕ) (was is : ExchangeKeys) : Type 0 where
+  pub secret : new.secret ≡ old.secret
   pub ids : HasRekeyed old.ids new.ids number was.id is.id
   pub openings : HasRekeyed old.openings new.openings number was.opening is.opening
   pub ends : HasRekeyed old.ends new.ends number was.end is.end

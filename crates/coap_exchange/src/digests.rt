@@ -1,17 +1,42 @@
-//! Digests, by which exchanges are found.
+//! Cache keys with their digests, by which exchanges are found.
 ghost use Rattle.std.specs.Prelude.{◌≡◌};
-ghost use Rattle.coap_exchange.specs.Digests.{digest_of_target, digests_of};
+ghost use Rattle.coap_store.specs.Digests.{digests_of};
+ghost use Rattle.coap_exchange.specs.Hashed.{hashed_with};
 
-use coap_endpoint::Target;
-use coap_store::CacheKey;
-use std::hash::{DefaultHasher, Hash, Hasher};
+use coap_store::{CacheKey, Digests, digests_of};
 use std::marker::Model;
 
-/// The digests of a cache key and of its target. Equal ones have equal digests.
+/// The digests of a cache key and of its target, and the secret that they were made with.
 #[derive(Clone, Copy)]
-pub(crate) struct Digests {
-    pub(crate) key: u64,
-    pub(crate) target: u64,
+pub(crate) struct Hashed {
+    secret: u64,
+    digests: Digests,
+}
+
+impl Hashed {
+    /// Those of a key, which is hashed here.
+    pub(crate) fn new(key: &CacheKey, secret: u64) -> Hashed
+        ensures exact { result ≡ hashed_with secret key.now }
+    {
+        Hashed {
+            secret,
+            digests: digests_of(secret, key),
+        }
+    }
+
+    /// The digests of their key with a secret. The key is hashed again only if it was hashed with
+    /// another one.
+    #[inline(always)]
+    pub(crate) fn digests(&self, key: &CacheKey, secret: u64) -> Digests
+        requires made { self.now ≡ hashed_with self.now.secret key.now }
+        ensures exact { result ≡ digests_of secret key.now }
+    {
+        if self.secret == secret {
+            self.digests
+        } else {
+            digests_of(secret, key)
+        }
+    }
 }
 
 /// A cache key with the digests that exchanges are found by. It is hashed once, however often they
@@ -19,29 +44,29 @@ pub(crate) struct Digests {
 #[derive(Drop)]
 pub struct HashedKey<'k> {
     key: &'k CacheKey,
-    digests: Digests,
+    hashed: Hashed,
 }
 
 impl<'k> Model for HashedKey<'k> {
     ghost use Rattle.std.specs.Prelude.{◌≡◌};
     ghost use Rattle.coap_store.specs.declared.key.CacheKey.{CacheKey};
-    ghost use Rattle.coap_exchange.specs.Digests.{digests_of};
+    ghost use Rattle.coap_exchange.specs.Hashed.{hashed_with};
 
     ghost Value = { CacheKey };
 
     ghost view = { λ h. h.key.now };
 
-    ghost invariant = { λ h. h.digests ≡ digests_of h.key.now };
+    ghost invariant = { λ h. h.hashed ≡ hashed_with h.hashed.secret h.key.now };
 }
 
 impl<'k> HashedKey<'k> {
-    /// A key, which is hashed here.
-    pub fn new(key: &'k CacheKey) -> HashedKey<'k>
+    /// A key, which is hashed here with a secret. A table with another secret hashes it again.
+    pub(crate) fn new(key: &'k CacheKey, secret: u64) -> HashedKey<'k>
         ensures exact { result ≡ key.now }
     {
         HashedKey {
             key,
-            digests: digests_of(key),
+            hashed: Hashed::new(key, secret),
         }
     }
 
@@ -52,34 +77,17 @@ impl<'k> HashedKey<'k> {
         self.key
     }
 
-    /// Its digests.
-    pub(crate) fn digests(&self) -> Digests
-        ensures exact { result ≡ digests_of self.now }
+    /// Its digests, with the secret that it was hashed with.
+    pub(crate) fn hashed(&self) -> Hashed
+        ensures exact { result ≡ hashed_with result.secret self.now }
     {
-        self.digests
+        self.hashed
     }
-}
 
-/// The digests of a cache key and of its target, in one go: what is hashed of a key begins with its
-/// target.
-fn digests_of(key: &CacheKey) -> Digests
-    ensures exact { result ≡ digests_of key.now }
-{
-    let mut hasher = DefaultHasher::new();
-    key.target.hash(&mut hasher);
-    let target = hasher.finish();
-    key.options.hash(&mut hasher);
-    Digests {
-        key: hasher.finish(),
-        target,
+    /// Its digests with a secret.
+    pub(crate) fn digests(&self, secret: u64) -> Digests
+        ensures exact { result ≡ digests_of secret self.now }
+    {
+        self.hashed.digests(self.key, secret)
     }
-}
-
-/// The digest of a target. Equal targets have equal digests.
-pub(crate) fn digest_of_target(target: &Target) -> u64
-    ensures exact { result ≡ digest_of_target target.now }
-{
-    let mut hasher = DefaultHasher::new();
-    target.hash(&mut hasher);
-    hasher.finish()
 }

@@ -10,7 +10,6 @@ ghost use Rattle.coap_exchange.specs.Counted.{AreCounted, IsRecounted};
 ghost use Rattle.coap_pending.specs.Table.{item_at, changed_at, all_changed, count, passes, IsTable};
 ghost use Rattle.coap_exchange.specs.Updates.{leaver, updated, updated_at, Allows};
 
-use crate::digests::digest_of_target;
 use crate::exchanges::Exchanges;
 use crate::index::{ExchangeKeys, Index, keys_at, keys_in, keys_of};
 use crate::indexed_exchange::{IndexedExchange, client_of};
@@ -18,6 +17,7 @@ use crate::send_queue::{head_of, mover_of};
 use crate::table::{Items, Table};
 use coap_endpoint::Target;
 use coap_pending::{Change, ExchangeNumber};
+use coap_store::digest_of_target;
 use endpoint_counts::by_client::depart;
 use endpoint_counts::{EndpointMap, Peer, SentCounts, Stage, close_one, lowered, move_one};
 
@@ -36,9 +36,10 @@ impl Exchanges {
         let head = head_of(&self.table, &self.index, self.queued, &at, sent.was);
         let queued = queued_without(self.queued, &self.table, number, found);
         depart(&mut self.clients, leaver_of(found, &change));
-        let was = keys_in(found);
+        let secret = self.index.secret;
+        let was = keys_in(found, secret);
         self.queued = queued;
-        let is = self.table.update(number, change);
+        let is = self.table.update(number, change, secret);
         self.index.rekey(number, was, is);
         let next = head_of(&self.table, &self.index, queued, &at, sent.is);
         self.send_queue.heads.replace(head, next);
@@ -47,33 +48,38 @@ impl Exchanges {
 
 impl Table<IndexedExchange> {
     /// Changes the exchange numbered `number`, or removes it if there is no change, and returns
-    /// what it is looked up by then.
-    fn update(&mut self, number: ExchangeNumber, change: Option<Change>) -> ExchangeKeys
+    /// what it is looked up by then. Digests are made with this secret.
+    fn update(
+        &mut self,
+        number: ExchangeNumber,
+        change: Option<Change>,
+        secret: u64,
+    ) -> ExchangeKeys
         requires { Allows CanChange change (item_at number self.old.items) }
         ensures updated { self.new
             ≡ record self.old { items = updated_at changed_by change number self.old.items } }
         ensures keys { result
-            ≡ keys_at (updated changed_by change (item_at number self.old.items)) }
+            ≡ keys_at secret (updated changed_by change (item_at number self.old.items)) }
     {
         match change {
-            Some(change) => self.change(number, change),
+            Some(change) => self.change(number, change, secret),
             None => {
                 self.close(number);
-                keys_in(None)
+                keys_in(None, secret)
             }
         }
     }
 
     /// Changes the exchange numbered `number`, if there is one, and returns what it is looked up by
     /// then.
-    fn change(&mut self, number: ExchangeNumber, change: Change) -> ExchangeKeys
+    fn change(&mut self, number: ExchangeNumber, change: Change, secret: u64) -> ExchangeKeys
         requires { IfSome (item_at number self.old.items) (CanChange change) }
         ensures changed { self.new
             ≡ record self.old { items = changed_at number (changed_by change) self.old.items } }
         ensures keys { result
-            ≡ keys_at (option_map (changed_by change) (item_at number self.old.items)) }
+            ≡ keys_at secret (option_map (changed_by change) (item_at number self.old.items)) }
     {
-        change_under(&mut self.items, number, change)
+        change_under(&mut self.items, number, change, secret)
     }
 
     fn taint(&mut self, number: ExchangeNumber, target: &Target)
@@ -90,6 +96,7 @@ fn change_under(
     exchanges: &mut Items<IndexedExchange>,
     number: ExchangeNumber,
     change: Change,
+    secret: u64,
 ) -> ExchangeKeys
     requires { IfSome (get nat_eq exchanges.old number) (CanChange change) }
     ensures found { IfSome (get nat_eq exchanges.old number) (λ x.
@@ -98,14 +105,14 @@ fn change_under(
     ensures missing { IfNone (get nat_eq exchanges.old number)
         (exchanges.new.entries ≡ exchanges.old.entries) }
     ensures keys { result
-        ≡ keys_at (option_map (changed_by change) (get nat_eq exchanges.old number)) }
+        ≡ keys_at secret (option_map (changed_by change) (get nat_eq exchanges.old number)) }
 {
     match exchanges.get_mut(&number) {
         Some(exchange) => {
             exchange.change(change);
-            keys_of(exchange)
+            keys_of(exchange, secret)
         }
-        None => keys_in(None),
+        None => keys_in(None, secret),
     }
 }
 
@@ -130,7 +137,7 @@ pub(crate) fn taint_all(exchanges: &mut Table<IndexedExchange>, index: &mut Inde
         } }
     ensures indexed { AreIndexed exchanges.new.items exchanges.new.limit index.new }
 {
-    let digest = digest_of_target(target);
+    let digest = digest_of_target(index.secret, target);
     let mut after = 0;
     while let Some(number) = index.targets.next_of(digest, after) {
         taint_one(exchanges, index, number, target);
@@ -150,11 +157,13 @@ fn taint_one(
         ≡ record exchanges.old {
           items = changed_at number (tainted_by target.now) exchanges.old.items;
         } }
+    ensures secret { index.new.secret ≡ index.old.secret }
     ensures indexed { AreIndexed exchanges.new.items exchanges.new.limit index.new }
 {
-    let was = keys_at(exchanges, number);
+    let secret = index.secret;
+    let was = keys_at(exchanges, number, secret);
     exchanges.taint(number, target);
-    index.rekey(number, was, keys_at(exchanges, number));
+    index.rekey(number, was, keys_at(exchanges, number, secret));
 }
 
 /// The number of exchanges that are still to be sent, once the one numbered `number` no longer is.

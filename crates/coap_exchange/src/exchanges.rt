@@ -190,15 +190,22 @@ impl Exchanges {
     pub fn joinable(&self, key: &CacheKey) -> Option<ExchangeNumber>
         ensures exact { result ≡ first_that (is_joinable key.now) self.now.items }
     {
-        self.joinable_as(&HashedKey::new(key))
+        self.joinable_as(&self.hashed(key))
     }
 
-    /// The same, for a key that is hashed already.
+    /// A key, hashed with the secret of this table, which is its seed.
+    pub fn hashed<'k>(&self, key: &'k CacheKey) -> HashedKey<'k>
+        ensures exact { result ≡ key.now }
+    {
+        HashedKey::new(key, self.index.secret)
+    }
+
+    /// `joinable`, for a key that is hashed already.
     pub fn joinable_as(&self, key: &HashedKey<'_>) -> Option<ExchangeNumber>
         ensures exact { result ≡ first_that (is_joinable key.now) self.now.items }
     {
         let sought = Sought::Joinable(key.key());
-        let digest = key.digests().key;
+        let digest = key.digests(self.index.secret).key;
         first_sought(&self.table, &self.index.cache_keys, digest, &sought)
     }
 
@@ -216,7 +223,7 @@ impl Exchanges {
     /// due at the same moment, the one with the least number. An exchange is due
     ///
     /// - while its request waits for its turn, at its admission, or at its deadline if `nstart` or
-    ///   more requests to its endpoint are sent and not acknowledged (RFC 7252, 4.7);
+    ///   more requests to its endpoint are sent, and neither acknowledged nor answered (RFC 7252, 4.7);
     /// - once it is sent, at the end of the current timeout, or at its deadline if that is earlier;
     /// - once it is acknowledged, at its deadline.
     ///
@@ -325,7 +332,8 @@ impl Exchanges {
         let sent = open_one(&mut self.endpoints, at);
         let head = head_of(&self.table, &self.index, self.queued, &Some(at), sent);
         enter(&mut self.clients, opener);
-        let (was, is) = (keys_in(None), keys_of(&listed));
+        let secret = self.index.secret;
+        let (was, is) = (keys_in(None, secret), keys_of(&listed, secret));
         match self.table.admit(listed) {
             Ok(number) => {
                 self.queued += 1;
@@ -366,7 +374,7 @@ impl Exchanges {
         self.update(number, None);
     }
 
-    /// Marks the request of the exchange numbered `number`, which was waiting for its turn, as
+    /// Notes that the request of the exchange numbered `number`, which was waiting for its turn, is
     /// sent, and writes the Message ID of the sending into its encoded form. The timer's timeout is
     /// at most 3,000 milliseconds, like that of a new timer.
     pub fn send(&mut self, number: ExchangeNumber, sending: Sending)
@@ -405,7 +413,7 @@ impl Exchanges {
         self.update(number, Some(Change::Acknowledge));
     }
 
-    /// Records the answer of the exchange numbered `number`: a response, or the proxy's own answer.
+    /// Notes the answer of the exchange numbered `number`: a response, or the proxy's own answer.
     pub fn answered(&mut self, number: ExchangeNumber, answer: Answer)
         requires open { IfSome (item_at number self.old.items) (λ x. is_done x ≡ false) }
         ensures answered { self.new

@@ -16,9 +16,11 @@ use std::alloc::Global;
 
 /// Numbers of exchanges, by what they are looked up by. Room for all of them is allocated up front.
 pub(crate) struct Index {
+    /// What digests are made with.
+    pub(crate) secret: u64,
     /// By the Message ID that they were sent with.
     pub(crate) ids: HashedIndex,
-    /// By the moment of their admission, until their answer comes.
+    /// By the moment at which they were opened, until their answer comes.
     pub(crate) openings: OrderedIndex,
     /// By the end of the current timeout.
     pub(crate) ends: OrderedIndex,
@@ -34,6 +36,7 @@ pub(crate) struct Index {
 impl Drop for Index {
     fn drop(self) {
         let Index {
+            secret: _,
             ids: _,
             openings: _,
             ends: _,
@@ -95,18 +98,20 @@ fn two_indexes(
 }
 
 impl Index {
-    /// An empty index with room for `limit` exchanges. Which keys meet in it depends on `seed`.
+    /// An empty index with room for `limit` exchanges. Which keys meet in it depends on `seed`, which
+    /// digests are made with, too.
     ///
     /// # Errors
     /// Out of memory.
     pub(crate) fn new(alloc: Global, limit: usize, seed: u64) -> Result<Index, OutOfMemory>
-        ensures empty { IfOk result (λ index. index ≡ empty_indexes limit) }
+        ensures empty { IfOk result (λ index. index ≡ empty_indexes seed limit) }
     {
         let openings = OrderedIndex::new(alloc, limit)?;
         let ends = OrderedIndex::new(alloc, limit)?;
         let (ids, queues) = two_indexes(alloc, limit, seed)?;
         let (cache_keys, targets) = two_indexes(alloc, limit, seed)?;
         Ok(Index {
+            secret: seed,
             ids,
             openings,
             ends,
@@ -131,20 +136,25 @@ impl Index {
     }
 }
 
-/// What the exchange numbered `number` is looked up by, if there is one.
-pub(crate) fn keys_at(exchanges: &Table<IndexedExchange>, number: ExchangeNumber) -> ExchangeKeys
-    ensures exact { result ≡ keys_at (item_at number exchanges.now.items) }
+/// What the exchange numbered `number` is looked up by, if there is one. Digests are made with this
+/// secret.
+pub(crate) fn keys_at(
+    exchanges: &Table<IndexedExchange>,
+    number: ExchangeNumber,
+    secret: u64,
+) -> ExchangeKeys
+    ensures exact { result ≡ keys_at secret (item_at number exchanges.now.items) }
     ensures sound { IsTable exchanges.now }
 {
-    keys_in(exchanges.get(number))
+    keys_in(exchanges.get(number), secret)
 }
 
 /// What an exchange is looked up by, if there is one.
-pub(crate) fn keys_in(found: Option<&IndexedExchange>) -> ExchangeKeys
-    ensures exact { result ≡ keys_at (option_copied found.entry) }
+pub(crate) fn keys_in(found: Option<&IndexedExchange>, secret: u64) -> ExchangeKeys
+    ensures exact { result ≡ keys_at secret (option_copied found.entry) }
 {
     match found {
-        Some(listed) => keys_of(listed),
+        Some(listed) => keys_of(listed, secret),
         None => ExchangeKeys {
             id: None,
             opening: None,
@@ -157,8 +167,8 @@ pub(crate) fn keys_in(found: Option<&IndexedExchange>) -> ExchangeKeys
 }
 
 /// What an exchange is looked up by.
-pub(crate) fn keys_of(listed: &IndexedExchange) -> ExchangeKeys
-    ensures exact { result ≡ keys_at (Some listed.now) }
+pub(crate) fn keys_of(listed: &IndexedExchange, secret: u64) -> ExchangeKeys
+    ensures exact { result ≡ keys_at secret (Some listed.now) }
 {
     let exchange = listed.exchange();
     ExchangeKeys {
@@ -166,8 +176,8 @@ pub(crate) fn keys_of(listed: &IndexedExchange) -> ExchangeKeys
         opening: opening_of(exchange),
         end: end_of(exchange),
         queue: queue_of(listed),
-        cache_key: cache_key_of(listed),
-        target: target_of(listed),
+        cache_key: cache_key_of(listed, secret),
+        target: target_of(listed, secret),
     }
 }
 
@@ -243,23 +253,23 @@ fn queue_of(listed: &IndexedExchange) -> Option<u64>
     }
 }
 
-fn cache_key_of(listed: &IndexedExchange) -> Option<u64>
-    ensures exact { result ≡ cache_key_of listed.now }
+fn cache_key_of(listed: &IndexedExchange, secret: u64) -> Option<u64>
+    ensures exact { result ≡ cache_key_of secret listed.now }
 {
     let exchange = listed.exchange();
     if exchange.is_get && !exchange.tainted && exchange.answer().is_none() {
-        Some(listed.key_digest())
+        Some(listed.key_digest(secret))
     } else {
         None
     }
 }
 
-fn target_of(listed: &IndexedExchange) -> Option<u64>
-    ensures exact { result ≡ target_of listed.now }
+fn target_of(listed: &IndexedExchange, secret: u64) -> Option<u64>
+    ensures exact { result ≡ target_of secret listed.now }
 {
     let exchange = listed.exchange();
     if !exchange.tainted && (exchange.is_sent() || exchange.is_acked()) {
-        Some(listed.target_digest())
+        Some(listed.target_digest(secret))
     } else {
         None
     }

@@ -1,12 +1,12 @@
 //! Exchanges with the digests that they are looked up by.
 ghost use Rattle.std.specs.Prelude.{◌≡◌, IfOk};
 ghost use Rattle.std.specs.Option.{option_copied, option_map};
-ghost use Rattle.coap_exchange.specs.Digests.{digest_of_key, digest_of_target};
+ghost use Rattle.coap_store.specs.Digests.{digest_of_key, digest_of_target};
 ghost use Rattle.coap_pending.specs.Exchanges.{changed_by, is_queued, is_sent, tainted_by, CanChange};
 ghost use Rattle.coap_exchange.specs.Opening.{opened};
 ghost use Rattle.coap_pending.specs.Table.{item_at, IsTable};
 
-use crate::digests::Digests;
+use crate::digests::Hashed;
 use crate::opening::Opening;
 use crate::table::Table;
 use coap_endpoint::Target;
@@ -22,13 +22,13 @@ pub(crate) struct IndexedExchange {
     exchange: Exchange,
     client: Peer,
     peer: Peer,
-    digests: Digests,
+    hashed: Hashed,
 }
 
 impl Model for IndexedExchange {
     ghost use Rattle.std.specs.Prelude.{◌≡◌};
     ghost use Rattle.coap_pending.specs.declared.exchange.Exchange.{Exchange};
-    ghost use Rattle.coap_exchange.specs.Digests.{digests_of};
+    ghost use Rattle.coap_exchange.specs.Hashed.{hashed_with};
 
     ghost Value = { Exchange };
 
@@ -37,7 +37,7 @@ impl Model for IndexedExchange {
     ghost invariant = { λ l.
         (l.client ≡ l.exchange.client)
         × (l.peer ≡ l.exchange.key.target.at)
-        × (l.digests ≡ digests_of l.exchange.key) };
+        × (l.hashed ≡ hashed_with l.hashed.secret l.exchange.key) };
 }
 
 impl IndexedExchange {
@@ -49,13 +49,13 @@ impl IndexedExchange {
         requires { client ≡ opening.client }
         ensures exact { IfOk result (λ exchange. exchange ≡ opened opening.entry) }
     {
-        let digests = opening.key.digests();
+        let hashed = opening.key.hashed();
         let peer = Peer::new(opening.key.key().target.at);
         Ok(IndexedExchange {
             exchange: opening.opened()?,
             client,
             peer,
-            digests,
+            hashed,
         })
     }
 
@@ -91,18 +91,18 @@ impl IndexedExchange {
         }
     }
 
-    /// The digest of its cache key.
-    pub(crate) fn key_digest(&self) -> u64
-        ensures exact { result ≡ digest_of_key self.now.key }
+    /// The digest of its cache key with a secret.
+    pub(crate) fn key_digest(&self, secret: u64) -> u64
+        ensures exact { result ≡ digest_of_key secret self.now.key }
     {
-        self.digests.key
+        self.hashed.digests(&self.exchange.key, secret).key
     }
 
-    /// The digest of its target.
-    pub(crate) fn target_digest(&self) -> u64
-        ensures exact { result ≡ digest_of_target self.now.key.target }
+    /// The digest of its target with a secret.
+    pub(crate) fn target_digest(&self, secret: u64) -> u64
+        ensures exact { result ≡ digest_of_target secret self.now.key.target }
     {
-        self.digests.target
+        self.hashed.digests(&self.exchange.key, secret).target
     }
 
     /// Applies a change to the exchange.

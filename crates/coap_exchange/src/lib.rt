@@ -7,7 +7,7 @@
 //! let mut exchanges = Exchanges::new(alloc, 256, 16)?;
 //! let opening = Opening {
 //!     client,
-//!     key: HashedKey::new(&key),
+//!     key: exchanges.hashed(&key),
 //!     is_get: true,
 //!     form,
 //!     copy: None,

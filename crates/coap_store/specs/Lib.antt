@@ -1,5 +1,6 @@
 pub mod Alike
 pub mod Keys
+pub mod Digests
 pub mod Freshness
 pub mod Sizes
 pub mod Lists

@@ -21,6 +21,7 @@
 #![tactic(auto)]
 
 mod answer;
+mod digests;
 mod evictions;
 mod key;
 pub mod laws;
@@ -35,6 +36,7 @@ mod tag;
 mod updating;
 
 pub use answer::Answer;
+pub use digests::{Digests, digest_of_target, digests_of};
 pub use evictions::Evictions;
 pub use key::CacheKey;
 pub use measure::aged_fits;

@@ -1,5 +1,5 @@
 //! Stores of responses (RFC 7252, 5.6).
-ghost use Rattle.std.specs.Prelude.{◌≡◌, ◌≢◌, ◌↔◌, ◌<◌, ◌≤◌, ◌^◌, ◌-◌, [], None, IfOk, IsTrue, IsFalse, List, length, map, count_by, is_some, min};
+ghost use Rattle.std.specs.Prelude.{◌≡◌, ◌≢◌, ◌↔◌, ◌<◌, ◌≤◌, ◌^◌, ◌-◌, ℕ, [], None, IfOk, IsTrue, IsFalse, List, length, map, count_by, is_some, min};
 ghost use Rattle.std.specs.Option.{option_map};
 ghost use Rattle.coap_store.specs.Entries.{Entry, IsStore, Limits, entry_key, entry_size, has_usable, is_for, marked, stored_for};
 ghost use Rattle.coap_store.specs.Evicting.{after_put, no_evictions};
@@ -17,7 +17,7 @@ use std::alloc::Global;
 /// What happened to a response that was to be stored.
 #[derive(Clone, Copy, Debug, PartialEq, Eq)]
 pub enum Put {
-    /// It is stored. What no longer fitted was dropped.
+    /// It is stored, unless the store has room for no entries. What no longer fitted was dropped.
     Kept,
     /// It alone counts for more bytes than the store keeps. What was stored for its key was
     /// dropped.
@@ -39,6 +39,11 @@ pub trait Store {
 
     ghost evicted: { Self → Evictions };
 
+    ghost secret: { Self → ℕ };
+
+    /// The secret that comes of a seed. Whoever can't know the seed can't know it.
+    ghost secret_of: { Self.Seed → ℕ };
+
     /// An empty store, which keeps at most `most_bytes` bytes, as `bytes_of` counts them, and at
     /// most `most_entries` entries. It never keeps more than 2^63 - 1 bytes: a greater limit is
     /// lowered to that.
@@ -57,7 +62,13 @@ pub trait Store {
             (λ s. limits s
             ≡ record { bytes = min most_bytes (2 ^ 63 - 1); entries = most_entries }) }
         ensures empty { IfOk result (λ s. entries s ≡ []) }
-        ensures evicted { IfOk result (λ s. evicted s ≡ no_evictions) };
+        ensures evicted { IfOk result (λ s. evicted s ≡ no_evictions) }
+        ensures secret { IfOk result (λ s. secret s ≡ secret_of seed) };
+
+    /// The secret that it was made with: a number that digests are made with, and whatever else is
+    /// spread over tables. Doesn't allocate.
+    fn secret(&self) -> u64
+        ensures exact { result ≡ secret self.now };
 
     /// Whether the response stored for the key may answer a request at this moment, in
     /// milliseconds: there is one, it is fresh, and it isn't marked (RFC 7252, 5.6 and 5.6.1). If

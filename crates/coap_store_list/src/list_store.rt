@@ -44,6 +44,10 @@ impl Store for ListStore {
 
     ghost evicted = { λ s. s.evicted };
 
+    ghost secret = { λ _. 0 };
+
+    ghost secret_of = { λ _. 0 };
+
     fn with_limits(
         alloc: Global,
         _seed: (),
@@ -56,6 +60,10 @@ impl Store for ListStore {
             most_entries,
             evicted: Evictions::new(),
         })
+    }
+
+    fn secret(&self) -> u64 {
+        0
     }
 
     fn touch(&mut self, key: &CacheKey) {
@@ -239,7 +247,7 @@ fn mark_entry(entry: &mut (CacheKey, Stored), target: &Target) -> bool
     is_for
 }
 
-/// Marks the entries for a target, wherever they are, and counts them.
+/// Marks the entries for a target, and counts them.
 fn mark_all(entries: &mut Vec<(CacheKey, Stored)>, target: &Target) -> usize
     ensures counted { result ≡ count_by (is_for target.now) entries.old.items }
     ensures marked { entries.new.items ≡ map (marked target.now) entries.old.items }

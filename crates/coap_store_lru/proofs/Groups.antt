@@ -17,7 +17,8 @@ use Rattle.coap_endpoint.proofs.Equality.{Tells-target}
 use Rattle.coap_store.specs.declared.key.CacheKey.{CacheKey}
 use Rattle.coap_store.specs.Entries.{Entry, entry_key, is_for, marked}
 use Rattle.coap_store_lru.specs.declared.group.Group.{Group}
-use Rattle.coap_store_lru.specs.Indexing.{Groups, AreFilled, IsFilled, digest, has, in_group, is_indexed, is_held, is_of, keys_in, marked_by}
+use Rattle.coap_store.specs.Digests.{digest_of_target}
+use Rattle.coap_store_lru.specs.Indexing.{Groups, AreFilled, IsFilled, has, in_group, is_indexed, is_held, is_of, keys_in, marked_by}
 use Rattle.coap_store.specs.Keys.{same_key}
 use Rattle.coap_store.specs.Lists.{has_other_key, are_distinct}
 use Rattle.coap_store.proofs.Distinct.{distinct-filter}
@@ -252,17 +253,17 @@ module _ {H J S : Type 0} (groups new : Groups H J S) (at : ℕ) (others : (e : 
       go false other = filled e held (sym (others e other) ∙ is)
 
   -- and what is indexed changes as that group does
-  pub is_indexed-changed : (secret : ℕ) (key : CacheKey) (change : Bool → Bool → Bool) → at ≡ digest secret key.target → ((b : Bool) → change false b ≡ b) → ((k : CacheKey) → in_group new at k ≡ change (same_key key k) (in_group groups at k))
+  pub is_indexed-changed : (secret : ℕ) (key : CacheKey) (change : Bool → Bool → Bool) → at ≡ digest_of_target secret key.target → ((b : Bool) → change false b ≡ b) → ((k : CacheKey) → in_group new at k ≡ change (same_key key k) (in_group groups at k))
       → (k : CacheKey) → is_indexed secret new k ≡ change (same_key key k) (is_indexed secret groups k)
-  is_indexed-changed secret key change of keeps changed k = go (nat_eq at (digest secret k.target)) refl
+  is_indexed-changed secret key change of keeps changed k = go (nat_eq at (digest_of_target secret k.target)) refl
     where
-      go : (b : Bool) → nat_eq at (digest secret k.target) ≡ b → is_indexed secret new k ≡ change (same_key key k) (is_indexed secret groups k)
-      go true same = subst (λ e. in_group new e k ≡ change (same_key key k) (in_group groups e k)) (eqb-true at (digest secret k.target) same) (changed k)
-      go false other = ap (λ found. option_map_or (λ held. has held k) found false) (others (digest secret k.target) other)
+      go : (b : Bool) → nat_eq at (digest_of_target secret k.target) ≡ b → is_indexed secret new k ≡ change (same_key key k) (is_indexed secret groups k)
+      go true same = subst (λ e. in_group new e k ≡ change (same_key key k) (in_group groups e k)) (eqb-true at (digest_of_target secret k.target) same) (changed k)
+      go false other = ap (λ found. option_map_or (λ held. has held k) found false) (others (digest_of_target secret k.target) other)
           ∙ sym (keeps (is_indexed secret groups k)) ∙ ap (λ c. change c (is_indexed secret groups k)) (sym (apart (same_key key k) refl))
         where
           apart : (b : Bool) → same_key key k ≡ b → b ≡ false
-          apart true e = let same : nat_eq at (digest secret k.target) ≡ true = eq-eqb at (digest secret k.target) (of ∙ ap (λ (j : CacheKey). digest secret j.target) (same_key-only key k e)) in absurd (cc)
+          apart true e = let same : nat_eq at (digest_of_target secret k.target) ≡ true = eq-eqb at (digest_of_target secret k.target) (of ∙ ap (λ (j : CacheKey). digest_of_target secret j.target) (same_key-only key k e)) in absurd (cc)
           apart false e = refl
 
 -- where a group with a key is put, each still contains a key
@@ -276,19 +277,19 @@ more-opened groups at key group are none new put k = sym (in_group-found new at 
 -- A store whose entries' keys are indexed.
 module _ {H J S : Type 0} (secret : ℕ) (groups : Groups H J S) (es : List Entry) (target : Target) (indexed : (k : CacheKey) → is_indexed secret groups k ≡ is_held es k) where
   -- the group of a target's digest contains the keys with that target that have entries
-  pub in_group-is : (k : CacheKey) → (is_of target k && in_group groups (digest secret target) k) ≡ (is_of target k && is_held es k)
+  pub in_group-is : (k : CacheKey) → (is_of target k && in_group groups (digest_of_target secret target) k) ≡ (is_of target k && is_held es k)
   in_group-is k = go (is_of target k) refl
     where
-      go : (b : Bool) → is_of target k ≡ b → (b && in_group groups (digest secret target) k) ≡ (b && is_held es k)
-      go true e = subst (λ t. in_group groups (digest secret t) k ≡ is_held es k) (Tells-target.only k.target target e) (indexed k)
+      go : (b : Bool) → is_of target k ≡ b → (b && in_group groups (digest_of_target secret target) k) ≡ (b && is_held es k)
+      go true e = subst (λ t. in_group groups (digest_of_target secret t) k ≡ is_held es k) (Tells-target.only k.target target e) (indexed k)
       go false e = refl
 
   -- so marking the entries for these keys is marking all entries for the target
-  pub map-marked_group : map (marked_by (λ k. is_of target k && in_group groups (digest secret target) k)) es ≡ map (marked target) es
-  map-marked_group = map-marked_held (λ k. is_of target k && in_group groups (digest secret target) k) (is_of target) es es in_group-is (all_held es es (λ k h. h))
+  pub map-marked_group : map (marked_by (λ k. is_of target k && in_group groups (digest_of_target secret target) k)) es ≡ map (marked target) es
+  map-marked_group = map-marked_held (λ k. is_of target k && in_group groups (digest_of_target secret target) k) (is_of target) es es in_group-is (all_held es es (λ k h. h))
 
   -- and there are as many of them as there are entries for the target
-  pub length-group : (keys : List CacheKey) → are_distinct entry_key es ≡ true → IsDistinct same_key keys → ((k : CacheKey) → is_member same_key keys k ≡ in_group groups (digest secret target) k) → count_by (is_of target) keys ≡ count_by (is_for target) es
+  pub length-group : (keys : List CacheKey) → are_distinct entry_key es ≡ true → IsDistinct same_key keys → ((k : CacheKey) → is_member same_key keys k ≡ in_group groups (digest_of_target secret target) k) → count_by (is_of target) keys ≡ count_by (is_for target) es
   length-group keys distinct apart same =
       let of = filter (is_for target) es in
       sym (length-filter (is_of target) keys)

@@ -1,24 +1,17 @@
 -- The keys of a store's entries, in groups by the digests of their targets.
-use Rattle.std.specs.Prelude.{◌≡◌, ◌≢◌, ℕ, Bool, true, false, if◌then◌else◌, nat_eq, List, [], ◌∷◌, ◌++◌, length, map}
-use Rattle.std.specs.Hash.{u64}
-use Rattle.std.specs.Hash.DefaultHasher as sip
-use Rattle.std.specs.List.{fold, list_any, slice_get}
+use Rattle.std.specs.Prelude.{◌≡◌, ◌≢◌, ℕ, Bool, true, false, if◌then◌else◌, nat_eq, List, [], ◌∷◌, length, map}
+use Rattle.std.specs.List.{list_any, slice_get}
 use Rattle.std.specs.Option.{ForSome, option_map_or}
 use Rattle.std.specs.HashMap.{HashMap, get}
-use Rattle.coap_endpoint.specs.contracts.target.TargetHash.TheImpl as targets
 use Rattle.coap_endpoint.specs.declared.target.Target.{Target}
 use Rattle.coap_endpoint.specs.Equality.{same_target}
 use Rattle.coap_store.specs.declared.key.CacheKey.{CacheKey}
+use Rattle.coap_store.specs.Digests.{digest_of_target}
 use Rattle.coap_store.specs.Entries.{Entry, entry_key, entry_size}
 use Rattle.coap_store.specs.Keys.{same_key}
 use Rattle.coap_store.specs.Lists.{are_distinct, total}
 use Rattle.coap_store_lru.specs.declared.group.Group.{Group}
 use Rattle.coap_store_lru.specs.declared.group.Group.TheVariants.{One, Several}
-
--- the digest of a target, hashed after a number that peers don't know
-unfoldable pub digest : ℕ → Target → ℕ
-digest secret target =
-    sip.finish (fold sip.write sip.initial (u64 secret ++ (targets.ghosts).hash_input target))
 
 -- the keys in a group, for a hasher H that makes a J for each key
 abbrev pub keys_in : {H J : Type 0} → Group H J → List CacheKey
@@ -39,7 +32,7 @@ in_group groups at key = option_map_or (λ group. has group key) (get nat_eq gro
 
 -- the group of the digest of its own target contains the key
 abbrev pub is_indexed : {H J S : Type 0} → ℕ → Groups H J S → CacheKey → Bool
-is_indexed secret groups key = in_group groups (digest secret key.target) key
+is_indexed secret groups key = in_group groups (digest_of_target secret key.target) key
 
 -- the group of a digest, if there is one, contains a key
 abbrev pub IsFilled : {H J S : Type 0} → Groups H J S → ℕ → Type 0

@@ -1,7 +1,8 @@
 //! A store as an LRU map.
 ghost use Rattle.std.specs.Prelude.{◌≡◌, min, ◌<◌, ◌≤◌, ◌^◌, ◌-◌, ◌∷◌, None, true, is_ok, is_some, IsTrue, OnOk, OnErr, length, drop, take, map, nat_lt, ◌||◌, ◌&&◌, count_by, if◌then◌else◌};
 ghost use Rattle.std.specs.HashSet.{contains};
-ghost use Rattle.std.specs.List.{IsDistinct};
+ghost use Rattle.std.specs.Hash.{u64};
+ghost use Rattle.std.specs.List.{IsDistinct, fold};
 ghost use Rattle.lru.specs.LruCache.{lru_cache};
 ghost use Rattle.coap_store.specs.declared.key.CacheKey.{CacheKey};
 ghost use Rattle.coap_store.specs.Entries.{entry_key, entry_size};
@@ -63,6 +64,10 @@ impl<H: BuildHasher + Copy> Store for LruStore<H> {
 
     ghost evicted = { λ s. s.evicted };
 
+    ghost secret = { λ s. s.index.secret };
+
+    ghost secret_of = { λ seed. H.Hasher.finish (fold H.Hasher.write (H.build_hasher seed) (u64 0)) };
+
     fn with_limits(
         alloc: Global,
         seed: H,
@@ -77,6 +82,10 @@ impl<H: BuildHasher + Copy> Store for LruStore<H> {
             most_entries,
             evicted: Evictions::new(),
         })
+    }
+
+    fn secret(&self) -> u64 {
+        self.index.secret
     }
 
     fn touch(&mut self, key: &CacheKey) {
@@ -315,7 +324,7 @@ fn take_last<H: BuildHasher + Copy>(
     }
 }
 
-/// Marks the entries for those keys in a group that have a target, and counts these keys.
+/// Marks the entries for those keys in a group that have this target, and counts these keys.
 fn mark_group<H: BuildHasher>(
     recent: &mut LruCache<CacheKey, Stored, H>,
     group: &Group<H>,
@@ -335,7 +344,7 @@ fn mark_group<H: BuildHasher>(
     }
 }
 
-/// The same for a set of keys.
+/// Marks the entries for those keys of a set that have this target, and counts these keys.
 fn mark_keys<H: BuildHasher>(
     recent: &mut LruCache<CacheKey, Stored, H>,
     keys: &HashSet<CacheKey, H>,
@@ -357,7 +366,7 @@ fn mark_keys<H: BuildHasher>(
     count
 }
 
-/// Marks the entry with a key, if the key has a target, and returns 1 then and otherwise 0.
+/// Marks the entry with a key, if the key has this target, and returns 1 then and otherwise 0.
 fn mark_of<H: BuildHasher>(
     recent: &mut LruCache<CacheKey, Stored, H>,
     key: &CacheKey,

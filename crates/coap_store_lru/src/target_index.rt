@@ -1,19 +1,22 @@
 //! An index of the keys, by their targets.
 ghost use Rattle.std.specs.Prelude.{◌≡◌, ◌&&◌, ◌||◌, ℕ, None, false, nat_eq, not, is_ok, IsFalse};
+ghost use Rattle.std.specs.Hash.{u64};
+ghost use Rattle.std.specs.List.{fold};
 ghost use Rattle.std.specs.Option.{option_copied};
 ghost use Rattle.std.specs.HashMap.{get};
 ghost use Rattle.coap_store.specs.declared.key.CacheKey.{CacheKey};
+ghost use Rattle.coap_store.specs.Digests.{digest_of_target};
 ghost use Rattle.coap_store.specs.Keys.{same_key};
-ghost use Rattle.coap_store_lru.specs.Indexing.{AreFilled, digest, in_group, is_indexed};
+ghost use Rattle.coap_store_lru.specs.Indexing.{AreFilled, in_group, is_indexed};
 
 use crate::group::Group;
 use coap_endpoint::Target;
 use coap_message::OutOfMemory;
-use coap_store::CacheKey;
+use coap_store::{CacheKey, digest_of_target};
 use std::alloc::Global;
 use std::collections::HashMap;
 use std::collections::hash_map::Entry;
-use std::hash::{BuildHasher, DefaultHasher, Hash, Hasher};
+use std::hash::BuildHasher;
 
 /// Keys in groups, one for each digest of a target, so that no targets are stored in addition to
 /// those of the keys.
@@ -42,7 +45,9 @@ impl<H: BuildHasher + Drop> Drop for TargetIndex<H> {
 impl<H: BuildHasher + Copy> TargetIndex<H> {
     /// An index without keys.
     pub(crate) fn new(alloc: Global, hasher: H) -> TargetIndex<H>
-        ensures { (k : CacheKey) → is_indexed result.secret result.groups k ≡ false }
+        ensures empty { (k : CacheKey) → is_indexed result.secret result.groups k ≡ false }
+        ensures secret { result.secret
+            ≡ H.Hasher.finish (fold H.Hasher.write (H.build_hasher hasher) (u64 0)) }
     {
         TargetIndex {
             groups: HashMap::new(alloc),
@@ -56,9 +61,9 @@ impl<H: BuildHasher + Copy> TargetIndex<H> {
     /// same digest.
     pub(crate) fn group_of(&self, target: &Target) -> Option<&Group<H>>
         ensures { option_copied result
-            ≡ get nat_eq self.now.groups (digest self.now.secret target.now) }
+            ≡ get nat_eq self.now.groups (digest_of_target self.now.secret target.now) }
     {
-        self.groups.get(&digest_of(self.secret, target))
+        self.groups.get(&digest_of_target(self.secret, target))
     }
 
     /// Adds a key. If memory runs out, the keys are unchanged.
@@ -69,7 +74,7 @@ impl<H: BuildHasher + Copy> TargetIndex<H> {
             || is_indexed self.old.secret self.old.groups k) }
     {
         let copy = key.copied()?;
-        let at = digest_of(self.secret, &key.target);
+        let at = digest_of_target(self.secret, &key.target);
         enter(&mut self.groups, self.alloc, self.hasher, at, copy)
     }
 
@@ -78,7 +83,7 @@ impl<H: BuildHasher + Copy> TargetIndex<H> {
         ensures { (k : CacheKey) → is_indexed self.new.secret self.new.groups k
             ≡ (not (same_key key.now k) && is_indexed self.old.secret self.old.groups k) }
     {
-        let at = digest_of(self.secret, &key.target);
+        let at = digest_of_target(self.secret, &key.target);
         if leave(&mut self.groups, at, key) {
             self.groups.remove(&at);
         }
@@ -130,15 +135,4 @@ fn leave<H: BuildHasher + Copy>(
         Some(group) => group.leave(key),
         None => false,
     }
-}
-
-/// The digest of a target.
-#[tactic(auto, unfolding(crate::specs::Indexing::digest))]
-fn digest_of(secret: u64, target: &Target) -> u64
-    ensures { result ≡ digest secret target.now }
-{
-    let mut hasher = DefaultHasher::new();
-    hasher.write_u64(secret);
-    target.hash(&mut hasher);
-    hasher.finish()
 }

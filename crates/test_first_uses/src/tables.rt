@@ -2,7 +2,7 @@
 use crate::fixtures;
 use crate::fixtures::{CLIENT, ORIGIN};
 use coap_dedup::{EXCHANGE_LIFETIME, Records, Seen};
-use coap_exchange::{Exchanges, HashedKey, Opening, Sending, Timer};
+use coap_exchange::{Exchanges, Opening, Sending, Timer};
 use coap_forward::{Form, SentRequest, answer_of, put_forwarded, token_of};
 use coap_message::{Code, Datagram, MessageRef, Seq};
 use coap_option::screen_request_ref;
@@ -65,7 +65,7 @@ fn coap_exchange(rt: HostRuntime) -> Result<(), Fail> {
     let mut exchanges = Exchanges::new(alloc, 256, 16)?;
     let opening = Opening {
         client,
-        key: HashedKey::new(&key),
+        key: exchanges.hashed(&key),
         is_get: true,
         form,
         copy: None,

@@ -4,7 +4,7 @@ ghost use Rattle.coap_dedup.specs.Lists.{AreUpTo};
 
 use coap_cache::CacheKey;
 use coap_dedup::{NON_LIFETIME, Records, Refused, Seen, laws};
-use coap_exchange::{AdmitError, Exchanges, HashedKey, Joining, Opening, Waiters};
+use coap_exchange::{AdmitError, Exchanges, Joining, Opening, Waiters};
 use coap_message::{Kind, OptionList, OutOfMemory, Pieces, Seq, Token};
 use coap_target::{Endpoint, Ip, Target};
 use std::alloc::Global;
@@ -47,7 +47,7 @@ fn open(
     let key = key(alloc)?;
     let opening = Opening {
         client: client(port),
-        key: HashedKey::new(&key),
+        key: exchanges.hashed(&key),
         is_get: true,
         form: Seq::new(alloc),
         copy: None,

@@ -10,6 +10,9 @@ rekey-requires c =
     rw (c.keys_at-was.ensures.exact, c.keys_at.ensures.exact, c.taint.ensures)
     (all-can-pass c.args.number c.args.exchanges.now.limit c.args.exchanges.now.items _ c.args.index.now (moves-changed c.args.number (tainted_by c.args.target.now) c.args.exchanges.now is) (changed_at-is c.args.number (tainted_by c.args.target.now) c.args.exchanges.now is).within c.requires)
 
+pub returns-clause-secret : goal.returns-clause-secret
+returns-clause-secret c = c.rekey.ensures.exact.secret
+
 pub returns-clause-indexed : goal.returns-clause-indexed
 returns-clause-indexed c =
     let is = c.keys_at-was.ensures.sound in

@@ -1,4 +1,4 @@
-use Rattle.std.proofs.Common.{◌≡◌, Bool, length, refl, sym, ap, arith, ◌∙◌}
+use Rattle.std.proofs.Common.{Bool, length, sym, ap, arith, ◌∙◌}
 use Rattle.std.specs.Prelude.{count_by}
 use Rattle.std.proofs.lemmas.List.Sums.{count_by-le-length}
 use Rattle.lru.specs.LruCache.{lru_cache}

@@ -1,7 +1,8 @@
 use Rattle.std.proofs.Common.{◌≡◌, ◌&&◌, false, [], Some, map, length, refl, sym, ap, subst, arith, ◌∙◌}
 use Rattle.coap_store.specs.declared.key.CacheKey.{CacheKey}
 use Rattle.coap_store.specs.Entries.{marked}
-use Rattle.coap_store_lru.specs.Indexing.{AreThoseOf, digest, has, in_group, is_indexed, is_of, keys_in}
+use Rattle.coap_store.specs.Digests.{digest_of_target}
+use Rattle.coap_store_lru.specs.Indexing.{AreThoseOf, has, in_group, is_indexed, is_of, keys_in}
 use Rattle.coap_store_lru.proofs.Groups.{and_none, distinct-keys, in_group-found, length-group, map-marked_group, none-in_group}
 use Rattle.coap_store.proofs.Held.{map-length}
 use Rattle.coap_store_lru.proofs.Kept.{AreThoseOf-marked}
@@ -13,7 +14,7 @@ invariant_of-self g c =
     let s = c.args.self.now in
     let t = c.args.target.now in
     let es = s.recent.entries in
-    let at = digest s.index.secret t in
+    let at = digest_of_target s.index.secret t in
     let held = c.in-Some.group.now in
     let group : (k : CacheKey) → (is_of t k && has held k) ≡ (is_of t k && in_group s.index.groups at k) = λ k. ap (λ b. is_of t k && b) (in_group-found s.index.groups at (Some held) c.in-Some.ensures k) in
     let are : c.mark_group.new.recent.entries ≡ map (marked t) es = ap (λ m. m.entries) c.mark_group.ensures.marked ∙ map-same_marks (λ k. is_of t k && has held k) (λ k. is_of t k && in_group s.index.groups at k) es group ∙ map-marked_group s.index.secret s.index.groups es t s.are_those.indexed_are in
@@ -31,14 +32,14 @@ returns-in-Some-clause-counted g c =
     let t = c.args.target.now in
     let held = c.in-Some.group.now in
     c.mark_group.ensures.counted ∙ length-group s.index.secret s.index.groups s.recent.entries t s.are_those.indexed_are (keys_in held) s.are_those.distinct c.mark_group.ensures.distinct
-    (in_group-found s.index.groups (digest s.index.secret t) (Some held) c.in-Some.ensures)
+    (in_group-found s.index.groups (digest_of_target s.index.secret t) (Some held) c.in-Some.ensures)
 
 pub returns-in-Some-clause-marked : goal.returns-in-Some-clause-marked
 returns-in-Some-clause-marked g c =
     let s = c.args.self.now in
     let t = c.args.target.now in
     let es = s.recent.entries in
-    let at = digest s.index.secret t in
+    let at = digest_of_target s.index.secret t in
     let held = c.in-Some.group.now in
     let group : (k : CacheKey) → (is_of t k && has held k) ≡ (is_of t k && in_group s.index.groups at k) = λ k. ap (λ b. is_of t k && b) (in_group-found s.index.groups at (Some held) c.in-Some.ensures k) in
     ap (λ m. m.entries) c.mark_group.ensures.marked ∙ map-same_marks (λ k. is_of t k && has held k) (λ k. is_of t k && in_group s.index.groups at k) es group ∙ map-marked_group s.index.secret s.index.groups es t s.are_those.indexed_are
@@ -47,14 +48,14 @@ pub returns-in-None-clause-counted : goal.returns-in-None-clause-counted
 returns-in-None-clause-counted g c =
     let s = c.args.self.now in
     let t = c.args.target.now in
-    length-group s.index.secret s.index.groups s.recent.entries t s.are_those.indexed_are [] s.are_those.distinct (distinct-keys [] refl) (λ k. sym (none-in_group s.index.groups (digest s.index.secret t) (sym c.in-None.ensures) k))
+    length-group s.index.secret s.index.groups s.recent.entries t s.are_those.indexed_are [] s.are_those.distinct (distinct-keys [] refl) (λ k. sym (none-in_group s.index.groups (digest_of_target s.index.secret t) (sym c.in-None.ensures) k))
 
 pub returns-in-None-clause-marked : goal.returns-in-None-clause-marked
 returns-in-None-clause-marked g c =
     let s = c.args.self.now in
     let t = c.args.target.now in
     let es = s.recent.entries in
-    let at = digest s.index.secret t in
+    let at = digest_of_target s.index.secret t in
     marked_by_none es
     ∙ map-same_marks (λ k. false) (λ k. is_of t k && in_group s.index.groups at k) es (λ k. sym (ap (λ b. is_of t k && b) (none-in_group s.index.groups at (sym c.in-None.ensures) k) ∙ and_none (is_of t k)))
     ∙ map-marked_group s.index.secret s.index.groups es t s.are_those.indexed_are

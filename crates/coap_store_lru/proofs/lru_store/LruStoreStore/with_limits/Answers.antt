@@ -8,7 +8,7 @@ invariant_of-result g c =
     let made = c.in_ok-unbounded_with_hasher.ensures in
     let none : c.in_ok-unbounded_with_hasher.field-0.entries ≡ [] = ap (λ m. m.entries) made in
     record {
-      are_those = subst (λ es. AreThoseOf es 0 (is_indexed c.new.result.secret c.new.result.groups)) (sym none) (record { distinct = refl; counted = refl; indexed_are = c.new.ensures });
+      are_those = subst (λ es. AreThoseOf es 0 (is_indexed c.new.result.secret c.new.result.groups)) (sym none) (record { distinct = refl; counted = refl; indexed_are = c.new.ensures.empty });
       unlimited = ap (λ m. m.cap) made;
       within_bytes = omega arith;
       within_entries = omega (arith, ap length none);

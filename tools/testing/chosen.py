@@ -1,0 +1,97 @@
+"""Endpoints that somebody chose who knows the salt, which an origin reads off its tokens."""
+
+import random
+
+from testing.coap import ACK, CONTENT, GET, NON, PROXY_URI, message
+from testing.costs import seconds
+from testing.network import expect_between
+from testing.ranges import Script
+
+CASES = []
+WORD = (1 << 64) - 1
+# How many parts an index for 4,096 exchanges has, and what spreads IPv4 endpoints over 64 bits.
+PARTS, SPREAD = 129, 0x9E3779B97F4A7C15
+# How many endpoints are chosen, and how often each of them asks.
+MANY, ROUNDS = 4000, 4
+
+
+def case(stand_in):
+    """Notes a function that tries a program, with a stand-in that it must find wrong."""
+    return lambda function: CASES.append((function, stand_in))
+
+
+def rotated(word, bits):
+    return (word << bits | word >> (64 - bits)) & WORD
+
+
+def mixed(a, b, c, d):
+    """A round of SipHash."""
+    a, c = (a + b) & WORD, (c + d) & WORD
+    b, d = rotated(b, 13) ^ a, rotated(d, 16) ^ c
+    a, c = (rotated(a, 32) + d) & WORD, (c + b) & WORD
+    return a, rotated(b, 17) ^ c, rotated(d, 21) ^ a, rotated(c, 32)
+
+
+def sip_hash(word):
+    """SipHash-1-3 of a word, with keys that are 0."""
+    state = 0x736F6D6570736575, 0x646F72616E646F6D, 0x6C7967656E657261, 0x7465646279746573
+    for part in (word, 8 << 56):
+        a, b, c, d = state
+        a, b, d, c = mixed(a, b, c, d ^ part)
+        state = a ^ part, b, c, d
+    a, b, c, d = state
+    c ^= 0xFF
+    for _ in range(3):
+        a, b, d, c = mixed(a, b, c, d)
+    return a ^ b ^ c ^ d
+
+
+def factor_of(salt):
+    """What would spread IPv4 endpoints over an index if the salt did."""
+    return SPREAD * (sip_hash(salt) | 1) & WORD
+
+
+def part_of(number, factor):
+    """In which part of an index an endpoint with this address and port would be, spread by such a factor."""
+    return (number * factor & WORD) * PARTS >> 64
+
+
+def endpoints(network, salt):
+    """Endpoints of a network of 65,536 addresses: all in one part, or any, without a salt."""
+    draw, found, factor = random.Random(1), {}, salt is not None and factor_of(salt)
+    while len(found) < MANY:
+        number = network << 16 | draw.getrandbits(32)
+        if number & 0xFFFF >= 1024 and (salt is None or part_of(number, factor) == 5):
+            address = ".".join(str(it) for it in (number >> 16).to_bytes(4, "big"))
+            found[f"{address}:{number & 0xFFFF}"] = True
+    return list(found)
+
+
+def rounds(clients, origins):
+    """A replay in which each client asks its origin for something new in each round. All of a round
+    are in progress at once."""
+    script = Script()
+    for turn in range(ROUNDS):
+        for n, (client, origin) in enumerate(zip(clients, origins)):
+            uri = f"coap://{origin}/{turn}".encode()
+            message_id = turn * MANY + n
+            script.come(0, client, message(NON, GET, message_id, b"", [(PROXY_URI, uri)]))
+            script.tick(0)
+        first = 1 + 2 * turn * MANY
+        for n, origin in enumerate(origins):
+            token = (1 + turn * MANY + n).to_bytes(8, "big")
+            script.come(0, origin, message(ACK, CONTENT, first + n, token, [], b"21"))
+            script.tick(0)
+    return "".join(script.events).encode()
+
+
+@case("SpreadByTheSalt")
+def who_knows_the_salt_chooses_no_endpoints_that_meet(program):
+    words = [*program, "--salt", "0"]
+    of_salts = [
+        rounds(endpoints(0x0A01_0000, salt), endpoints(0x0A02_0000, salt)) for salt in (0, None)
+    ]
+    # They take as many instructions, within a thousandth. When the salt spread them, these took half as long again.
+    times = [[seconds(words, events) for events in of_salts] for _ in range(8)]
+    chosen, drawn = (min(it) for it in zip(*times))
+    expect_between("how many times as long chosen endpoints take", 0.5, 1.3, chosen / drawn)
