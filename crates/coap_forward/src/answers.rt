@@ -11,8 +11,7 @@ use coap_message::{
     Code, Kind, Message, MessageRef, Moment, OptionList, Options, OutOfMemory, Seq, Token,
 };
 use coap_option::{max_age, numbers, screen_response_ref};
-use coap_store::{Answer, Stored, aged_fits, left_at, tells_age};
-use coap_validation::{RenewError, renewed};
+use coap_store::{Answer, RenewError, Stored, aged_fits, left_at, renewed, tells_age};
 use std::alloc::Global;
 
 /// The greatest Max-Age, in seconds: it takes four bytes (RFC 7252, 5.10.5).

@@ -1,10 +1,12 @@
 //! The cache of a proxy: keys, stored responses, what a store of them has to do, and what clients
-//! are sent (RFC 7252, 5.6, 5.7.1, 5.10.5 and 5.10.6).
+//! are sent; and how a response is renewed that its origin validates (RFC 7252, 5.6, 5.7.1, 5.9.1.3,
+//! 5.10.5 and 5.10.6).
 //!
 //! # First use
 //!
 //! ```rust
-//! let response = decode(alloc, b"\x60\x45\x00\x01\xD1\x01\x0A\xFF21")?; // a 2.05 with Max-Age 10
+//! // a 2.05 with an ETag and Max-Age 10
+//! let response = decode(alloc, b"\x60\x45\x00\x01\x41\xAB\xA1\x0A\xFF21")?;
 //! // it came at moment 0, in event 2; the request was sent in event 1
 //! let stored = Stored {
 //!     response,
@@ -17,6 +19,9 @@
 //! let left = stored.left(4_000);
 //! let message = shown(alloc, &stored.response, Some(left), &Pieces::new(alloc))?;
 //! assert_eq!(rt; max_age(&message), 6);
+//! // a 2.03 with this ETag, and no Max-Age
+//! let valid = decode(alloc, b"\x60\x43\x00\x02\x41\xAB")?;
+//! assert_eq!(rt; max_age(&renewed(alloc, &stored, &valid)?), 60);
 //! ```
 #![tactic(auto)]
 
@@ -26,6 +31,8 @@ mod evictions;
 mod key;
 pub mod laws;
 mod measure;
+mod renew;
+mod renew_error;
 mod reply;
 mod show;
 mod showing;
@@ -40,6 +47,8 @@ pub use digests::{Digests, digest_of_target, digests_of};
 pub use evictions::Evictions;
 pub use key::CacheKey;
 pub use measure::aged_fits;
+pub use renew::renewed;
+pub use renew_error::RenewError;
 pub use reply::Reply;
 pub use show::{put_max_age, put_reply, show_into, tells_age};
 pub use showing::shown;

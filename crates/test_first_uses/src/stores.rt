@@ -1,4 +1,4 @@
-//! `coap_store`, `coap_store_list`, `coap_store_lru`, `coap_validation`, `coap_cache`.
+//! `coap_store`, `coap_store_list`, `coap_store_lru`, `coap_cache`.
 use crate::fixtures;
 use coap_cache::{ListStore, LruStore, Put, Store, Stored, renewed, shown};
 use coap_message::{Pieces, decode};
@@ -9,7 +9,8 @@ use std::test::*;
 #[test]
 fn coap_store(rt: HostRuntime) -> Result<(), Fail> {
     let alloc = rt.alloc();
-    let response = decode(alloc, b"\x60\x45\x00\x01\xD1\x01\x0A\xFF21")?; // a 2.05 with Max-Age 10
+    // a 2.05 with an ETag and Max-Age 10
+    let response = decode(alloc, b"\x60\x45\x00\x01\x41\xAB\xA1\x0A\xFF21")?;
     // it came at moment 0, in event 2; the request was sent in event 1
     let stored = Stored {
         response,
@@ -22,6 +23,9 @@ fn coap_store(rt: HostRuntime) -> Result<(), Fail> {
     let left = stored.left(4_000);
     let message = shown(alloc, &stored.response, Some(left), &Pieces::new(alloc))?;
     assert_eq!(rt; max_age(&message), 6);
+    // a 2.03 with this ETag, and no Max-Age
+    let valid = decode(alloc, b"\x60\x43\x00\x02\x41\xAB")?;
+    assert_eq!(rt; max_age(&renewed(alloc, &stored, &valid)?), 60);
     Ok(())
 }
 
@@ -45,16 +49,6 @@ fn coap_store_lru(rt: HostRuntime) -> Result<(), Fail> {
     let mut store = LruStore::with_limits(alloc, seed, 262_144, 1024)?; // bytes, entries
     assert!(rt; store.put(key, stored) == Put::Kept);
     assert!(rt; store.hit(&same_key, 5_000)); // usable, and the most recently used from now on
-    Ok(())
-}
-
-#[test]
-fn coap_validation(rt: HostRuntime) -> Result<(), Fail> {
-    let alloc = rt.alloc();
-    let stored = fixtures::stored(alloc)?;
-    let valid = decode(alloc, b"\x60\x43\x00\x02\x41\xAB")?; // a 2.03 with its ETag, and no Max-Age
-    let message = renewed(alloc, &stored, &valid)?;
-    assert_eq!(rt; max_age(&message), 60);
     Ok(())
 }
 

@@ -2,10 +2,12 @@
 ghost use Rattle.std.specs.Prelude.{◌≡◌, ◌↔◌, false, IfOk, Err};
 ghost use Rattle.coap_store.specs.Renewing.{is_validated, news_of, renewed, safe_options};
 
-use crate::error::RenewError;
+use crate::renew_error::RenewError;
+use crate::stored::Stored;
+use crate::tag::tag_of;
+use crate::updating::{updated, with_max_age};
 use coap_message::{Code, Message, OptionList, Options, OutOfMemory};
 use coap_option::{is_unsafe, max_age};
-use coap_store::{Stored, tag_of, updated, with_max_age};
 use std::alloc::Global;
 
 /// The stored response, a 2.05, renewed by a 2.03 with its ETag. Its Max-Age is that of the 2.03,

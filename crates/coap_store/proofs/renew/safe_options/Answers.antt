@@ -1,7 +1,7 @@
 use Rattle.std.proofs.Common.{sym, ◌∙◌, ap, ◌++◌}
 use Rattle.coap_message.specs.OptRef.{seen}
 use Rattle.coap_store.proofs.Renewals.{all-safe, next-in_order, pushed-in_order, pushed-safe, skipped-in_order, skipped-safe}
-use Rattle.coap_validation.proofs.renew.safe_options.Goals as goal
+use Rattle.coap_store.proofs.renew.safe_options.Goals as goal
 
 pub push-requires-clause-in_order : goal.push-requires-clause-in_order
 push-requires-clause-in_order c = (next-in_order _ _ (seen c.in-Some.option) c.in-Some.ensures.steps _ c.loop-option.invariant.in_order).0

@@ -1,4 +1,4 @@
-//! Errors.
+//! Why a stored response isn't renewed.
 use coap_message::OutOfMemory;
 use thiserror::Error;
 
@@ -15,7 +15,7 @@ pub enum RenewError {
 
 impl From<OutOfMemory> for RenewError {
     ghost use Rattle.std.specs.Prelude.{◌≡◌};
-    ghost use Rattle.coap_validation.specs.declared.error.RenewError.TheVariants as errors;
+    ghost use Rattle.coap_store.specs.declared.renew_error.RenewError.TheVariants as errors;
 
     ghost from_gives = { λ _ e. e ≡ errors.OutOfMemory };
 
