@@ -1,3 +1,5 @@
+pub mod Clean
 pub mod MaxAges
 pub mod Passing
 pub mod Picking
+pub mod Surveying

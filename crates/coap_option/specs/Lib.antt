@@ -6,3 +6,4 @@ pub mod Places
 pub mod Passing
 pub mod Screening
 pub mod Selection
+pub mod Survey

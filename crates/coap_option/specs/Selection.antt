@@ -1,6 +1,6 @@
 -- Which options of a message are forwarded, are part of the cache key, or determine how it is
 -- cached.
-use Rattle.std.specs.Prelude.{ℕ, Bool, ◌==◌, ◌&&◌, ◌||◌, not, List, [], ◌∷◌, filter, find, map}
+use Rattle.std.specs.Prelude.{ℕ, Bool, ◌==◌, ◌&&◌, ◌||◌, not, List, [], ◌∷◌, filter, find, length, map}
 use Rattle.std.specs.List.{list_any}
 use Rattle.std.specs.Option.{option_map_or}
 use Rattle.coap_message.specs.declared.code.Code.{Code}
@@ -14,6 +14,7 @@ use Rattle.coap_option.specs.declared.side.Side.{Side}
 use Rattle.coap_option.specs.declared.side.Side.TheVariants.{Request, Response}
 use Rattle.coap_option.specs.Classes.{is_no_cache_key}
 use Rattle.coap_option.specs.Places.{PlacedOption, places, is_recognised_at}
+use Rattle.coap_option.specs.Recognition.{is_recognised}
 use Rattle.coap_option.specs.Side.{side_of}
 
 -- the options for which, in their places, the test holds, in order
@@ -25,19 +26,35 @@ abbrev pub used_up : List ℕ
 used_up =
     URI_HOST ∷ OBSERVE ∷ URI_PORT ∷ URI_PATH ∷ MAX_AGE ∷ URI_QUERY ∷ PROXY_URI ∷ PROXY_SCHEME ∷ []
 
+-- an option with this number is one of them
+abbrev pub is_used_up : ℕ → Bool
+is_used_up number = list_any (λ n. n == number) used_up
+
 -- an ETag in a GET, which the proxy handles itself (RFC 7252, 5.10.6.2)
 abbrev pub is_tag_of_get : Code → ℕ → Bool
 is_tag_of_get code number = is_code code GET && number == ETAG
 
+-- an option with this number isn't forwarded if it is recognised
+abbrev pub is_for_proxy : Code → ℕ → Bool
+is_for_proxy code number = is_used_up number || is_tag_of_get code number
+
 -- the option of a request isn't forwarded: it is recognised, and one of those
 abbrev pub stays : Code → PlacedOption → Bool
-stays code p =
-    is_recognised_at Request p
-    && (list_any (λ n. n == p.option.number) used_up || is_tag_of_get code p.option.number)
+stays code p = is_recognised_at Request p && is_for_proxy code p.option.number
 
 -- the options of a request that are forwarded
 abbrev pub sent_on : Message → List Opt
 sent_on m = selected (λ p. not (stays m.code p)) m.options
+
+-- If no option is refused, an option alone, apart from its place, determines whether it is
+-- forwarded (`laws::what_goes_on_shows_by_itself` of `coap_model`): it isn't consumed, and isn't a
+-- recognised ETag of a GET.
+abbrev pub goes_on : Code → Opt → Bool
+goes_on code o =
+    not (
+    is_used_up o.number
+    || (is_tag_of_get code o.number && is_recognised Request o.number (length o.value) 0)
+    )
 
 -- the option of a request is part of the cache key (RFC 7252, 5.4.2)
 abbrev pub is_key : Code → PlacedOption → Bool

@@ -20,6 +20,7 @@ mod recognition;
 mod screening;
 mod selection;
 mod side;
+mod survey;
 mod table;
 
 pub use classes::{is_critical, is_no_cache_key, is_unsafe};
@@ -27,5 +28,8 @@ pub use recognition::recognised;
 pub use screening::{
     BadOption, screen_request, screen_request_ref, screen_response, screen_response_ref,
 };
-pub use selection::{forward_options, key_options, key_options_into, max_age, tags, tags_into};
+pub use selection::{
+    forward_options, goes_on, key_options, key_options_into, max_age, tags, tags_into,
+};
 pub use side::Side;
+pub use survey::{Survey, survey_request};

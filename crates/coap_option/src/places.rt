@@ -37,14 +37,14 @@ pub(crate) trait Test {
 /// The number of the last option passed, and how many options with it were passed. Options come in
 /// order of number, so those with the same number are adjacent (RFC 7252, 3.1).
 #[derive(Clone, Copy)]
-struct Run {
+pub(crate) struct Run {
     number: u16,
     count: usize,
 }
 
 impl Run {
     /// No option has been passed.
-    fn new() -> Run
+    pub(crate) fn new() -> Run
         ensures { result ≡ record { number = 0; count = 0 } }
     {
         Run {
@@ -55,7 +55,7 @@ impl Run {
 
     /// Passes an option with this number, and returns how many with the same number were passed
     /// before it.
-    fn pass(&mut self, number: u16) -> usize
+    pub(crate) fn pass(&mut self, number: u16) -> usize
         requires { self.old.count < 2 ^ 64 - 1 }
         ensures before { result ≡ (if number == self.old.number then self.old.count else 0) }
         ensures passed { self.new ≡ record { number = number; count = result + 1 } }
@@ -68,7 +68,7 @@ impl Run {
 }
 
 /// The row of a number, which is that of the last option if that has the same number.
-fn row_after(last: Run, row: Option<Row>, number: u16) -> Option<Row>
+pub(crate) fn row_after(last: Run, row: Option<Row>, number: u16) -> Option<Row>
     requires { row ≡ row_of last.number }
     ensures { result ≡ row_of number }
 {

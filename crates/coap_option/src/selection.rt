@@ -1,12 +1,13 @@
 //! Which options of a message are forwarded, are part of the cache key, or determine how it is
 //! cached (RFC 7252, 5.4.2, 5.6, 5.7 and 5.10).
 ghost use Rattle.std.specs.Prelude.{◌≡◌, ◌≢◌, [], IfOk, OnOk, OnErr, not};
-ghost use Rattle.coap_option.specs.Selection.{is_key, is_of, key_of, max_age_of, sent_on, stays, tags_of};
+ghost use Rattle.coap_message.specs.OptRef.{seen};
+ghost use Rattle.coap_option.specs.Selection.{goes_on, is_for_proxy, is_key, is_of, is_tag_of_get, is_used_up, key_of, max_age_of, sent_on, stays, tags_of};
 
 use crate::classes::is_no_cache_key;
 use crate::numbers;
 use crate::places::{Test, first, select, select_into, values_into};
-use crate::recognition::option_recognised;
+use crate::recognition::{option_recognised, recognised};
 use crate::side::Side;
 use crate::table::Row;
 use coap_message::{Code, Message, MessageRef, OptRef, OptionList, OutOfMemory, Pieces, uint};
@@ -14,6 +15,51 @@ use std::alloc::Global;
 
 /// The Max-Age of a response that has none, in seconds (RFC 7252, 5.10.5).
 const DEFAULT_MAX_AGE: u32 = 60;
+
+/// Whether the proxy consumes options with this number (RFC 7252, 5.7 and 5.10.2; RFC 7641, 2).
+fn is_used_up(number: u16) -> bool
+    ensures { result ≡ is_used_up number }
+{
+    matches!(
+        number,
+        numbers::URI_HOST
+            | numbers::OBSERVE
+            | numbers::URI_PORT
+            | numbers::URI_PATH
+            | numbers::MAX_AGE
+            | numbers::URI_QUERY
+            | numbers::PROXY_URI
+            | numbers::PROXY_SCHEME
+    )
+}
+
+/// Whether an option with this number is an ETag of a GET, if its request has this code: the proxy
+/// handles it itself (RFC 7252, 5.10.6.2).
+fn is_tag_of_get(code: Code, number: u16) -> bool
+    ensures { result ≡ is_tag_of_get code number }
+{
+    code == Code::GET && number == numbers::ETAG
+}
+
+/// Whether options with this number aren't forwarded if they are recognised, in a request with this
+/// code.
+pub(crate) fn is_for_proxy(code: Code, number: u16) -> bool
+    ensures { result ≡ is_for_proxy code number }
+{
+    is_used_up(number) || is_tag_of_get(code, number)
+}
+
+/// Whether an option of a request with this code is forwarded, given that no option of the request
+/// is refused: this shows by the option alone, and not by its place.
+pub fn goes_on(code: Code, option: OptRef<'_>) -> bool
+    ensures { result ≡ goes_on code (seen option.entry) }
+{
+    if is_used_up(option.number) {
+        return false;
+    }
+    !is_tag_of_get(code, option.number)
+        || !recognised(Side::Request, option.number, option.value.len(), 0)
+}
 
 /// In a request with this code: forwarded, because it isn't recognised or isn't consumed by the
 /// proxy.
@@ -24,19 +70,8 @@ impl Test for Forwarded {
     ghost holds = { λ t p. not (stays t.0 p) };
 
     fn holds_of(&self, option: OptRef<'_>, before: usize, row: Option<Row>) -> bool {
-        let used_up = match option.number {
-            numbers::URI_HOST
-            | numbers::OBSERVE
-            | numbers::URI_PORT
-            | numbers::URI_PATH
-            | numbers::MAX_AGE
-            | numbers::URI_QUERY
-            | numbers::PROXY_URI
-            | numbers::PROXY_SCHEME => true,
-            numbers::ETAG => self.0 == Code::GET,
-            _ => false,
-        };
-        !(used_up && option_recognised(Side::Request, option, before, row))
+        !(is_for_proxy(self.0, option.number)
+            && option_recognised(Side::Request, option, before, row))
     }
 
     fn numbers(&self) -> (u16, u16) {

@@ -5,7 +5,10 @@ use Rattle.coap_message.specs.declared.options.Opt.{Opt}
 use Rattle.coap_message.specs.Message.{Message, message_of}
 use Rattle.coap_message.specs.Options.{option_of}
 use Rattle.coap_option.specs.declared.side.Side.{Side}
+use Rattle.coap_option.specs.declared.survey.Survey.{Survey}
+use Rattle.coap_option.specs.Places.{places}
 use Rattle.coap_option.specs.Recognition.{is_recognised}
+use Rattle.coap_option.specs.Survey.{of_none, with_all}
 
 -- an option with this number, whose value is this many zero bytes
 abbrev pub zeros : ℕ → ℕ → Opt
@@ -74,3 +77,7 @@ longer =
 -- two options that aren't recognised, the second of which is NoCacheKey
 abbrev pub unknown : List Opt
 unknown = option_of 65000 (0xAA ∷ 0x0B ∷ []) ∷ zeros 65532 0 ∷ []
+
+-- what the pass over the options of a request tells
+abbrev pub survey_of : Message → Survey
+survey_of m = with_all m.code of_none (places m.options)

@@ -7,7 +7,8 @@ ghost use Rattle.coap_option.specs.Classes.{is_critical, is_no_cache_key, is_uns
 ghost use Rattle.coap_option.specs.Screening.{first_refused};
 ghost use Rattle.coap_option.specs.Selection.{key_of, max_age_of, sent_on, tags_of};
 ghost use Rattle.coap_option.specs.Side.{side_of};
-ghost use Rattle.test_definitions.specs.Options.{content, get, has_range, is_known, longer, not_used_up, of_requests, of_responses, put, tagged, unknown, zeros};
+ghost use Rattle.coap_option.specs.Survey.{of_none, says_uri};
+ghost use Rattle.test_definitions.specs.Options.{content, get, has_range, is_known, longer, not_used_up, of_requests, of_responses, put, survey_of, tagged, unknown, zeros};
 
 use coap_option::Side;
 use coap_option::numbers::*;
@@ -117,6 +118,26 @@ pub fn selected()
         (content (option_of 14 (1 ∷ []) ∷ option_of 14 (2 ∷ []) ∷ []))
         ≡ 1 }
     ensures long_max_age { max_age_of (content (zeros 14 5 ∷ [])) ≡ 60 }
+{}
+
+/// What a survey of some requests tells.
+pub fn surveyed()
+    ensures proxy_uri { says_uri (get (zeros 11 1 ∷ zeros 35 1 ∷ [])) ≡ true }
+    ensures proxy_scheme { says_uri (get (zeros 3 1 ∷ zeros 39 1 ∷ [])) ≡ true }
+    ensures path { says_uri (get (zeros 3 1 ∷ zeros 11 1 ∷ zeros 15 1 ∷ [])) ≡ false }
+    ensures nothing { survey_of
+        (get (zeros 3 1 ∷ zeros 11 1 ∷ zeros 15 1 ∷ zeros 15 1 ∷ []))
+        ≡ of_none }
+    ensures named { survey_of (get (zeros 35 1 ∷ [])) ≡ record of_none { says_uri = true } }
+    ensures accept { survey_of (get (zeros 11 1 ∷ zeros 17 1 ∷ []))
+        ≡ record of_none { has_key = true; has_others = true } }
+    ensures size1 { survey_of (get (zeros 11 1 ∷ zeros 60 1 ∷ []))
+        ≡ record of_none { has_others = true } }
+    ensures tag_of_get { survey_of (get (zeros 4 1 ∷ [])) ≡ record of_none { has_tags = true } }
+    ensures long_tag { survey_of (get (zeros 4 9 ∷ []))
+        ≡ record of_none { has_key = true; has_others = true } }
+    ensures tag_of_put { survey_of (put (zeros 4 1 ∷ []))
+        ≡ record of_none { has_key = true; has_tags = true; has_others = true } }
 {}
 
 /// For some GETs, the options that are forwarded, those that are part of the key, and the tags: one

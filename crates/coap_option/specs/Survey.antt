@@ -1,0 +1,63 @@
+-- What one pass over the options of a request tells.
+use Rattle.std.specs.Prelude.{◌≡◌, ℕ, ◌==◌, ◌||◌, Bool, true, false, not, List, [], ◌∷◌, None}
+use Rattle.std.specs.List.{list_any}
+use Rattle.coap_message.specs.declared.code.Code.{Code}
+use Rattle.coap_message.specs.declared.options.Opt.{Opt}
+use Rattle.coap_message.specs.Message.{Message}
+use Rattle.coap_option.specs.declared.numbers.TheConstants.{ETAG, PROXY_URI, PROXY_SCHEME}
+use Rattle.coap_option.specs.declared.side.Side.TheVariants.{Request}
+use Rattle.coap_option.specs.declared.survey.Survey.{Survey}
+use Rattle.coap_option.specs.Places.{PlacedOption}
+use Rattle.coap_option.specs.Screening.{first_refused}
+use Rattle.coap_option.specs.Selection.{goes_on, is_key, is_of, key_of, stays, tags_of}
+use Rattle.coap_option.specs.Side.{side_of}
+
+-- an option with this number gives a URI, or its scheme (RFC 7252, 5.10.2)
+abbrev pub is_of_uri : ℕ → Bool
+is_of_uri number = number == PROXY_URI || number == PROXY_SCHEME
+
+-- there is a Proxy-Uri or a Proxy-Scheme among the options
+abbrev pub say_uri : List Opt → Bool
+say_uri options = list_any (λ o. is_of_uri o.number) options
+
+-- the request gives its target as a URI (RFC 7252, 5.10.2)
+abbrev pub says_uri : Message → Bool
+says_uri m = say_uri m.options
+
+-- a request has options that are forwarded, if none is refused
+abbrev pub has_others : Message → Bool
+has_others m = list_any (goes_on m.code) m.options
+
+-- there are any of them
+abbrev pub are_any : {A : Type 0} → List A → Bool
+are_any [] = false
+are_any (x ∷ xs) = true
+
+-- No option of the request is refused, and what the survey says of it is right: whether its target
+-- is given as a URI, whether there are options that are part of its key, whether there are
+-- recognised ETags, and whether there are options that are forwarded.
+pub record IsSurvey (m : Message) (survey : Survey) : Type 0 where
+  pub screened : first_refused Request m.options ≡ None
+  pub uri : survey.says_uri ≡ says_uri m
+  pub key : survey.has_key ≡ are_any (key_of m)
+  pub tags : survey.has_tags ≡ are_any (tags_of m)
+  pub others : survey.has_others ≡ has_others m
+
+-- a survey of some options of a request with this code, and of one more
+abbrev pub with_one : Code → Survey → PlacedOption → Survey
+with_one code survey p =
+    record {
+      says_uri = survey.says_uri || is_of_uri p.option.number;
+      has_key = survey.has_key || is_key code p;
+      has_tags = survey.has_tags || is_of (side_of code) ETAG p;
+      has_others = survey.has_others || not (stays code p);
+    }
+
+-- and of all of a list
+abbrev pub with_all : Code → Survey → List PlacedOption → Survey
+with_all code survey [] = survey
+with_all code survey (p ∷ ps) = with_all code (with_one code survey p) ps
+
+-- a survey of no options
+abbrev pub of_none : Survey
+of_none = record { says_uri = false; has_key = false; has_tags = false; has_others = false }
