@@ -199,10 +199,10 @@ module _ (w : State) (now : ℕ) (client : Endpoint) (m : Message) where
 
 module _ {a : Arrival} {query : CacheQuery} {known : Missed} {w : State} (can : CanAsk a query known w) where
   -- they may be forwarded
-  pub forwardable : IsForwardable a.message.now query.key.target
+  pub forwardable : IsForwardable a.message.now query
   forwardable =
       let is = askable w.setting.routes a.message.now can.reply.ready.can.routes query.key can.asked.key in
-      record { method = is.method; screened = is.screened; target = is.sound }
+      record { method = is.method; survey = can.asked.survey; target = is.sound }
 
   -- the form is too long
   pub too-long : form_fits w.setting.limits.datagram query.key.target None a.message.now ≡ false → of_arrival (needing_step w) a query.key ≡ of_arrival (refuses w) a REQUEST_ENTITY_TOO_LARGE

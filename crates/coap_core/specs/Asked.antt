@@ -4,10 +4,8 @@ use Rattle.std.specs.Prelude.{◌≡◌, ℕ, true, Option, None, is_some, if◌
 use Rattle.coap_message.specs.Message.{Message}
 use Rattle.coap_forward.specs.Messages.{is_get, is_method}
 use Rattle.coap_model.specs.Verdicts as verdicts
-use Rattle.coap_option.specs.declared.side.Side.TheVariants.{Request}
-use Rattle.coap_option.specs.Screening.{first_refused}
 use Rattle.coap_option.specs.Selection.{tags_of}
-use Rattle.coap_endpoint.specs.declared.target.Target.{Target}
+use Rattle.coap_option.specs.Survey.{IsSurvey}
 use Rattle.coap_endpoint.specs.Target.{IsTarget}
 use Rattle.coap_store.specs.declared.key.CacheKey.{CacheKey}
 use Rattle.coap_store.specs.declared.stored.Stored.{Stored}
@@ -29,16 +27,17 @@ abbrev pub verdict_seen : Verdict → CacheKey → verdicts.Verdict
 verdict_seen (RefusedWith code) key = verdicts.refused_with code
 verdict_seen MayAsk key = verdicts.may_ask key
 
--- a request may be forwarded to this target
-pub record IsForwardable (m : Message) (t : Target) : Type 0 where
+-- a request may be forwarded for what it asks for: to its target
+pub record IsForwardable (m : Message) (asked : CacheQuery) : Type 0 where
   pub method : is_method m.code ≡ true
-  pub screened : first_refused Request m.options ≡ None
-  pub target : IsTarget t
+  pub survey : IsSurvey m asked.survey
+  pub target : IsTarget asked.key.target
 
 -- the request may be forwarded: this is what it asks for
 pub record IsAsked (w : State) (m : Message) (asked : CacheQuery) : Type 0 where
   pub key : verdicts.verdict_of w.setting.routes m ≡ verdicts.may_ask asked.key
   pub tags : asked.tags ≡ tags_of m
+  pub survey : IsSurvey m asked.survey
 
 -- what is stored for the key of a request: only a GET is answered from the store, or validates
 abbrev pub held_for : State → Message → CacheKey → Option Stored

@@ -18,7 +18,6 @@ use crate::known::put_acceptance;
 use crate::request_target::CacheQuery;
 use crate::requests::is_get;
 use crate::state::State;
-use coap_endpoint::Target;
 use coap_exchange::{ExchangeNumber, HashedKey, Joining, Opening};
 use coap_forward::{Form, put_forwarded, put_with_max_age, token_of, validating_tag};
 use coap_message::{Code, Datagram, Full, MessageRef, OutOfMemory, Pieces, Seq, Token};
@@ -143,11 +142,7 @@ impl<S: Store + Drop> State<S> {
             (of_arrival (needing_step self.old) arrival.entry asked.now.key)
             result out.old out.new self.old self.new }
     {
-        let target = &asked.key.target;
-        if self
-            .put_request(arrival.message, target, None, out)
-            .is_err()
-        {
+        if self.put_request(arrival.message, asked, None, out).is_err() {
             let code = Code::REQUEST_ENTITY_TOO_LARGE;
             return self.refuse(arrival, code, out);
         }
@@ -173,7 +168,7 @@ impl<S: Store + Drop> State<S> {
         requires can { CanGoOn self.now }
         requires missed { IsMissed self.now request.now asked.now.key miss }
         requires room { self.now.setting.limits.datagram ≤ out.old.room }
-        requires forwardable { IsForwardable request.now asked.now.key.target }
+        requires forwardable { IsForwardable request.now asked.now }
         requires fits { form_fits self.now.setting.limits.datagram asked.now.key.target None
             request.now
             ≡ true }
@@ -195,17 +190,16 @@ impl<S: Store + Drop> State<S> {
         if let Miss::Nothing = miss {
             return Ok(None);
         }
-        let target = &asked.key.target;
         let Some(stored) = self.store.peek(&asked.key) else {
             unreachable!()
         };
         let Some(tag) = validating_tag(request, &stored.response) else {
             return Ok(None);
         };
-        if self.put_request(request, target, Some(tag), out).is_ok() {
+        if self.put_request(request, asked, Some(tag), out).is_ok() {
             return Ok(Some(copy_of_stored(stored)?));
         }
-        if self.put_request(request, target, None, out).is_err() {
+        if self.put_request(request, asked, None, out).is_err() {
             unreachable!();
         }
         Ok(None)
@@ -218,21 +212,21 @@ impl<S: Store + Drop> State<S> {
     fn put_request(
         &self,
         request: &MessageRef<'_>,
-        target: &Target,
+        asked: &CacheQuery,
         tag: Option<&[u8]>,
         out: &mut Datagram,
     ) -> Result<(), Full>
         requires can { CanGoOn self.now }
         requires room { self.now.setting.limits.datagram ≤ out.old.room }
-        requires forwardable { IsForwardable request.now target.now }
+        requires forwardable { IsForwardable request.now asked.now }
         requires short { IfSome tag (λ tag. length tag.now ≤ 8) }
         ensures exact { is_ok result
-            ≡ form_fits self.now.setting.limits.datagram target.now
+            ≡ form_fits self.now.setting.limits.datagram asked.now.key.target
             (option_map (λ tag. tag.now) tag.entry) request.now }
         ensures form { OnOk result
             (out.new.bytes
             ≡ spelling
-            (forwarded (next_token self.now) target.now (option_map (λ tag. tag.now) tag.entry)
+            (forwarded (next_token self.now) asked.now.key.target (option_map (λ tag. tag.now) tag.entry)
             request.now 0)) }
         ensures kept { out.new.room ≡ out.old.room }
     {
@@ -240,7 +234,8 @@ impl<S: Store + Drop> State<S> {
         let room = self.setting.limits.values().datagram as usize;
         let form = Form {
             request,
-            target,
+            survey: asked.survey,
+            target: &asked.key.target,
             tag,
         };
         put_forwarded(&token, form, out, room)

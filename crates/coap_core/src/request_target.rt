@@ -1,13 +1,14 @@
 //! What a request asks for: its target, before anything of it is kept, and its cache key.
 ghost use Rattle.std.specs.Prelude.{◌≡◌, OnOk, is_some};
 ghost use Rattle.coap_option.specs.Selection.{tags_of};
+ghost use Rattle.coap_option.specs.Survey.{IsSurvey};
 ghost use Rattle.coap_model.specs.Keys.{request_key};
 ghost use Rattle.coap_core.specs.Forms.{seen};
 
 use crate::setting::Setting;
 use coap_endpoint::{Endpoint, Ip, Target};
 use coap_message::{MessageRef, OptionList, OutOfMemory, Pieces, Seq};
-use coap_option::{key_options_into, tags_into};
+use coap_option::Survey;
 use coap_store::CacheKey;
 use coap_target::MappedTarget;
 use std::alloc::Global;
@@ -49,6 +50,8 @@ impl RequestTarget<'_, '_> {
 pub(crate) struct CacheQuery {
     pub(crate) key: CacheKey,
     pub(crate) tags: Pieces,
+    /// What the options of the request told.
+    pub(crate) survey: Survey,
     /// Room for a host, while the key's target has none.
     host_room: Option<Seq<u8>>,
 }
@@ -58,6 +61,7 @@ impl Drop for CacheQuery {
         let CacheQuery {
             key: _,
             tags: _,
+            survey: _,
             host_room: _,
         } = self;
     }
@@ -84,6 +88,7 @@ impl CacheQuery {
         CacheQuery {
             key: CacheKey { target, options },
             tags: Pieces::new(alloc),
+            survey: Survey::of_none(),
             host_room: None,
         }
     }
@@ -127,7 +132,7 @@ impl CacheQuery {
         Ok(())
     }
 
-    /// Reads what a request for a target asks for.
+    /// Reads what a request for a target asks for, after the survey of its options.
     ///
     /// # Errors
     /// Out of memory. Then it holds parts of what this request and the last one ask for.
@@ -135,15 +140,19 @@ impl CacheQuery {
         &mut self,
         target: &RequestTarget<'_, '_>,
         request: &MessageRef<'_>,
+        survey: Survey,
     ) -> Result<(), OutOfMemory>
+        requires { IsSurvey request.now survey }
         ensures key { OnOk result (self.new.key ≡ request_key (seen target.now) request.now) }
         ensures tags { OnOk result (self.new.tags ≡ tags_of request.now) }
+        ensures survey { self.new.survey ≡ survey }
     {
+        self.survey = survey;
         if target.has_host() != self.key.target.host.is_some() {
             mem::swap(&mut self.key.target.host, &mut self.host_room);
         }
         target.copy_to(&mut self.key.target)?;
-        key_options_into(&mut self.key.options, request)?;
-        tags_into(&mut self.tags, request)
+        survey.key_options_into(&mut self.key.options, request)?;
+        survey.tags_into(&mut self.tags, request)
     }
 }

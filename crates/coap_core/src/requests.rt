@@ -1,8 +1,7 @@
 //! The step of a request: it is refused, or answered from the store (RFC 7252, 5.6 and 5.7).
 ghost use Rattle.std.specs.Prelude.{◌≡◌, ◌⊎◌, ◌+◌, ◌<◌, ◌≤◌, true, length, None, Ok, Err, is_ok, IfOk, IfErr, OnOk, OnErr};
-ghost use Rattle.coap_option.specs.declared.side.Side.{Side};
-ghost use Rattle.coap_option.specs.Screening.{first_refused};
 ghost use Rattle.coap_option.specs.Selection.{tags_of};
+ghost use Rattle.coap_option.specs.Survey.{IsSurvey};
 ghost use Rattle.coap_endpoint.specs.Target.{IsTarget};
 ghost use Rattle.coap_target.specs.declared.error.TargetError.TheVariants as errors;
 ghost use Rattle.coap_target.specs.Request.{request_target};
@@ -27,9 +26,9 @@ use crate::state::{State, silent};
 use coap_forward::{put_bare, put_stored};
 use coap_message::{Code, Datagram, MessageRef, OutOfMemory, Token};
 use coap_model::{Outcome, Report};
-use coap_option::screen_request_ref;
+use coap_option::{Survey, survey_request};
 use coap_store::{Reply, Store};
-use coap_target::{TargetError, laws, says_uri};
+use coap_target::{TargetError, laws};
 
 /// The verdict on a request, apart from its length, the room, and what is stored.
 #[derive(Drop)]
@@ -116,16 +115,18 @@ impl<S: Store + Drop> State<S> {
             verdict_of self.now.setting.routes request.now ≡ verdict_seen verdict asked.new.key) }
         ensures tags { IfOk result (λ verdict.
             verdict ≡ verdicts.MayAsk → asked.new.tags ≡ tags_of request.now) }
+        ensures survey { IfOk result (λ verdict.
+            verdict ≡ verdicts.MayAsk → IsSurvey request.now asked.new.survey) }
     {
         if !is_method(request.code()) {
             return Ok(Verdict::RefusedWith(Code::METHOD_NOT_ALLOWED));
         }
-        if screen_request_ref(request).is_err() {
+        let Ok(survey) = survey_request(request) else {
             return Ok(Verdict::RefusedWith(Code::BAD_OPTION));
-        }
-        match self.target_of(request) {
+        };
+        match self.target_of(request, survey) {
             Ok(target) => {
-                asked.read(&target, request)?;
+                asked.read(&target, request, survey)?;
                 Ok(Verdict::MayAsk)
             }
             Err(TargetError::BadUri) => Ok(Verdict::RefusedWith(Code::BAD_REQUEST)),
@@ -218,14 +219,15 @@ impl<S: Store + Drop> State<S> {
         }
     }
 
-    /// The target of a request that passed the screening. A mapped target is borrowed, so that it
+    /// The target of a request whose options were surveyed. A mapped target is borrowed, so that it
     /// doesn't allocate.
     fn target_of<'m, 'a>(
         &'m self,
         request: &MessageRef<'a>,
+        survey: Survey,
     ) -> Result<RequestTarget<'m, 'a>, TargetError>
         requires can { CanGoOn self.now }
-        requires screened { first_refused Side.Request request.now.options ≡ None }
+        requires known { IsSurvey request.now survey }
         ensures ok { IfOk result (λ t.
             request_target self.now.setting.routes request.now ≡ Ok (seen t)) }
         ensures sound { IfOk result (λ t. IsTarget (seen t)) }
@@ -235,7 +237,7 @@ impl<S: Store + Drop> State<S> {
     {
         laws::targets_fit_options();
         laws::requests_to_the_proxy_are_mapped();
-        if says_uri(request) {
+        if survey.says_uri {
             let target = self.setting.routes.target_of_ref(self.alloc, request)?;
             return Ok(RequestTarget::Named(target));
         }

@@ -1,7 +1,6 @@
 -- How the forwarded request is written: the options of its target and the tag, and the others in
 -- the gaps between them.
 use Rattle.std.specs.Prelude.{◌≡◌, ℕ, ◌&&◌, Bool, nat_lt, List, [], ◌∷◌, ◌++◌, codes, filter, map, Option, Some, None}
-use Rattle.std.specs.List.{list_any}
 use Rattle.std.specs.Option.{option_map}
 use Rattle.coap_message.specs.declared.code.Code.{Code}
 use Rattle.coap_message.specs.declared.options.Opt.{Opt}
@@ -9,12 +8,12 @@ use Rattle.coap_message.specs.Message.{Message}
 use Rattle.coap_message.specs.Options.{option_of}
 use Rattle.coap_message.specs.Uint.{uint_spelling}
 use Rattle.coap_option.specs.declared.numbers.TheConstants.{URI_HOST, ETAG, URI_PORT, URI_PATH, URI_QUERY, PROXY_SCHEME}
-use Rattle.coap_option.specs.Selection.{sent_on}
+use Rattle.coap_option.specs.Selection.{goes_on, sent_on}
+use Rattle.coap_option.specs.Survey.{has_others}
 use Rattle.coap_endpoint.specs.declared.target.Target.{Target}
-use Rattle.coap_forward.specs.Forms.{forwarded, goes_on, merged, tagged, target_options}
+use Rattle.coap_forward.specs.Forms.{forwarded, merged, tagged, target_options}
 use Rattle.coap_forward.specs.declared.form.Form.{Form}
 use Rattle.coap_forward.specs.declared.form.Gap.{Gap}
-use Rattle.coap_forward.specs.declared.form.Source.{Source}
 use Rattle.coap_forward.specs.declared.form.Gap.TheVariants.{BeforeHost, BeforePort, BeforePath, BeforeQuery, BeforeScheme, Last}
 use Rattle.coap_forward.specs.declared.part.PartValues.{PartValues}
 use Rattle.coap_forward.specs.declared.part.PartValues.TheVariants.{Given, Kept}
@@ -60,13 +59,9 @@ end_of Last = 65535
 abbrev pub others_in : Code → Gap → List Opt → List Opt
 others_in code gap options = filter (λ o. is_in gap o.number && goes_on code o) options
 
--- a request has options that are forwarded
-abbrev pub has_others : Message → Bool
-has_others m = list_any (goes_on m.code) m.options
-
--- it is known of a form whether its request does
-abbrev pub IsSource : Source → Type 0
-IsSource source = source.others ≡ has_others source.form.request.now
+-- what a form's survey says of the options that are forwarded is right
+abbrev pub KnowsOthers : Form → Type 0
+KnowsOthers form = form.survey.has_others ≡ has_others form.request.now
 
 -- what is written for a gap, and for the part after it
 abbrev pub part_of : Message → Gap → List (List ℕ) → List Opt

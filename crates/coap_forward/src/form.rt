@@ -2,27 +2,24 @@
 //! 7252, 5.7 and 5.8).
 ghost use Rattle.std.specs.Prelude.{◌≡◌, ◌≤◌, ℕ, None, [], true, length, map, option_map, IfOk, IfSome};
 ghost use Rattle.std.specs.List.{AllByRecursion};
-ghost use Rattle.coap_message.specs.declared.code.Code.{Code};
 ghost use Rattle.coap_message.specs.Datagram.{Appends, holding, unit_of};
 ghost use Rattle.coap_message.specs.Options.{AreOptions, last_number, option_of};
-ghost use Rattle.coap_message.specs.OptRef as opt;
 ghost use Rattle.coap_message.specs.Spelling.{spelling, options_spelling};
-ghost use Rattle.coap_option.specs.declared.side.Side.{Side};
-ghost use Rattle.coap_option.specs.Screening.{first_refused};
+ghost use Rattle.coap_option.specs.Survey.{IsSurvey};
 ghost use Rattle.coap_endpoint.specs.Target.{IsTarget, IsShort};
 ghost use Rattle.coap_endpoint.specs.declared.target.Target.{Target};
-ghost use Rattle.coap_forward.specs.Forms.{goes_on, payload_sent, tag_if_fits, tag_to_send};
-ghost use Rattle.coap_forward.specs.Gaps.{back_in, end_of, floor_of, front_in, has_others, is_in, options_in, others_in, part_of, request_in, values_left, IsSource};
+ghost use Rattle.coap_forward.specs.Forms.{payload_sent, tag_if_fits, tag_to_send};
+ghost use Rattle.coap_forward.specs.Gaps.{back_in, end_of, floor_of, front_in, is_in, options_in, others_in, part_of, request_in, values_left, KnowsOthers};
 ghost use Rattle.coap_forward.specs.Messages.{is_method};
 ghost use Rattle.coap_forward.specs.declared.form.Gap.TheVariants as TheGap;
 
 use crate::part::{PartValues, host_of, port_of, scheme_of};
 use coap_endpoint::Target;
 use coap_message::{
-    Code, Datagram, Full, Head, Kind, Message, MessageRef, OptRef, Token, put_head, put_option,
+    Code, Datagram, Full, Head, Kind, Message, MessageRef, Token, put_head, put_option,
     put_payload, without_zeros,
 };
-use coap_option::{Side, numbers, recognised};
+use coap_option::{Survey, goes_on, numbers};
 use coap_store::tag_of;
 
 /// Where other options go among those of a target.
@@ -84,52 +81,14 @@ struct Part<'a> {
 pub struct Form<'f, 'a, 't> {
     /// The request of the client.
     pub request: &'f MessageRef<'a>,
+    /// What its options told. Of most requests none is forwarded, and then none is looked for in
+    /// the gaps.
+    pub survey: Survey,
     /// Its target.
     pub target: &'f Target,
     /// The tag of the stored response that the origin may validate, sent as an ETag before all
     /// others (RFC 7252, 5.6.2 and 5.10.6.2).
     pub tag: Option<&'t [u8]>,
-}
-
-/// A form, and whether any option of its request is forwarded. Of most requests none is, and then
-/// none is looked for in the gaps.
-#[derive(Clone, Copy)]
-struct Source<'f, 'a, 't> {
-    form: Form<'f, 'a, 't>,
-    others: bool,
-}
-
-/// Whether an option of a request with this code is forwarded, given that no option of the request
-/// is refused: the ETags of a GET are for the proxy (RFC 7252, 5.10.6.2).
-fn goes_on(code: Code, option: OptRef<'_>) -> bool
-    ensures { result ≡ goes_on code (opt.seen option.entry) }
-{
-    match option.number {
-        numbers::URI_HOST
-        | numbers::OBSERVE
-        | numbers::URI_PORT
-        | numbers::URI_PATH
-        | numbers::MAX_AGE
-        | numbers::URI_QUERY
-        | numbers::PROXY_URI
-        | numbers::PROXY_SCHEME => false,
-        numbers::ETAG => {
-            code != Code::GET || !recognised(Side::Request, numbers::ETAG, option.value.len(), 0)
-        }
-        _ => true,
-    }
-}
-
-/// Whether any option of a request is forwarded.
-fn has_others(request: &MessageRef<'_>) -> bool
-    ensures { result ≡ has_others request.now }
-{
-    for option in request.options() {
-        if goes_on(request.code(), option) {
-            return true;
-        }
-    }
-    false
 }
 
 // ---- options, after one with the number `before`; these return the number of the last option
@@ -139,26 +98,26 @@ fn put_others(
     out: &mut Datagram,
     room: usize,
     before: u16,
-    source: Source<'_, '_, '_>,
+    form: Form<'_, '_, '_>,
     gap: Gap,
 ) -> Result<u16, Full>
     requires room { room ≤ out.old.room }
     requires held { length out.old.bytes ≤ room }
     requires above { before ≤ floor_of gap }
-    requires known { IsSource source }
+    requires known { KnowsOthers form }
     ensures written { Appends out.old out.new room
-        (options_spelling before (others_in source.entry.form.request.now.code gap
-        source.entry.form.request.now.options))
+        (options_spelling before (others_in form.entry.request.now.code gap
+        form.entry.request.now.options))
         (unit_of result) }
     ensures last { IfOk result (λ last.
-        last ≡ last_number before (others_in source.entry.form.request.now.code gap
-        source.entry.form.request.now.options)) }
+        last ≡ last_number before (others_in form.entry.request.now.code gap
+        form.entry.request.now.options)) }
     ensures below { IfOk result (λ last. last ≤ end_of gap) }
-    ensures in_order { AreOptions 0 source.entry.form.request.now.options }
+    ensures in_order { AreOptions 0 form.entry.request.now.options }
 {
-    let request = source.form.request;
+    let request = form.request;
     let options = request.options();
-    if !source.others {
+    if !form.survey.has_others {
         return Ok(before);
     }
     let mut last = before;
@@ -204,58 +163,57 @@ fn put_part(
     out: &mut Datagram,
     room: usize,
     before: u16,
-    source: Source<'_, '_, '_>,
+    form: Form<'_, '_, '_>,
     part: Part<'_>,
 ) -> Result<u16, Full>
     requires room { room ≤ out.old.room }
     requires held { length out.old.bytes ≤ room }
     requires above { before ≤ floor_of part.gap }
-    requires known { IsSource source }
+    requires known { KnowsOthers form }
     requires within { AllByRecursion IsShort (values_left part.values) }
     ensures written { Appends out.old out.new room
         (options_spelling before
-        (part_of source.entry.form.request.now part.entry.gap (values_left part.entry.values)))
+        (part_of form.entry.request.now part.entry.gap (values_left part.entry.values)))
         (unit_of result) }
     ensures last { IfOk result (λ last.
         last
         ≡ last_number before
-        (part_of source.entry.form.request.now part.entry.gap (values_left part.entry.values))) }
+        (part_of form.entry.request.now part.entry.gap (values_left part.entry.values))) }
     ensures below { IfOk result (λ last. last ≤ end_of part.entry.gap) }
-    ensures in_order { AreOptions 0 source.entry.form.request.now.options }
+    ensures in_order { AreOptions 0 form.entry.request.now.options }
 {
     let Part { gap, values } = part;
-    let last = put_others(out, room, before, source, gap)?;
+    let last = put_others(out, room, before, form, gap)?;
     put_values(out, room, last, gap.end(), values)
 }
 
 /// Adds the options up to the Uri-Port, and the tag right after the Uri-Host, so that it comes
 /// before other ETags.
-fn put_front(out: &mut Datagram, room: usize, source: Source<'_, '_, '_>) -> Result<u16, Full>
+fn put_front(out: &mut Datagram, room: usize, form: Form<'_, '_, '_>) -> Result<u16, Full>
     requires room { room ≤ out.old.room }
     requires held { length out.old.bytes ≤ room }
-    requires target { IsTarget source.form.target.now }
-    requires known { IsSource source }
-    requires short { IfSome source.form.tag (λ tag. length tag.now ≤ 8) }
-    ensures written { Appends out.old out.new room (options_spelling 0 (front_in source.entry.form))
+    requires target { IsTarget form.target.now }
+    requires known { KnowsOthers form }
+    requires short { IfSome form.tag (λ tag. length tag.now ≤ 8) }
+    ensures written { Appends out.old out.new room (options_spelling 0 (front_in form.entry))
         (unit_of result) }
-    ensures last { IfOk result (λ last. last ≡ last_number 0 (front_in source.entry.form)) }
+    ensures last { IfOk result (λ last. last ≡ last_number 0 (front_in form.entry)) }
     ensures below { IfOk result (λ last. last ≤ floor_of TheGap.BeforePath) }
-    ensures in_order { AreOptions 0 source.entry.form.request.now.options }
+    ensures in_order { AreOptions 0 form.entry.request.now.options }
 {
-    let form = source.form;
     let target = form.target;
     let host = Part {
         gap: Gap::BeforeHost,
         values: host_of(target),
     };
-    let last = put_part(out, room, 0, source, host)?;
+    let last = put_part(out, room, 0, form, host)?;
     let last = put_values(out, room, last, numbers::ETAG, PartValues::Given(form.tag))?;
     let bytes = u64::from(target.port.unwrap_or(0)).to_be_bytes();
     let port = Part {
         gap: Gap::BeforePort,
         values: port_of(target.port, without_zeros(&bytes)),
     };
-    put_part(out, room, last, source, port)
+    put_part(out, room, last, form, port)
 }
 
 /// Adds the options after the Uri-Port.
@@ -263,49 +221,47 @@ fn put_back(
     out: &mut Datagram,
     room: usize,
     before: u16,
-    source: Source<'_, '_, '_>,
+    form: Form<'_, '_, '_>,
 ) -> Result<u16, Full>
     requires room { room ≤ out.old.room }
     requires held { length out.old.bytes ≤ room }
     requires above { before ≤ floor_of TheGap.BeforePath }
-    requires target { IsTarget source.form.target.now }
-    requires known { IsSource source }
-    ensures { Appends out.old out.new room (options_spelling before (back_in source.entry.form))
+    requires target { IsTarget form.target.now }
+    requires known { KnowsOthers form }
+    ensures { Appends out.old out.new room (options_spelling before (back_in form.entry))
         (unit_of result) }
 {
-    let target = source.form.target;
+    let target = form.target;
     let path = Part {
         gap: Gap::BeforePath,
         values: PartValues::Kept(target.path.iter()),
     };
-    let last = put_part(out, room, before, source, path)?;
+    let last = put_part(out, room, before, form, path)?;
     let query = Part {
         gap: Gap::BeforeQuery,
         values: PartValues::Kept(target.query.iter()),
     };
-    let last = put_part(out, room, last, source, query)?;
+    let last = put_part(out, room, last, form, query)?;
     let scheme = Part {
         gap: Gap::BeforeScheme,
         values: scheme_of(target),
     };
-    let last = put_part(out, room, last, source, scheme)?;
-    put_others(out, room, last, source, Gap::Last)
+    let last = put_part(out, room, last, form, scheme)?;
+    put_others(out, room, last, form, Gap::Last)
 }
 
 /// Adds all options that are forwarded.
 fn put_form_options(out: &mut Datagram, room: usize, form: Form<'_, '_, '_>) -> Result<(), Full>
     requires room { room ≤ out.old.room }
     requires held { length out.old.bytes ≤ room }
-    requires screened { first_refused Side.Request form.request.now.options ≡ None }
+    requires known { IsSurvey form.request.now form.survey }
     requires target { IsTarget form.target.now }
     requires short { IfSome form.tag (λ tag. length tag.now ≤ 8) }
     ensures { Appends out.old out.new room
         (options_spelling 0 (options_in form.entry)) result }
 {
-    let others = has_others(form.request);
-    let source = Source { form, others };
-    let last = put_front(out, room, source)?;
-    put_back(out, room, last, source)?;
+    let last = put_front(out, room, form)?;
+    put_back(out, room, last, form)?;
     Ok(())
 }
 
@@ -336,7 +292,7 @@ pub fn put_forwarded(
 ) -> Result<(), Full>
     requires room { room ≤ out.old.room }
     requires method { is_method form.request.now.code ≡ true }
-    requires screened { first_refused Side.Request form.request.now.options ≡ None }
+    requires known { IsSurvey form.request.now form.survey }
     requires target { IsTarget form.target.now }
     requires short { IfSome form.tag (λ tag. length tag.now ≤ 8) }
     ensures { Appends (holding out.old []) out.new room

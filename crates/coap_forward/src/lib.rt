@@ -7,6 +7,7 @@
 //! let token = token_of(salt, number); // of the exchange with this number
 //! let form = Form {
 //!     request: &request,
+//!     survey: survey_request(&request)?,
 //!     target: &target,
 //!     tag: None,
 //! };

@@ -5,7 +5,7 @@ use coap_dedup::{EXCHANGE_LIFETIME, Records, Seen};
 use coap_exchange::{Exchanges, Opening, Sending, Timer};
 use coap_forward::{Form, SentRequest, answer_of, put_forwarded, token_of};
 use coap_message::{Code, Datagram, MessageRef, Seq};
-use coap_option::screen_request_ref;
+use coap_option::survey_request;
 use coap_pending::Ids;
 use endpoint_counts::by_client::{count_of, enter};
 use endpoint_counts::{EndpointMap, Peer};
@@ -93,11 +93,11 @@ fn coap_forward(rt: HostRuntime) -> Result<(), Fail> {
     let request = MessageRef::read(b"\x40\x01\x12\x34\xB1t")?;
     let response = MessageRef::read(b"\x60\x45\x00\x01\xD1\x01\x0A\xFF21")?;
     let mut out = Datagram::new(alloc, 1500)?;
-    screen_request_ref(&request)?;
     assert!(rt; request.code() == Code::GET);
     let token = token_of(salt, number); // of the exchange with this number
     let form = Form {
         request: &request,
+        survey: survey_request(&request)?,
         target: &target,
         tag: None,
     };

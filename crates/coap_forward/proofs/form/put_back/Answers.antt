@@ -10,16 +10,16 @@ use Rattle.coap_forward.proofs.form.put_back.Goals as goal
 
 -- the parts
 abbrev one : After-put_part → List Opt
-one c = part_of c.args.source.form.request.now BeforePath c.args.source.form.target.now.path
+one c = part_of c.args.form.request.now BeforePath c.args.form.target.now.path
 
 abbrev two : After-put_part → List Opt
-two c = part_of c.args.source.form.request.now BeforeQuery c.args.source.form.target.now.query
+two c = part_of c.args.form.request.now BeforeQuery c.args.form.target.now.query
 
 abbrev three : After-put_part → List Opt
-three c = part_of c.args.source.form.request.now BeforeScheme (given (scheme_value c.args.source.form.target.now.port))
+three c = part_of c.args.form.request.now BeforeScheme (given (scheme_value c.args.form.target.now.port))
 
 abbrev four : After-put_part → List Opt
-four c = others_in c.args.source.form.request.now.code Last c.args.source.form.request.now.options
+four c = others_in c.args.form.request.now.code Last c.args.form.request.now.options
 
 pub returns-in_err-last : goal.returns-in_err-last
 returns-in_err-last c =

@@ -25,7 +25,7 @@ back c = back_options c.args.form.target.now c.args.form.request.now
 -- what is written of them is written of all options
 all : (c : After-put_front) (new : Datagram) (r : Result (Unit {0}) Full) → Appends c.args.out.now new c.args.room (options_spelling 0 (front c ++ back c)) r
     → Appends c.args.out.now new c.args.room (options_spelling 0 (merged (target_options c.args.form.target.now) (tagged (tag c) (sent_on c.args.form.request.now)))) r
-all c new r a = of-all c.args.form.target.now (tag c) c.args.form.request.now c.requires.target (tag-given c.args.form.tag c.requires.short) c.put_front.ensures.in_order c.requires.screened c.args.out.now new c.args.room r a
+all c new r a = of-all c.args.form.target.now (tag c) c.args.form.request.now c.requires.target (tag-given c.args.form.tag c.requires.short) c.put_front.ensures.in_order c.requires.known.screened c.args.out.now new c.args.room r a
 
 pub returns-in_err-last : goal.returns-in_err-last
 returns-in_err-last c =

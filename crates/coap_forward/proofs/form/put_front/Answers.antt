@@ -12,16 +12,16 @@ use Rattle.coap_forward.proofs.form.put_front.Goals as goal
 
 -- the parts
 abbrev one : After-put_part → List Opt
-one c = part_of c.args.source.form.request.now BeforeHost (given c.args.source.form.target.now.host)
+one c = part_of c.args.form.request.now BeforeHost (given c.args.form.target.now.host)
 
 abbrev two : After-put_part → List Opt
-two c = tag_options (option_map (λ v. v.now) c.args.source.form.tag)
+two c = tag_options (option_map (λ v. v.now) c.args.form.tag)
 
 abbrev three : After-put_part → List Opt
-three c = part_of c.args.source.form.request.now BeforePort (given (port_value c.args.source.form.target.now.port))
+three c = part_of c.args.form.request.now BeforePort (given (port_value c.args.form.target.now.port))
 
 pub put_part-requires-clause-within : goal.put_part-requires-clause-within
-put_part-requires-clause-within c = rw c.host_of.ensures (given-short c.args.source.form.target.now.host c.requires.target.host)
+put_part-requires-clause-within c = rw c.host_of.ensures (given-short c.args.form.target.now.host c.requires.target.host)
 
 pub returns-in_err-last-clause-written : goal.returns-in_err-last-clause-written
 returns-in_err-last-clause-written c =
@@ -40,11 +40,11 @@ returns-in_err-last-2-clause-written c =
     (full-first hosted new new c.args.room c.in_ok-last.last (two k) (three k) c.in_err-last-2.field-0.0 p.0 c.in_err-last-2.ensures.written))
 
 -- the values of the port
-port : (c : goal.After-put_part-2) → values_left c.port_of.result ≡ given (port_value c.args.source.form.target.now.port)
+port : (c : goal.After-put_part-2) → values_left c.port_of.result ≡ given (port_value c.args.form.target.now.port)
 unfolding uint_spelling
 port c =
-    let bytes : c.without_zeros.result.now ≡ uint_spelling (unwrap_or c.args.source.form.target.now.port 0) = search rules in
-    c.port_of.ensures ∙ ap given (ap (λ (b : List ℕ). option_map (λ (n : ℕ). b) c.args.source.form.target.now.port) bytes ∙ port-bytes c.args.source.form.target.now.port)
+    let bytes : c.without_zeros.result.now ≡ uint_spelling (unwrap_or c.args.form.target.now.port 0) = search rules in
+    c.port_of.ensures ∙ ap given (ap (λ (b : List ℕ). option_map (λ (n : ℕ). b) c.args.form.target.now.port) bytes ∙ port-bytes c.args.form.target.now.port)
 
 pub returns-clause-written : goal.returns-clause-written
 returns-clause-written c =

@@ -1,7 +1,7 @@
 use Rattle.std.proofs.Common.{◌≡◌, ◌∙◌, ◌&&◌, [], ap, refl, sym, arith, rules}
 use Rattle.std.proofs.lemmas.Grind.{common_steps}
 use Rattle.coap_message.specs.Options.{AreOptions, last_number}
-use Rattle.coap_forward.specs.Forms.{goes_on}
+use Rattle.coap_option.specs.Selection.{goes_on}
 use Rattle.coap_forward.specs.Gaps.{is_in, others_in}
 use Rattle.coap_store.proofs.PartWriting.{picked, written-all, written-next}
 use Rattle.coap_forward.proofs.Gaps.{AreOptions-others, last-others, no-others}
@@ -9,7 +9,7 @@ use Rattle.coap_forward.proofs.form.put_others.Goals as goal
 
 pub loop-option-init : goal.loop-option-init
 loop-option-init c =
-    let m = c.args.source.form.request.now in
+    let m = c.args.form.request.now in
     let list : c.options-options.result ≡ m.options = c.options-options.ensures.list in
     let in_order : AreOptions 0 m.options = c.options-options.ensures.in_order in
     rw (c.into_iter-option-iterator.ensures.into_iter_gives, list) (record {
@@ -21,21 +21,21 @@ loop-option-init c =
       behind = refl;
     })
 
-pub returns-then-not-source-clause-written : goal.returns-then-not-source-clause-written
-returns-then-not-source-clause-written c =
-    let m = c.args.source.form.request.now in
-    let none : others_in m.code c.args.gap m.options ≡ [] = no-others m.code c.args.gap m.options (sym c.requires.known ∙ c.if-not-source.true) in
+pub returns-then-not-form-clause-written : goal.returns-then-not-form-clause-written
+returns-then-not-form-clause-written c =
+    let m = c.args.form.request.now in
+    let none : others_in m.code c.args.gap m.options ≡ [] = no-others m.code c.args.gap m.options (sym c.requires.known ∙ c.if-not-form.true) in
     rw none (search rules)
 
-pub returns-then-not-source-clause-last : goal.returns-then-not-source-clause-last
-returns-then-not-source-clause-last c =
-    let m = c.args.source.form.request.now in
-    let none : others_in m.code c.args.gap m.options ≡ [] = no-others m.code c.args.gap m.options (sym c.requires.known ∙ c.if-not-source.true) in
+pub returns-then-not-form-clause-last : goal.returns-then-not-form-clause-last
+returns-then-not-form-clause-last c =
+    let m = c.args.form.request.now in
+    let none : others_in m.code c.args.gap m.options ≡ [] = no-others m.code c.args.gap m.options (sym c.requires.known ∙ c.if-not-form.true) in
     rw none refl
 
 pub returns-clause-below : goal.returns-clause-below
 returns-clause-below c =
-    let m = c.args.source.form.request.now in
+    let m = c.args.form.request.now in
     let last : c.loop-option.last ≡ last_number c.args.before (others_in m.code c.args.gap m.options) = rw c.in-None.ensures.steps.0 at c.loop-option.invariant.behind in
     let in_order : AreOptions 0 m.options = c.options-options.ensures.in_order in
     omega (arith, last, last-others m.code c.args.gap c.args.before m.options in_order c.requires.above)
@@ -49,10 +49,10 @@ pub loop-option-preserved-then-goes_on : goal.loop-option-preserved-then-goes_on
 loop-option-preserved-then-goes_on c =
     let on = rw c.code.ensures.exact at c.if-goes_on.ensures in
     let has = c.if-has.ensures in
-    let next = picked (λ o. is_in c.args.gap o.number && goes_on c.args.source.form.request.now.code o) _ _ _ c.in-Some.ensures.steps (sym (λ i. has i && on i)) in
+    let next = picked (λ o. is_in c.args.gap o.number && goes_on c.args.form.request.now.code o) _ _ _ c.in-Some.ensures.steps (sym (λ i. has i && on i)) in
     written-next _ _ _ _ _ _ _ _ _ _ next c.loop-option.invariant c.in_ok-put_option.ensures
 
 pub returns-clause-written : goal.returns-clause-written
 returns-clause-written c =
-    let none = ap (λ os. others_in c.args.source.form.request.now.code c.args.gap os) c.in-None.ensures.steps.0 in
+    let none = ap (λ os. others_in c.args.form.request.now.code c.args.gap os) c.in-None.ensures.steps.0 in
     written-all _ _ _ _ _ _ _ none c.loop-option.invariant

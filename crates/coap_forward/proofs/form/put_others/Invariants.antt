@@ -9,7 +9,7 @@ invariant-loop-option l = record {
   room : l.out.room ≡ l.fn.out.room;
   longer : length l.fn.out.bytes ≤ length l.out.bytes;
   within : length l.out.bytes ≤ l.room;
-  in_order : AreOptions l.last (others_in l.source.form.request.now.code l.gap l.option-iterator);
-  written : l.out.bytes ++ options_spelling l.last (others_in l.source.form.request.now.code l.gap l.option-iterator) ≡ l.fn.out.bytes ++ options_spelling l.before (others_in l.source.form.request.now.code l.gap l.source.form.request.now.options);
-  behind : last_number l.last (others_in l.source.form.request.now.code l.gap l.option-iterator) ≡ last_number l.before (others_in l.source.form.request.now.code l.gap l.source.form.request.now.options);
+  in_order : AreOptions l.last (others_in l.form.request.now.code l.gap l.option-iterator);
+  written : l.out.bytes ++ options_spelling l.last (others_in l.form.request.now.code l.gap l.option-iterator) ≡ l.fn.out.bytes ++ options_spelling l.before (others_in l.form.request.now.code l.gap l.form.request.now.options);
+  behind : last_number l.last (others_in l.form.request.now.code l.gap l.option-iterator) ≡ last_number l.before (others_in l.form.request.now.code l.gap l.form.request.now.options);
 }
