@@ -1,7 +1,7 @@
 -- The request that is sent on, as it is written: its head, then its options, part by part.
 use Rattle.std.proofs.Common.{◌≡◌, ℕ, ◌<◌, ◌≤◌, Bool, true, false, cond, ltb, leb, List, [], ◌∷◌, ◌++◌, length, map, filter, Option, Some, None, Result, Ok, Err, refl, sym, ap, ◌∙◌, subst, append_assoc, arith, lit≤, Bor}
-use Rattle.std.specs.Prelude.{◌&&◌, ◌||◌, IfSome, IfOk, option_map, unwrap_or}
-use Rattle.std.specs.List.{list_any, AllByRecursion}
+use Rattle.std.specs.Prelude.{◌&&◌, IfSome, IfOk, option_map, unwrap_or}
+use Rattle.std.specs.List.{AllByRecursion}
 use Rattle.std.proofs.lemmas.Bool.{lt-leb, le-leb, leb-false, ltb-true, ltb-false, le-ltb}
 use Rattle.std.proofs.lemmas.List.{length-append}
 use Rattle.coap_message.specs.declared.error.Full.{Full}
@@ -19,15 +19,18 @@ use Rattle.coap_message.specs.Uint.{uint_spelling}
 use Rattle.coap_option.specs.declared.side.Side.TheVariants.{Request}
 use Rattle.coap_option.specs.Screening.{first_refused}
 use Rattle.coap_option.specs.Selection.{sent_on}
+use Rattle.coap_option.specs.declared.survey.Span.{Span}
+use Rattle.coap_option.specs.Survey.{span_of, widened_by}
+use Rattle.coap_option.proofs.Passing.{last_number-le}
 use Rattle.coap_endpoint.specs.declared.target.Target.{Target}
 use Rattle.coap_endpoint.specs.Target.{IsPort, IsShort, IsTarget}
 use Rattle.coap_store.specs.Renewing.{below, above}
-use Rattle.coap_store.proofs.Picked.{AreOptions-above, AreOptions-weaken}
+use Rattle.coap_store.proofs.Picked.{AreOptions-above, AreOptions-filter, AreOptions-weaken}
 use Rattle.coap_forward.specs.Forms.{is_used_up, goes_on, put_in, merged, host_options, port_options, scheme_options, target_options, tagged}
 use Rattle.coap_forward.proofs.Forms.{AreUnused, IsShortTag, AreOptions-merged, filter-put_in, sent-screened, sent-unused, sent-options, tagged-options, tagged-unused}
 use Rattle.coap_forward.specs.declared.form.Gap.{Gap}
 use Rattle.coap_forward.specs.declared.form.Gap.TheVariants.{BeforeHost, BeforePort, BeforePath, BeforeQuery, BeforeScheme, Last}
-use Rattle.coap_forward.specs.Gaps.{given, is_in, floor_of, end_of, others_in, port_value, scheme_value, tag_options, front_options, back_options}
+use Rattle.coap_forward.specs.Gaps.{given, is_in, floor_of, end_of, meets, others_in, port_value, scheme_value, tag_options, front_options, back_options}
 
 -- ---- writing
 
@@ -87,16 +90,6 @@ in-gap BeforePath number is = let lt = ltb-true 7 number (first-holds (ltb 7 num
 in-gap BeforeQuery number is = let lt = ltb-true 11 number (first-holds (ltb 11 number) (ltb number 15) is) in omega arith
 in-gap BeforeScheme number is = let lt = ltb-true 15 number (first-holds (ltb 15 number) (ltb number 39) is) in omega arith
 in-gap Last number is = let lt = ltb-true 39 number is in omega arith
-
--- where no option is forwarded, there are none in a gap
-pub no-others : (code : Code) (gap : Gap) (os : List Opt) → list_any (goes_on code) os ≡ false → others_in code gap os ≡ []
-no-others code gap [] none = refl
-no-others code gap (o ∷ os) none = go (goes_on code o) (is_in gap o.number) none (no-others code gap os)
-  where
-    go : (b c : Bool) → (b || list_any (goes_on code) os) ≡ false → (list_any (goes_on code) os ≡ false → others_in code gap os ≡ []) → cond (c && b) (o ∷ others_in code gap os) (others_in code gap os) ≡ []
-    go true c e rest = absurd cc
-    go false true e rest = rest e
-    go false false e rest = rest e
 
 -- the others in a gap are in order after what may stand before it
 pub AreOptions-others : (code : Code) (gap : Gap) (before : ℕ) (os : List Opt) → before ≤ floor_of gap → AreOptions 0 os → AreOptions before (others_in code gap os)
@@ -224,6 +217,45 @@ fuse p g (o ∷ os) = go (p o) refl (g o) (fuse p g os)
     go true e false rest = rest
     go false e true rest = rw (e, rest) refl
     go false e false rest = rest
+
+module _ (gap : Gap) where
+  -- no option above the end of the gap is in it
+  none-above : (low : ℕ) (os : List Opt) → AreOptions low os → end_of gap < low → filter (λ o. is_in gap o.number) os ≡ []
+  none-above low [] are above = refl
+  none-above low (o ∷ os) are above = go (is_in gap o.number) refl (none-above o.number os are.3 (omega (arith, are.0)))
+    where
+      go : (b : Bool) → is_in gap o.number ≡ b → filter (λ p. is_in gap p.number) os ≡ [] → cond b (o ∷ filter (λ p. is_in gap p.number) os) (filter (λ p. is_in gap p.number) os) ≡ []
+      go true e rest = absurd (let le = below-end gap o.number are.1 e in omega (arith, are.0, le))
+      go false e rest = rest
+
+  -- nor one below its floor
+  none-below : (low : ℕ) (os : List Opt) → AreOptions low os → last_number low os < floor_of gap → filter (λ o. is_in gap o.number) os ≡ []
+  none-below low [] are below = refl
+  none-below low (o ∷ os) are below = go (is_in gap o.number) refl (none-below o.number os are.3 below)
+    where
+      go : (b : Bool) → is_in gap o.number ≡ b → filter (λ p. is_in gap p.number) os ≡ [] → cond b (o ∷ filter (λ p. is_in gap p.number) os) (filter (λ p. is_in gap p.number) os) ≡ []
+      go true e rest = absurd (let le = in-gap gap o.number e in let last = last_number-le o.number os are.3 in omega (arith, le, last))
+      go false e rest = rest
+
+  -- so none of those whose span doesn't reach into it
+  none-met : (os : List Opt) → AreOptions 0 os → meets gap (span_of os) ≡ false → filter (λ o. is_in gap o.number) os ≡ []
+  none-met [] are misses = refl
+  none-met (o ∷ os) are misses = go (leb (floor_of gap) (last_number o.number os)) refl (leb o.number (end_of gap)) refl (ap (meets gap) (sym (spans (record { least = o.number; greatest = o.number }) os)) ∙ misses)
+    where
+      spans : (s : Span) (xs : List Opt) → widened_by (Some s) xs ≡ Some (record { least = s.least; greatest = last_number s.greatest xs })
+      spans s [] = refl
+      spans s (x ∷ xs) = spans (record { least = s.least; greatest = x.number }) xs
+
+      go : (a : Bool) → leb (floor_of gap) (last_number o.number os) ≡ a → (b : Bool) → leb o.number (end_of gap) ≡ b → (leb (floor_of gap) (last_number o.number os) && leb o.number (end_of gap)) ≡ false → filter (λ p. is_in gap p.number) (o ∷ os) ≡ []
+      go true e true f both = absurd (let g = sym (λ i. e i && f i) ∙ both in cc)
+      go true e false f both = none-above o.number (o ∷ os) (omega arith, are.1, are.2, are.3) (leb-false o.number (end_of gap) f)
+      go false e b f both = none-below 0 (o ∷ os) are (leb-false (floor_of gap) (last_number o.number os) e)
+
+-- where the span of the options that are forwarded doesn't reach into a gap, none of them is in it
+pub no-others : (code : Code) (gap : Gap) (os : List Opt) → AreOptions 0 os → meets gap (span_of (filter (goes_on code) os)) ≡ false → others_in code gap os ≡ []
+no-others code gap os are misses =
+    fuse (λ o. is_in gap o.number) (goes_on code) os
+    ∙ none-met gap (filter (goes_on code) os) (AreOptions-filter (goes_on code) 0 os are) misses
 
 -- one of two parts that are tested in the other order
 fuse-both : (p q g : Opt → Bool) (os : List Opt) → filter (λ o. (p o && q o) && g o) os ≡ filter q (filter p (filter g os))

@@ -9,7 +9,7 @@ ghost use Rattle.coap_option.specs.Survey.{IsSurvey};
 ghost use Rattle.coap_endpoint.specs.Target.{IsTarget, IsShort};
 ghost use Rattle.coap_endpoint.specs.declared.target.Target.{Target};
 ghost use Rattle.coap_forward.specs.Forms.{payload_sent, tag_if_fits, tag_to_send};
-ghost use Rattle.coap_forward.specs.Gaps.{back_in, end_of, floor_of, front_in, is_in, options_in, others_in, part_of, request_in, values_left, KnowsOthers};
+ghost use Rattle.coap_forward.specs.Gaps.{back_in, end_of, floor_of, front_in, is_in, meets, options_in, others_in, part_of, request_in, values_left, KnowsOthers};
 ghost use Rattle.coap_forward.specs.Messages.{is_method};
 ghost use Rattle.coap_forward.specs.declared.form.Gap.TheVariants as TheGap;
 
@@ -19,7 +19,7 @@ use coap_message::{
     Code, Datagram, Full, Head, Kind, Message, MessageRef, Token, put_head, put_option,
     put_payload, without_zeros,
 };
-use coap_option::{Survey, goes_on, numbers};
+use coap_option::{Span, Survey, goes_on, numbers};
 use coap_store::tag_of;
 
 /// Where other options go among those of a target.
@@ -54,6 +54,30 @@ impl Gap {
         }
     }
 
+    /// The greatest number of the options before the gap.
+    fn floor(self) -> u16
+        ensures { result ≡ floor_of self }
+    {
+        match self {
+            Gap::BeforeHost => 0,
+            Gap::BeforePort => numbers::ETAG,
+            Gap::BeforePath => numbers::URI_PORT,
+            Gap::BeforeQuery => numbers::URI_PATH,
+            Gap::BeforeScheme => numbers::URI_QUERY,
+            Gap::Last => numbers::PROXY_SCHEME,
+        }
+    }
+
+    /// Whether options whose numbers have this span may go there.
+    fn meets(self, span: Option<Span>) -> bool
+        ensures { result ≡ meets self span }
+    {
+        match span {
+            Some(span) => self.floor() <= span.greatest && span.least <= self.end(),
+            None => false,
+        }
+    }
+
     /// The number of the target's options that follow the gap. None follow the last gap.
     fn end(self) -> u16
         ensures { result ≡ end_of self }
@@ -81,8 +105,8 @@ struct Part<'a> {
 pub struct Form<'f, 'a, 't> {
     /// The request of the client.
     pub request: &'f MessageRef<'a>,
-    /// What its options told. Of most requests none is forwarded, and then none is looked for in
-    /// the gaps.
+    /// What its options told. Only in the gaps that it says is an option looked for that is
+    /// forwarded: for most requests in none.
     pub survey: Survey,
     /// Its target.
     pub target: &'f Target,
@@ -117,7 +141,7 @@ fn put_others(
 {
     let request = form.request;
     let options = request.options();
-    if !form.survey.has_others {
+    if !gap.meets(form.survey.others) {
         return Ok(before);
     }
     let mut last = before;

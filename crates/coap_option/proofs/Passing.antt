@@ -11,7 +11,7 @@ use Rattle.coap_option.specs.Passing.{before_of, run_behind, places_after}
 use Rattle.coap_option.specs.Places.{PlacedOption, count_of, places, places_behind}
 
 -- numbers don't decrease
-last_number-le : (b : ℕ) (xs : List Opt) → AreOptions b xs → b ≤ last_number b xs
+pub last_number-le : (b : ℕ) (xs : List Opt) → AreOptions b xs → b ≤ last_number b xs
 last_number-le b [] are = omega arith
 last_number-le b (y ∷ ys) are = omega (arith, are.0, last_number-le y.number ys are.3)
 

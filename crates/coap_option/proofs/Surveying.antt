@@ -14,7 +14,7 @@ use Rattle.coap_option.specs.Places.{PlacedOption, places}
 use Rattle.coap_option.specs.Screening.{is_refused, first_refused}
 use Rattle.coap_option.specs.Selection.{goes_on, is_key, is_of, key_of, stays}
 use Rattle.coap_option.specs.Side.{side_of}
-use Rattle.coap_option.specs.Survey.{IsSurvey, are_any, is_of_uri, of_none, with_all, with_one}
+use Rattle.coap_option.specs.Survey.{IsSurvey, are_any, is_of_uri, of_none, widened, widened_by, with_all, with_one}
 use Rattle.coap_option.proofs.Clean.{all-alone, goes-on, in_key, key-screened, of-places, screened-clean}
 use Rattle.coap_option.proofs.Picking.{added-next, selected-in_order}
 
@@ -64,6 +64,19 @@ all-same : (test : PlacedOption → Bool) (alone : Opt → Bool) (ps : List Plac
 all-same test alone [] same = tt
 all-same test alone (p ∷ ps) same = (same p, all-same test alone ps same)
 
+-- and of the options that are forwarded
+told-others : (code : Code) (s : Survey) (ps : List PlacedOption) → (with_all code s ps).others ≡ widened_by s.others (map (λ p. p.option) (filter (λ p. not (stays code p)) ps))
+told-others code s [] = refl
+told-others code s (p ∷ ps) = go (stays code p) (told-others code (with_one code s p) ps)
+  where
+    more : List PlacedOption
+    more = filter (λ q. not (stays code q)) ps
+
+    go : (b : Bool) → (with_all code (with_one code s p) ps).others ≡ widened_by (cond b s.others (widened s.others p.option.number)) (map (λ q. q.option) more)
+        → (with_all code (with_one code s p) ps).others ≡ widened_by s.others (map (λ q. q.option) (cond (not b) (p ∷ more) more))
+    go true rest = rest
+    go false rest = rest
+
 -- after the last option the survey is that of the request
 pub surveyed-all : (m : Message) (survey : Survey) → with_all m.code of_none (places m.options) ≡ survey → first_refused Request m.options ≡ None → IsSurvey m survey
 surveyed-all m survey is screened =
@@ -73,7 +86,7 @@ surveyed-all m survey is screened =
       uri = sym (ap (λ (s : Survey). s.says_uri) is) ∙ told m.code (λ s. s.says_uri) (λ p. is_of_uri p.option.number) (λ s p. refl) of_none ps ∙ any-alone (λ p. is_of_uri p.option.number) (λ o. is_of_uri o.number) ps (all-same _ _ ps (λ p. refl)) ∙ ap (list_any (λ (o : Opt). is_of_uri o.number)) (of-places [] m.options);
       key = sym (ap (λ (s : Survey). s.has_key) is) ∙ told m.code (λ s. s.has_key) (is_key m.code) (λ s p. refl) of_none ps ∙ any-picked (is_key m.code) (λ p. p.option) ps;
       tags = sym (ap (λ (s : Survey). s.has_tags) is) ∙ told m.code (λ s. s.has_tags) (is_of (side_of m.code) 4) (λ s p. refl) of_none ps ∙ any-picked (is_of (side_of m.code) 4) (λ p. p.option.value) ps;
-      others = sym (ap (λ (s : Survey). s.has_others) is) ∙ told m.code (λ s. s.has_others) (λ p. not (stays m.code p)) (λ s p. refl) of_none ps ∙ any-alone (λ p. not (stays m.code p)) (goes_on m.code) ps (all-alone (λ p. not (stays m.code p)) (goes_on m.code) ps (goes-on m.code) (screened-clean m.options screened)) ∙ ap (list_any (goes_on m.code)) (of-places [] m.options);
+      others = sym (ap (λ (s : Survey). s.others) is) ∙ told-others m.code of_none ps;
     }
 
 -- ---- the options that are part of the key

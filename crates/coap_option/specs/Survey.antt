@@ -1,15 +1,16 @@
 -- What one pass over the options of a request tells.
-use Rattle.std.specs.Prelude.{◌≡◌, ℕ, ◌==◌, ◌||◌, Bool, true, false, not, List, [], ◌∷◌, None}
+use Rattle.std.specs.Prelude.{◌≡◌, ℕ, ◌==◌, ◌||◌, Bool, true, false, List, [], ◌∷◌, Option, Some, None, if◌then◌else◌}
 use Rattle.std.specs.List.{list_any}
 use Rattle.coap_message.specs.declared.code.Code.{Code}
 use Rattle.coap_message.specs.declared.options.Opt.{Opt}
 use Rattle.coap_message.specs.Message.{Message}
 use Rattle.coap_option.specs.declared.numbers.TheConstants.{ETAG, PROXY_URI, PROXY_SCHEME}
 use Rattle.coap_option.specs.declared.side.Side.TheVariants.{Request}
+use Rattle.coap_option.specs.declared.survey.Span.{Span}
 use Rattle.coap_option.specs.declared.survey.Survey.{Survey}
 use Rattle.coap_option.specs.Places.{PlacedOption}
 use Rattle.coap_option.specs.Screening.{first_refused}
-use Rattle.coap_option.specs.Selection.{goes_on, is_key, is_of, key_of, stays, tags_of}
+use Rattle.coap_option.specs.Selection.{is_key, is_of, key_of, sent_on, stays, tags_of}
 use Rattle.coap_option.specs.Side.{side_of}
 
 -- an option with this number gives a URI, or its scheme (RFC 7252, 5.10.2)
@@ -24,9 +25,19 @@ say_uri options = list_any (λ o. is_of_uri o.number) options
 abbrev pub says_uri : Message → Bool
 says_uri m = say_uri m.options
 
--- a request has options that are forwarded, if none is refused
-abbrev pub has_others : Message → Bool
-has_others m = list_any (goes_on m.code) m.options
+-- the least and the greatest number of options in order, with one more
+abbrev pub widened : Option Span → ℕ → Option Span
+widened None number = Some (record { least = number; greatest = number })
+widened (Some span) number = Some (record { least = span.least; greatest = number })
+
+-- and with more of them
+abbrev pub widened_by : Option Span → List Opt → Option Span
+widened_by span [] = span
+widened_by span (o ∷ os) = widened_by (widened span o.number) os
+
+-- the least and the greatest number of options in order, if there are any
+abbrev pub span_of : List Opt → Option Span
+span_of options = widened_by None options
 
 -- there are any of them
 abbrev pub are_any : {A : Type 0} → List A → Bool
@@ -35,13 +46,13 @@ are_any (x ∷ xs) = true
 
 -- No option of the request is refused, and what the survey says of it is right: whether its target
 -- is given as a URI, whether there are options that are part of its key, whether there are
--- recognised ETags, and whether there are options that are forwarded.
+-- recognised ETags, and from which number to which there are options that are forwarded.
 pub record IsSurvey (m : Message) (survey : Survey) : Type 0 where
   pub screened : first_refused Request m.options ≡ None
   pub uri : survey.says_uri ≡ says_uri m
   pub key : survey.has_key ≡ are_any (key_of m)
   pub tags : survey.has_tags ≡ are_any (tags_of m)
-  pub others : survey.has_others ≡ has_others m
+  pub others : survey.others ≡ span_of (sent_on m)
 
 -- a survey of some options of a request with this code, and of one more
 abbrev pub with_one : Code → Survey → PlacedOption → Survey
@@ -50,7 +61,7 @@ with_one code survey p =
       says_uri = survey.says_uri || is_of_uri p.option.number;
       has_key = survey.has_key || is_key code p;
       has_tags = survey.has_tags || is_of (side_of code) ETAG p;
-      has_others = survey.has_others || not (stays code p);
+      others = if stays code p then survey.others else widened survey.others p.option.number;
     }
 
 -- and of all of a list
@@ -60,4 +71,4 @@ with_all code survey (p ∷ ps) = with_all code (with_one code survey p) ps
 
 -- a survey of no options
 abbrev pub of_none : Survey
-of_none = record { says_uri = false; has_key = false; has_tags = false; has_others = false }
+of_none = record { says_uri = false; has_key = false; has_tags = false; others = None }

@@ -32,4 +32,4 @@ pub use selection::{
     forward_options, goes_on, key_options, key_options_into, max_age, tags, tags_into,
 };
 pub use side::Side;
-pub use survey::{Survey, survey_request};
+pub use survey::{Span, Survey, survey_request};

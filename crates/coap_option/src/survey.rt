@@ -5,7 +5,7 @@ ghost use Rattle.coap_message.specs.OptRef.{seen};
 ghost use Rattle.coap_option.specs.Places.{is_recognised_at};
 ghost use Rattle.coap_option.specs.Screening.{first_refused};
 ghost use Rattle.coap_option.specs.Selection.{key_of, tags_of};
-ghost use Rattle.coap_option.specs.Survey.{IsSurvey, of_none, with_one};
+ghost use Rattle.coap_option.specs.Survey.{IsSurvey, of_none, widened, with_one};
 ghost use Rattle.coap_option.specs.Table.{row_of};
 
 use crate::classes::{is_no_cache_key, is_unsafe};
@@ -18,6 +18,27 @@ use crate::side::Side;
 use crate::table::Row;
 use coap_message::{Code, MessageRef, OptRef, OptionList, OutOfMemory, Pieces};
 
+/// The least and the greatest number of some options.
+#[derive(Clone, Copy)]
+pub struct Span {
+    pub least: u16,
+    pub greatest: u16,
+}
+
+/// The span of some options and of one more, whose number isn't lower.
+fn widened(span: Option<Span>, number: u16) -> Option<Span>
+    ensures { result ≡ widened span number }
+{
+    let least = match span {
+        Some(span) => span.least,
+        None => number,
+    };
+    Some(Span {
+        least,
+        greatest: number,
+    })
+}
+
 /// What a pass over the options of a request tells, if it rejects none of them.
 #[derive(Clone, Copy)]
 pub struct Survey {
@@ -27,8 +48,9 @@ pub struct Survey {
     pub has_key: bool,
     /// Some ETags are recognised (RFC 7252, 5.10.6).
     pub has_tags: bool,
-    /// Some options are forwarded beside those of the target (RFC 7252, 5.7).
-    pub has_others: bool,
+    /// The options that are forwarded beside those of the target, if there are any, have numbers
+    /// within this span (RFC 7252, 5.7).
+    pub others: Option<Span>,
 }
 
 impl Survey {
@@ -40,7 +62,7 @@ impl Survey {
             says_uri: false,
             has_key: false,
             has_tags: false,
-            has_others: false,
+            others: None,
         }
     }
 
@@ -70,7 +92,11 @@ impl Survey {
             says_uri: self.says_uri || is_uri,
             has_key: self.has_key || (!stays && !is_no_cache_key(number)),
             has_tags: self.has_tags || is_tag,
-            has_others: self.has_others || !stays,
+            others: if stays {
+                self.others
+            } else {
+                widened(self.others, number)
+            },
         }
     }
 

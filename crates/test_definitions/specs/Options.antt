@@ -1,10 +1,11 @@
 -- Messages for the examples, and what is computed over the whole option table.
-use Rattle.std.specs.Prelude.{ℕ, ◌+◌, ◌-◌, ◌==◌, ◌&&◌, ◌||◌, Bool, not, List, [], ◌∷◌, replicate}
+use Rattle.std.specs.Prelude.{ℕ, ◌+◌, ◌-◌, ◌==◌, ◌&&◌, ◌||◌, Bool, not, List, [], ◌∷◌, Option, Some, replicate}
 use Rattle.coap_message.specs.declared.kind.Kind.TheVariants.{Con}
 use Rattle.coap_message.specs.declared.options.Opt.{Opt}
 use Rattle.coap_message.specs.Message.{Message, message_of}
 use Rattle.coap_message.specs.Options.{option_of}
 use Rattle.coap_option.specs.declared.side.Side.{Side}
+use Rattle.coap_option.specs.declared.survey.Span.{Span}
 use Rattle.coap_option.specs.declared.survey.Survey.{Survey}
 use Rattle.coap_option.specs.Places.{places}
 use Rattle.coap_option.specs.Recognition.{is_recognised}
@@ -81,3 +82,7 @@ unknown = option_of 65000 (0xAA ∷ 0x0B ∷ []) ∷ zeros 65532 0 ∷ []
 -- what the pass over the options of a request tells
 abbrev pub survey_of : Message → Survey
 survey_of m = with_all m.code of_none (places m.options)
+
+-- options with numbers from the one to the other
+abbrev pub from_to : ℕ → ℕ → Option Span
+from_to least greatest = Some (record { least = least; greatest = greatest })

@@ -1,5 +1,5 @@
 //! Options, computed with the definitions of `coap_option`.
-ghost use Rattle.std.specs.Prelude.{◌≡◌, ◌∷◌, [], false, true, map, filter};
+ghost use Rattle.std.specs.Prelude.{◌≡◌, ◌∷◌, [], false, true, Some, map, filter};
 ghost use Rattle.std.specs.List.{list_all, range_with_len};
 ghost use Rattle.coap_message.specs.Codes.{code_of};
 ghost use Rattle.coap_message.specs.Options.{option_of};
@@ -8,7 +8,7 @@ ghost use Rattle.coap_option.specs.Screening.{first_refused};
 ghost use Rattle.coap_option.specs.Selection.{key_of, max_age_of, sent_on, tags_of};
 ghost use Rattle.coap_option.specs.Side.{side_of};
 ghost use Rattle.coap_option.specs.Survey.{of_none, says_uri};
-ghost use Rattle.test_definitions.specs.Options.{content, get, has_range, is_known, longer, not_used_up, of_requests, of_responses, put, survey_of, tagged, unknown, zeros};
+ghost use Rattle.test_definitions.specs.Options.{content, from_to, get, has_range, is_known, longer, not_used_up, of_requests, of_responses, put, survey_of, tagged, unknown, zeros};
 
 use coap_option::Side;
 use coap_option::numbers::*;
@@ -130,14 +130,16 @@ pub fn surveyed()
         ≡ of_none }
     ensures named { survey_of (get (zeros 35 1 ∷ [])) ≡ record of_none { says_uri = true } }
     ensures accept { survey_of (get (zeros 11 1 ∷ zeros 17 1 ∷ []))
-        ≡ record of_none { has_key = true; has_others = true } }
+        ≡ record of_none { has_key = true; others = from_to 17 17 } }
     ensures size1 { survey_of (get (zeros 11 1 ∷ zeros 60 1 ∷ []))
-        ≡ record of_none { has_others = true } }
+        ≡ record of_none { others = from_to 60 60 } }
     ensures tag_of_get { survey_of (get (zeros 4 1 ∷ [])) ≡ record of_none { has_tags = true } }
     ensures long_tag { survey_of (get (zeros 4 9 ∷ []))
-        ≡ record of_none { has_key = true; has_others = true } }
+        ≡ record of_none { has_key = true; others = from_to 4 4 } }
     ensures tag_of_put { survey_of (put (zeros 4 1 ∷ []))
-        ≡ record of_none { has_key = true; has_tags = true; has_others = true } }
+        ≡ record of_none { has_key = true; has_tags = true; others = from_to 4 4 } }
+    ensures if_match_to_size1 { survey_of (put not_used_up)
+        ≡ record of_none { has_key = true; has_tags = true; others = from_to 1 60 } }
 {}
 
 /// For some GETs, the options that are forwarded, those that are part of the key, and the tags: one

@@ -1,8 +1,11 @@
 use Rattle.std.proofs.Common.{◌≡◌, ◌∙◌, ◌&&◌, [], ap, refl, sym, arith, rules}
-use Rattle.std.proofs.lemmas.Grind.{common_steps}
+use Rattle.std.proofs.lemmas.Result.{err_from_is_err_and}
+use Rattle.coap_message.specs.OptRef.{seen}
 use Rattle.coap_message.specs.Options.{AreOptions, last_number}
+use Rattle.coap_message.specs.Spelling.{option_spelling, options_spelling}
+use Rattle.coap_message.proofs.Appending.{Appends-part}
 use Rattle.coap_option.specs.Selection.{goes_on}
-use Rattle.coap_forward.specs.Gaps.{is_in, others_in}
+use Rattle.coap_forward.specs.Gaps.{is_in, meets, others_in}
 use Rattle.coap_store.proofs.PartWriting.{picked, written-all, written-next}
 use Rattle.coap_forward.proofs.Gaps.{AreOptions-others, last-others, no-others}
 use Rattle.coap_forward.proofs.form.put_others.Goals as goal
@@ -21,16 +24,16 @@ loop-option-init c =
       behind = refl;
     })
 
-pub returns-then-not-form-clause-written : goal.returns-then-not-form-clause-written
-returns-then-not-form-clause-written c =
+pub returns-then-not-meets-clause-written : goal.returns-then-not-meets-clause-written
+returns-then-not-meets-clause-written c =
     let m = c.args.form.request.now in
-    let none : others_in m.code c.args.gap m.options ≡ [] = no-others m.code c.args.gap m.options (sym c.requires.known ∙ c.if-not-form.true) in
+    let none : others_in m.code c.args.gap m.options ≡ [] = no-others m.code c.args.gap m.options c.options-options.ensures.in_order (ap (meets c.args.gap) (sym c.requires.known) ∙ sym c.if-not-meets.ensures) in
     rw none (search rules)
 
-pub returns-then-not-form-clause-last : goal.returns-then-not-form-clause-last
-returns-then-not-form-clause-last c =
+pub returns-then-not-meets-clause-last : goal.returns-then-not-meets-clause-last
+returns-then-not-meets-clause-last c =
     let m = c.args.form.request.now in
-    let none : others_in m.code c.args.gap m.options ≡ [] = no-others m.code c.args.gap m.options (sym c.requires.known ∙ c.if-not-form.true) in
+    let none : others_in m.code c.args.gap m.options ≡ [] = no-others m.code c.args.gap m.options c.options-options.ensures.in_order (ap (meets c.args.gap) (sym c.requires.known) ∙ sym c.if-not-meets.ensures) in
     rw none refl
 
 pub returns-clause-below : goal.returns-clause-below
@@ -42,8 +45,15 @@ returns-clause-below c =
 
 pub returns-in_err-put_option-clause-written : goal.returns-in_err-put_option-clause-written
 returns-in_err-put_option-clause-written c =
+    let m = c.args.form.request.now in
+    let l = c.loop-option in
+    let o = seen c.in-Some.option in
     let on = rw c.code.ensures.exact at c.if-goes_on.ensures in
-    grind (arith, common_steps)
+    let has = c.if-has.ensures in
+    let next = picked (λ o. is_in c.args.gap o.number && goes_on m.code o) _ _ _ c.in-Some.ensures.steps (sym (λ i. has i && on i)) in
+    let p = err_from_is_err_and c.from_residual.result c.from_residual.ensures.1 in
+    rw p.1 (Appends-part c.args.out.now l.out c.put_option.new.out c.args.room (option_spelling l.last o) (options_spelling o.number (others_in m.code c.args.gap c.next.new.self))
+    (options_spelling c.args.before (others_in m.code c.args.gap m.options)) c.in_err-put_option.field-0.0 p.0 l.invariant.room l.invariant.longer (rw next at l.invariant.written) c.in_err-put_option.ensures)
 
 pub loop-option-preserved-then-goes_on : goal.loop-option-preserved-then-goes_on
 loop-option-preserved-then-goes_on c =
