@@ -1,5 +1,5 @@
 -- What messages mean to a proxy: definitions shared by the step and the history, like those of
--- `Forms`, `Verdicts` and `Answers`. They are about messages alone, not about tables.
+-- `Forms` and `Answers`, and `Verdicts` of coap_model. They are about messages alone, not about tables.
 use Rattle.std.specs.Prelude.{ℕ, ◌+◌, ◌%◌, ◌^◌, ◌&&◌, ◌||◌, Bool, true, false, if◌then◌else◌, List, [], ◌∷◌, Option, Some, None}
 use Rattle.std.specs.Int.{w64, to_be_bytes}
 use Rattle.coap_message.specs.declared.kind.Kind.{Kind}
@@ -110,8 +110,8 @@ abbrev pub at_once : Message → Message → Message
 at_once request reply =
     record reply { kind = reply_kind request.kind; id = reply_id request reply.id }
 
--- what a duplicate gets: for a Confirmable message what was sent at once (RFC 7252, 4.2), and for a
--- Non-confirmable one nothing (RFC 7252, 4.3)
+-- what a duplicate gets (RFC 7252, 4.5): for a Confirmable message what was sent at once, and for a
+-- Non-confirmable one nothing
 abbrev pub told_again : Kind → List ℕ → Option (List ℕ)
 told_again kind sent = if is_con kind then Some sent else None
 

@@ -53,8 +53,8 @@ fn validates(to_get: bool, response: &MessageRef<'_>) -> bool
     to_get && response.code() == Code::VALID
 }
 
-/// A copy of what is taken from a response: all but Observe (RFC 7641, 2), and, if it validates,
-/// all but the payload too.
+/// A copy of what is taken from a response: it without Observe (RFC 7641, 2), and, if it validates,
+/// without its payload too.
 fn taken_of(alloc: Global, to_get: bool, response: &MessageRef<'_>) -> Result<Message, OutOfMemory>
     ensures { IfOk result (λ message. message ≡ taken_of to_get response.now) }
 {
@@ -74,7 +74,7 @@ fn taken_of(alloc: Global, to_get: bool, response: &MessageRef<'_>) -> Result<Me
 }
 
 /// Whether a response fits a datagram of `most` bytes with any token and any Max-Age: whether its
-/// longest form does.
+/// longest encoding does, with a token of eight bytes and a Max-Age of four.
 fn fits(message: &Message, most: usize) -> bool
     ensures { result ≡ fits most message.now }
 {
@@ -110,7 +110,8 @@ pub fn bad_gateway(alloc: Global, now: Moment) -> Answer
     own_answer(alloc, now, Code::BAD_GATEWAY)
 }
 
-/// 5.04, if no answer came in time (RFC 7252, 5.7.1). `now` is in milliseconds. Doesn't allocate.
+/// 5.04, in place of a response that didn't come in time (RFC 7252, 5.7.1 and 5.9.3.5). `now` is in
+/// milliseconds. Doesn't allocate.
 pub fn gateway_timeout(alloc: Global, now: Moment) -> Answer
     ensures exact { result ≡ own_answer now gateway_timeout }
 {
@@ -167,12 +168,12 @@ fn validated(
 pub struct SentRequest<'c> {
     /// Whether it is a GET.
     pub is_get: bool,
-    /// The stored response whose tag it carried (RFC 7252, 5.6.2).
+    /// The stored response whose tag it had (RFC 7252, 5.6.2).
     pub copy: Option<&'c Stored>,
 }
 
-/// The answer for a message that came in reply to a request (RFC 7252, 5.7.1). What may be passed
-/// on is copied. A 2.03 to a GET renews the stored response whose tag the request carried (RFC
+/// The answer for a message that came for a request (RFC 7252, 5.7.1). What may be passed
+/// on is copied. A 2.03 to a GET renews the stored response whose tag the request had (RFC
 /// 7252, 5.6.2). Everything else gives 5.02; for a Reset it doesn't allocate.
 ///
 /// # Errors
@@ -214,7 +215,7 @@ fn left_of(now: Moment, answer: &Answer) -> u32
     left_at(&answer.message, now.saturating_sub(answer.got))
 }
 
-/// The same for an origin's answer to a GET, and `None` for other answers.
+/// How many seconds an origin's answer to a GET stays fresh; `None` for every other answer.
 pub(crate) fn left_told(to_get: bool, now: Moment, answer: &Answer) -> Option<u32>
     ensures { result ≡ left_told to_get now answer.now }
 {

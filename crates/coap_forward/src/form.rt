@@ -78,7 +78,8 @@ impl Gap {
         }
     }
 
-    /// The number of the target's options that follow the gap. None follow the last gap.
+    /// The option number of the target's options that follow the gap, or 65,535 for the last one, which
+    /// none follow.
     fn end(self) -> u16
         ensures { result ≡ end_of self }
     {
@@ -289,7 +290,7 @@ fn put_form_options(out: &mut Datagram, room: usize, form: Form<'_, '_, '_>) -> 
     Ok(())
 }
 
-/// The payload of a request that is forwarded: that of a POST or a PUT (RFC 7252, 5.8).
+/// The payload of a request that is forwarded: that of a POST or a PUT (RFC 7252, 5.5 and 5.8).
 fn payload_sent<'a>(request: &MessageRef<'a>) -> &'a [u8]
     ensures { result.now ≡ payload_sent request.now }
 {
@@ -302,8 +303,9 @@ fn payload_sent<'a>(request: &MessageRef<'a>) -> &'a [u8]
 }
 
 /// Writes the request to forward for one that passed the screening, with Message ID 0, if it is at
-/// most `room` bytes: Uri-Host, a Uri-Path for each segment and a Uri-Query for each part (RFC
-/// 7252, 5.10.1), with the other options in their places. Doesn't allocate.
+/// most `room` bytes: with the options of its target (RFC 7252, 5.10.1), for another proxy also
+/// Uri-Port and Proxy-Scheme (5.10.2), the tag as an ETag, and the other options in their places.
+/// Doesn't allocate.
 ///
 /// # Errors
 /// `Full`, exactly if it is longer than `room` bytes. Part of it may have been written then.

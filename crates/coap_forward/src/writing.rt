@@ -59,7 +59,7 @@ fn try_with_max_age(
 
 // ---- what clients are sent
 
-/// Writes the reply that a client is sent for an answer to a GET or another method.
+/// Writes the message in which a client is sent an answer; `to_get` says whether that is to a GET.
 pub fn put_shown(now: Moment, answer: &Answer, to_get: bool, reply: Reply<'_>, out: &mut Datagram)
     requires fits { length (spelling (shown_in reply to_get now answer.now)) ≤ out.old.room }
     ensures { out.new ≡ holding out.old (spelling (shown_in reply.entry to_get now answer.now)) }

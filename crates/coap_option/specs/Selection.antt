@@ -21,7 +21,8 @@ use Rattle.coap_option.specs.Side.{side_of}
 abbrev pub selected : (PlacedOption → Bool) → List Opt → List Opt
 selected test options = map (λ p. p.option) (filter test (places options))
 
--- the options that the proxy consumes (RFC 7252, 5.7 and 5.10.2; RFC 7641, 2)
+-- the options that the proxy consumes (RFC 7252, 5.7, 5.10.1 and 5.10.2; RFC 7641, 2), and Max-Age,
+-- which means nothing in a request
 abbrev pub used_up : List ℕ
 used_up =
     URI_HOST ∷ OBSERVE ∷ URI_PORT ∷ URI_PATH ∷ MAX_AGE ∷ URI_QUERY ∷ PROXY_URI ∷ PROXY_SCHEME ∷ []

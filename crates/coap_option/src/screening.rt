@@ -46,7 +46,7 @@ pub fn screen_request(message: &Message) -> Result<(), BadOption>
     screen(Side::Request, &message.options.lent())
 }
 
-/// The same for a request that is borrowed.
+/// `screen_request` for a borrowed request.
 ///
 /// # Errors
 /// The number of its first option that is unsafe and not recognised.
@@ -71,7 +71,7 @@ pub fn screen_response(message: &Message) -> Result<(), BadOption>
     screen(Side::Response, &message.options.lent())
 }
 
-/// The same for a response that is borrowed.
+/// `screen_response` for a borrowed response.
 ///
 /// # Errors
 /// The number of its first option that is unsafe and not recognised.

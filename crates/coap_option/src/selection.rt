@@ -156,8 +156,8 @@ pub fn key_options_into(list: &mut OptionList, message: &MessageRef<'_>) -> Resu
     selected
 }
 
-/// The values of the recognised ETags, in order: of a request, any number of them; of a response,
-/// only the first, and only if its length is in range (RFC 7252, 5.10.6).
+/// The values of the ETags, in order, whose lengths are in range: of a request any number, of a
+/// response only the first (RFC 7252, 5.10.6).
 ///
 /// # Errors
 /// Out of memory. Nothing is allocated if there is no recognised ETag.

@@ -1,4 +1,4 @@
-//! The two sides of an exchange (RFC 7252, 5.1 and 5.2).
+//! Whether a message is on the side of requests or of responses (RFC 7252, 5.1 and 5.2).
 ghost use Rattle.std.specs.Prelude.{◌≡◌};
 
 use coap_message::Code;
@@ -13,8 +13,8 @@ pub enum Side {
 impl Side {
     ghost use Rattle.coap_option.specs.Side.{side_of};
 
-    /// The side of a message with this code: requests for a code of class 0, responses for any
-    /// other.
+    /// The side of a message with this code: requests for a code of class 0, which Empty is
+    /// too, responses for any other.
     pub fn of(code: Code) -> Side
         ensures { result ≡ side_of code }
     {

@@ -42,7 +42,7 @@ impl Row {
     ghost use Rattle.coap_option.specs.Table.{row_of};
     ghost use Rattle.coap_option.specs.Recognition.{times_of, recognises};
 
-    /// The definition of the option with this number, if it is defined at all.
+    /// The definition of the option with this number, if it is recognised anywhere.
     pub(crate) fn of(number: u16) -> Option<Row>
         ensures { result ≡ row_of number }
     {

@@ -17,7 +17,7 @@ pub enum TargetError {
     /// (5.05, RFC 7252, 5.10.2).
     #[error("not proxied")]
     NotProxied,
-    /// It is for the proxy itself, and no map matches its path (4.04).
+    /// It is for the proxy itself, and no map matches its path (4.04, RFC 7252, 5.9.2.5).
     #[error("not found")]
     NotFound,
     /// There was no memory for the target.

@@ -42,7 +42,8 @@ fn copy_of(alloc: Global, host: &Option<Seq<u8>>) -> Result<Option<Seq<u8>>, Out
     }
 }
 
-/// The origin's path followed by what comes after the map's prefix, and the query.
+/// The target that a map gives: the origin with its path, what comes after the prefix, and the
+/// query.
 fn mapped<'a, P: Segments<'a>>(
     alloc: Global,
     map: &Map,
@@ -97,7 +98,7 @@ impl MappedTarget<'_, '_> {
         copied
     }
 
-    /// The same, but if memory runs out, the target may hold parts of both.
+    /// `copy_to`, except that if memory runs out, the target may hold parts of both.
     fn overwrite(&self, target: &mut Target) -> Result<(), OutOfMemory>
         ensures { OnOk result (target.new ≡ seen self.now) }
     {
@@ -131,7 +132,8 @@ fn address_of(hosts: &[KnownHost], name: &Seq<u8>) -> Option<Ip>
     Some(host.ip)
 }
 
-/// The target of a request for a URI whose host isn't one of the proxy's own names.
+/// The target of a request for a URI whose host isn't one of the proxy's own names, sent to the host
+/// itself: at its address, or that of the known host with its name.
 pub(crate) fn remote(hosts: &[KnownHost], uri: UriParts) -> Result<Target, TargetError>
     ensures { result ≡ spec.remote hosts.now uri }
 {
@@ -387,7 +389,7 @@ impl Routes {
         self.target_of_ref(alloc, &request.lent())
     }
 
-    /// The same for a request that is borrowed.
+    /// `target_of` for a borrowed request.
     ///
     /// # Errors
     /// Those of `target_of`.
