@@ -235,7 +235,7 @@ impl<S: Store + Drop> State<S> {
         let form = Form {
             request,
             survey: asked.survey,
-            target: &asked.key.target,
+            target: &asked.key.key().target,
             tag,
         };
         put_forwarded(&token, form, out, room)

@@ -9,7 +9,7 @@ use crate::setting::Setting;
 use coap_endpoint::{Endpoint, Ip, Target};
 use coap_message::{MessageRef, OptionList, OutOfMemory, Pieces, Seq};
 use coap_option::Survey;
-use coap_store::CacheKey;
+use coap_store::{CacheKey, KeySource, SharedKey};
 use coap_target::MappedTarget;
 use std::alloc::Global;
 use std::mem;
@@ -45,15 +45,34 @@ impl RequestTarget<'_, '_> {
     }
 }
 
+/// A request whose options were surveyed, and its target: its cache key is made from them.
+#[derive(Drop)]
+struct Keyed<'r, 'm, 'a> {
+    target: &'r RequestTarget<'m, 'a>,
+    request: &'r MessageRef<'a>,
+    survey: Survey,
+    ghost known: { IsSurvey request.now survey },
+}
+
+impl KeySource for Keyed<'_, '_, '_> {
+    ghost made = { λ keyed. request_key (seen keyed.target.now) keyed.request.now };
+
+    fn write_to(&self, key: &mut CacheKey) -> Result<(), OutOfMemory> {
+        self.target.copy_to(&mut key.target)?;
+        self.survey.key_options_into(&mut key.options, self.request)
+    }
+}
+
 /// What a request asks for: a response for this key, for a client that already holds those with
 /// these tags. One request after another is read into it, in memory that is allocated once.
 pub(crate) struct CacheQuery {
-    pub(crate) key: CacheKey,
+    pub(crate) key: SharedKey,
     pub(crate) tags: Pieces,
     /// What the options of the request told.
     pub(crate) survey: Survey,
-    /// Room for a host, while the key's target has none.
-    host_room: Option<Seq<u8>>,
+    /// A key with a host while the other has none, and without one while it has: so that the room
+    /// of a host is kept.
+    spare: SharedKey,
 }
 
 impl Drop for CacheQuery {
@@ -62,7 +81,7 @@ impl Drop for CacheQuery {
             key: _,
             tags: _,
             survey: _,
-            host_room: _,
+            spare: _,
         } = self;
     }
 }
@@ -70,29 +89,34 @@ impl Drop for CacheQuery {
 /// The greatest length of a host, in bytes (RFC 7252, 5.10.1).
 const LONGEST_HOST: usize = 255;
 
-impl CacheQuery {
-    /// One without any room. Doesn't allocate.
-    fn new(alloc: Global) -> CacheQuery {
-        let nowhere = Endpoint {
-            ip: Ip::V4([0; 4]),
-            port: 0,
-        };
-        let target = Target {
-            host: None,
-            at: nowhere,
-            port: None,
-            path: Pieces::new(alloc),
-            query: Pieces::new(alloc),
-        };
-        let options = OptionList::new(alloc);
-        CacheQuery {
-            key: CacheKey { target, options },
-            tags: Pieces::new(alloc),
-            survey: Survey::of_none(),
-            host_room: None,
-        }
-    }
+/// A key with this host, and with room for what any request of at most `datagram` bytes asks for,
+/// if the path of an origin takes at most `path` bytes. None of its lists takes more than the
+/// options that it is read from, so that nothing is allocated later.
+///
+/// # Errors
+/// Out of memory.
+fn roomy_key(
+    alloc: Global,
+    host: Option<Seq<u8>>,
+    datagram: usize,
+    path: usize,
+) -> Result<SharedKey, OutOfMemory> {
+    let at = Endpoint {
+        ip: Ip::V4([0; 4]),
+        port: 0,
+    };
+    let target = Target {
+        host,
+        at,
+        port: None,
+        path: Pieces::with_room(alloc, datagram.saturating_add(path))?,
+        query: Pieces::with_room(alloc, datagram)?,
+    };
+    let options = OptionList::with_room(alloc, datagram)?;
+    SharedKey::new(alloc, CacheKey { target, options })
+}
 
+impl CacheQuery {
     /// Room for what any request to a proxy of this setting asks for.
     ///
     /// # Errors
@@ -106,30 +130,20 @@ impl CacheQuery {
     }
 
     /// Room for what any request of at most `datagram` bytes asks for, if the path of an origin
-    /// takes at most `path` bytes. None of its lists takes more than the options that it is read
-    /// from, so that nothing is allocated later.
+    /// takes at most `path` bytes.
     ///
     /// # Errors
     /// Out of memory.
     fn with_room(alloc: Global, datagram: usize, path: usize) -> Result<CacheQuery, OutOfMemory> {
-        let mut query = CacheQuery::new(alloc);
-        query.make_room(alloc, datagram, path)?;
-        Ok(query)
-    }
-
-    /// Gives each of its parts that room.
-    fn make_room(
-        &mut self,
-        alloc: Global,
-        datagram: usize,
-        path: usize,
-    ) -> Result<(), OutOfMemory> {
-        self.host_room = Some(Seq::with_capacity(alloc, LONGEST_HOST)?);
-        self.key.target.path = Pieces::with_room(alloc, datagram.saturating_add(path))?;
-        self.key.target.query = Pieces::with_room(alloc, datagram)?;
-        self.key.options = OptionList::with_room(alloc, datagram)?;
-        self.tags = Pieces::with_room(alloc, datagram)?;
-        Ok(())
+        let host = Seq::with_capacity(alloc, LONGEST_HOST)?;
+        let spare = roomy_key(alloc, Some(host), datagram, path)?;
+        let key = roomy_key(alloc, None, datagram, path)?;
+        Ok(CacheQuery {
+            key,
+            tags: Pieces::with_room(alloc, datagram)?,
+            survey: Survey::of_none(),
+            spare,
+        })
     }
 
     /// Reads what a request for a target asks for, after the survey of its options.
@@ -148,11 +162,14 @@ impl CacheQuery {
         ensures survey { self.new.survey ≡ survey }
     {
         self.survey = survey;
-        if target.has_host() != self.key.target.host.is_some() {
-            mem::swap(&mut self.key.target.host, &mut self.host_room);
+        if target.has_host() != self.key.key().target.host.is_some() {
+            mem::swap(&mut self.key, &mut self.spare);
         }
-        target.copy_to(&mut self.key.target)?;
-        survey.key_options_into(&mut self.key.options, request)?;
+        self.key.overwrite(&Keyed {
+            target,
+            request,
+            survey,
+        })?;
         survey.tags_into(&mut self.tags, request)
     }
 }

@@ -173,7 +173,7 @@ impl<S: Store + Drop> State<S> {
     fn missed<'k>(&self, asked: &'k CacheQuery, stored: Miss) -> Missed<'k>
         ensures { result ≡ record { stored = stored; key = asked.now.key } }
     {
-        Missed::new(self.under_way.exchanges().hashed(&asked.key), stored)
+        Missed::new(self.under_way.exchanges().hashed(asked.key.key()), stored)
     }
 
     /// Writes to `out` what the client is sent for a usable response that is stored for the key.

@@ -23,7 +23,7 @@ use coap_exchange::{Answer, Exchange, ExchangeNumber};
 use coap_forward::{SentRequest, answer_of, created_by, is_change, is_storable, number_of};
 use coap_message::{Datagram, Kind, MessageRef, Moment, OutOfMemory};
 use coap_model::{Outcome, Report, Storing};
-use coap_store::{CacheKey, Put, Store, Stored};
+use coap_store::{Put, SharedKey, Store, Stored};
 use std::alloc::Global;
 
 /// Whether a response has the right Message ID: in an acknowledgement that of the request, in a
@@ -43,7 +43,7 @@ fn awaits(exchange: &Exchange, source: Endpoint, response: &MessageRef<'_>) -> b
         ≡ ((is_in_flight exchange.now && has_id response.now exchange.now.sending)
         && same_endpoint exchange.now.key.target.at source) }
 {
-    exchange.is_in_flight() && has_id(response, exchange) && exchange.key.target.at == source
+    exchange.is_in_flight() && has_id(response, exchange) && exchange.key.key().target.at == source
 }
 
 /// Whether an answer may be stored: it is for a GET, and its target wasn't changed since the GET
@@ -224,7 +224,7 @@ impl<S: Store + Drop> State<S> {
         };
         let answer = self.answer_made(arrival.now, exchange, arrival.message)?;
         let entry = self.entry_made(arrival.now, exchange, &answer)?;
-        let changed = changed_by(self.alloc, &exchange.key.target, arrival.message)?;
+        let changed = changed_by(self.alloc, &exchange.key.key().target, arrival.message)?;
         let send = self.accept_response(arrival, out)?;
         self.change_all(&changed);
         let storing = self.keep(entry);
@@ -292,14 +292,14 @@ impl<S: Store + Drop> State<S> {
         now: Moment,
         exchange: &Exchange,
         answer: &Answer,
-    ) -> Result<Option<(CacheKey, Stored)>, OutOfMemory>
+    ) -> Result<Option<(SharedKey, Stored)>, OutOfMemory>
         ensures { IfOk result (λ entry.
             entry ≡ if_storable self.now now exchange.now answer.now) }
     {
         if !may_store(exchange, answer) {
             return Ok(None);
         }
-        let key = exchange.key.copied()?;
+        let key = exchange.key.share()?;
         let stored = Stored {
             response: copy_of_message(&answer.message)?,
             asked: exchange.asked(),
@@ -333,7 +333,7 @@ impl<S: Store + Drop> State<S> {
     }
 
     /// Stores an entry in place of the one with its key, if there is an entry to store.
-    fn keep(&mut self, entry: Option<(CacheKey, Stored)>) -> Storing
+    fn keep(&mut self, entry: Option<(SharedKey, Stored)>) -> Storing
         ensures { IsKept self.old entry result self.new }
     {
         let Some((key, stored)) = entry else {

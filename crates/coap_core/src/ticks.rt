@@ -127,7 +127,7 @@ impl<S: Store + Drop> State<S> {
         if self.is_late(timing.now, exchange) {
             return self.give_up(timing.now, number, out);
         }
-        let to = exchange.key.target.at;
+        let to = exchange.key.key().target.at;
         let due = Due { number, to };
         match &exchange.state {
             ExchangeState::Queued => self.send(timing, due, out),

@@ -15,7 +15,7 @@ use coap_endpoint::Endpoint;
 use coap_exchange::{EndpointMap, Exchange, ExchangeNumber, Waiter};
 use coap_message::{Kind, MessageRef};
 use coap_model::{DueItem, Limits};
-use coap_store::{CacheKey, Store, Stored};
+use coap_store::{CacheKey, SharedKey, Store, Stored};
 use coap_target::Routes;
 
 impl<S: Store + Drop> Core<S> {
@@ -99,7 +99,7 @@ impl<S: Store + Drop> Core<S> {
 
     /// The key that the last request asked for of those that had one. It is what that step left
     /// behind, of which no clause speaks.
-    pub fn last_key(&self) -> &CacheKey {
+    pub fn last_key(&self) -> &SharedKey {
         &self.query.key
     }
 
@@ -111,7 +111,7 @@ impl<S: Store + Drop> Core<S> {
     }
 
     /// What is stored for a key, fresh or not. It doesn't count as a use.
-    pub fn stored(&self, key: &CacheKey) -> Option<&Stored>
+    pub fn stored(&self, key: &SharedKey) -> Option<&Stored>
         ensures exact { option_map (λ stored. stored.now) result
             ≡ stored_for key.now self.now.store }
     {

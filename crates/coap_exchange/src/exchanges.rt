@@ -34,6 +34,7 @@ use std::marker::Model;
 /// Exchanges in order of number. A contract sees the table. Only `new`, `seeded` and `admit`
 /// allocate.
 pub struct Exchanges {
+    alloc: Global,
     pub(crate) table: Table<IndexedExchange>,
     /// The number of exchanges that are still to be sent.
     pub(crate) queued: usize,
@@ -50,6 +51,7 @@ pub struct Exchanges {
 impl Drop for Exchanges {
     fn drop(self) {
         let Exchanges {
+            alloc: _,
             table: _,
             queued: _,
             endpoints: _,
@@ -113,6 +115,7 @@ impl Exchanges {
         let table = Table::new(alloc, limit, per_client, seed)?;
         let index = Index::new(alloc, limit, seed)?;
         Ok(Exchanges {
+            alloc,
             table,
             queued: 0,
             endpoints,
@@ -302,7 +305,7 @@ impl Exchanges {
         ensures sound { IsTable self.old }
     {
         self.table.laws();
-        let listed = IndexedExchange::opened(opening, opener)?;
+        let listed = IndexedExchange::opened(self.alloc, opening, opener)?;
         self.list(listed)
     }
 

@@ -13,6 +13,7 @@ use coap_endpoint::Target;
 use coap_message::OutOfMemory;
 use coap_pending::{Change, Exchange, ExchangeNumber};
 use endpoint_counts::{Peer, Stage};
+use std::alloc::Global;
 use std::marker::Model;
 
 /// An exchange, and the digests that it is looked up by, which it is opened with. A contract sees
@@ -45,14 +46,18 @@ impl IndexedExchange {
     ///
     /// # Errors
     /// Out of memory.
-    pub(crate) fn opened(opening: Opening<'_>, client: Peer) -> Result<IndexedExchange, OutOfMemory>
+    pub(crate) fn opened(
+        alloc: Global,
+        opening: Opening<'_>,
+        client: Peer,
+    ) -> Result<IndexedExchange, OutOfMemory>
         requires { client ≡ opening.client }
         ensures exact { IfOk result (λ exchange. exchange ≡ opened opening.entry) }
     {
         let hashed = opening.key.hashed();
         let peer = Peer::new(opening.key.key().target.at);
         Ok(IndexedExchange {
-            exchange: opening.opened()?,
+            exchange: opening.opened(alloc)?,
             client,
             peer,
             hashed,
@@ -95,14 +100,14 @@ impl IndexedExchange {
     pub(crate) fn key_digest(&self, secret: u64) -> u64
         ensures exact { result ≡ digest_of_key secret self.now.key }
     {
-        self.hashed.digests(&self.exchange.key, secret).key
+        self.hashed.digests(self.exchange.key.key(), secret).key
     }
 
     /// The digest of its target with a secret.
     pub(crate) fn target_digest(&self, secret: u64) -> u64
         ensures exact { result ≡ digest_of_target secret self.now.key.target }
     {
-        self.hashed.digests(&self.exchange.key, secret).target
+        self.hashed.digests(self.exchange.key.key(), secret).target
     }
 
     /// Applies a change to the exchange.

@@ -6,7 +6,8 @@ use crate::digests::HashedKey;
 use coap_endpoint::Endpoint;
 use coap_message::{Moment, OutOfMemory, Seq};
 use coap_pending::{Exchange, ExchangeState};
-use coap_store::Stored;
+use coap_store::{SharedKey, Stored};
+use std::alloc::Global;
 
 /// A request that is to be sent, as an exchange is opened with it.
 pub struct Opening<'k> {
@@ -42,10 +43,11 @@ impl Opening<'_> {
     ///
     /// # Errors
     /// Out of memory.
-    pub(crate) fn opened(self) -> Result<Exchange, OutOfMemory>
+    pub(crate) fn opened(self, alloc: Global) -> Result<Exchange, OutOfMemory>
         ensures exact { IfOk result (λ exchange. exchange ≡ opened self.entry) }
     {
         let copied = self.key.key().copied()?;
+        let shared = SharedKey::new(alloc, copied)?;
         let Opening {
             client,
             key: _,
@@ -56,7 +58,7 @@ impl Opening<'_> {
         } = self;
         Ok(Exchange {
             client,
-            key: copied,
+            key: shared,
             is_get,
             form,
             copy,

@@ -64,7 +64,7 @@ pub(crate) fn overload_of<S: Store + Drop>(
         // its own reply took one
         usage.free_ids = usage.free_ids.saturating_add(1);
     }
-    if request.code() == Code::GET && core.is_joinable(core.last_key()) {
+    if request.code() == Code::GET && core.is_joinable(core.last_key().key()) {
         usage.to_join()
     } else {
         usage.to_open()

@@ -6,7 +6,7 @@ ghost use Rattle.coap_pending.specs.Exchanges.{answer_at, changed_by, fire_of_se
 use crate::timer::{Fire, Timer};
 use coap_endpoint::{Endpoint, Target};
 use coap_message::{EXCHANGE_LIFETIME, Moment, Seq, set_id};
-use coap_store::{Answer, CacheKey, EventNumber, Stored};
+use coap_store::{Answer, CacheKey, EventNumber, SharedKey, Stored};
 
 /// The number of an exchange. They count up from 1.
 pub type ExchangeNumber = u64;
@@ -59,7 +59,7 @@ pub struct Exchange {
     pub client: Endpoint,
     /// What its response is cached under: the target, and the options that are part of the cache
     /// key.
-    pub key: CacheKey,
+    pub key: SharedKey,
     /// Whether the method is GET.
     pub is_get: bool,
     /// The encoded request that is forwarded. Its Message ID is 0 until it is sent.
@@ -179,7 +179,7 @@ impl Exchange {
     pub fn is_queued_to(&self, at: Endpoint) -> bool
         ensures exact { result ≡ is_queued_to at self.now }
     {
-        self.is_queued() && self.key.target.at == at
+        self.is_queued() && self.key.key().target.at == at
     }
 
     /// The answer, if it has come.
@@ -197,7 +197,7 @@ impl Exchange {
     pub fn is_joinable(&self, key: &CacheKey) -> bool
         ensures exact { result ≡ is_joinable key.now self.now }
     {
-        self.is_get && !self.tainted && self.answer().is_none() && self.key == *key
+        self.is_get && !self.tainted && self.answer().is_none() && *self.key.key() == *key
     }
 
     /// Whether its request was sent to the endpoint `at` with Message ID `id`, less than 247,000
@@ -206,7 +206,7 @@ impl Exchange {
         ensures exact { result ≡ was_sent_as at id now self.now }
     {
         match &self.sending {
-            Some(sending) => self.key.target.at == at && sending.is_as(id, now),
+            Some(sending) => self.key.key().target.at == at && sending.is_as(id, now),
             None => false,
         }
     }
@@ -216,7 +216,7 @@ impl Exchange {
     pub fn is_changed_with(&self, target: &Target) -> bool
         ensures exact { result ≡ is_changed_with target.now self.now }
     {
-        (self.is_sent() || self.is_acked()) && self.key.target == *target
+        (self.is_sent() || self.is_acked()) && self.key.key().target == *target
     }
 
     /// What its timer calls for, now that it is due.

@@ -8,7 +8,7 @@ ghost use Rattle.coap_store.specs.Lists.{of_key, others, put, total, used};
 ghost use Rattle.coap_store.specs.Sizes.{size_of};
 
 use crate::evictions::Evictions;
-use crate::key::CacheKey;
+use crate::shared_key::SharedKey;
 use crate::stored::Stored;
 use coap_endpoint::Target;
 use coap_message::{Moment, OutOfMemory};
@@ -73,7 +73,7 @@ pub trait Store {
     /// Whether the response stored for the key may answer a request at this moment, in
     /// milliseconds: there is one, it is fresh, and it isn't marked (RFC 7252, 5.6 and 5.6.1). If
     /// so, it becomes the most recently used. Doesn't allocate.
-    fn hit(&mut self, key: &CacheKey, now: Moment) -> bool
+    fn hit(&mut self, key: &SharedKey, now: Moment) -> bool
         ensures usable { result ≡ has_usable key.now now (entries self.old) }
         ensures moved { IsTrue result
             → entries self.new ≡ used entry_key key.now (entries self.old) }
@@ -90,20 +90,20 @@ pub trait Store {
 
     /// Makes what is stored for the key the most recently used, if anything is stored. Doesn't
     /// allocate.
-    fn touch(&mut self, key: &CacheKey)
+    fn touch(&mut self, key: &SharedKey)
         ensures moved { entries self.new ≡ used entry_key key.now (entries self.old) }
         ensures limited { limits self.new ≡ limits self.old }
         ensures evicted { evicted self.new ≡ evicted self.old };
 
     /// What is stored for the key. Doesn't allocate.
-    fn peek(&self, key: &CacheKey) -> Option<&Stored>
+    fn peek(&self, key: &SharedKey) -> Option<&Stored>
         ensures { option_map (λ stored. stored.now) result
             ≡ stored_for key.now (entries self.now) };
 
     /// Stores a response as the most recently used, replacing the one for its key. Drops the least
     /// recently used ones until the rest is within both limits, so a store with room for no entries
     /// keeps none. Doesn't allocate if the key already has an entry.
-    fn put(&mut self, key: CacheKey, stored: Stored) -> Put
+    fn put(&mut self, key: SharedKey, stored: Stored) -> Put
         ensures kept { result ≡ Put.Kept
             → entries self.new
             ≡ put entry_key entry_size (limits self.old).bytes (limits self.old).entries
@@ -139,7 +139,7 @@ pub trait Store {
         ensures evicted { evicted self.new ≡ evicted self.old };
 
     /// Drops what is stored for the key, and returns whether there was anything. Doesn't allocate.
-    fn forget(&mut self, key: &CacheKey) -> bool
+    fn forget(&mut self, key: &SharedKey) -> bool
         ensures found { result ≡ is_some (of_key entry_key key.now (entries self.old)) }
         ensures given_up { entries self.new ≡ others entry_key key.now (entries self.old) }
         ensures limited { limits self.new ≡ limits self.old }

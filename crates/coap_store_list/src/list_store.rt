@@ -6,13 +6,13 @@ ghost use Rattle.coap_store.specs.Lists.{are_distinct, cut, has_key, of_key, oth
 
 use coap_endpoint::Target;
 use coap_message::{Moment, OutOfMemory};
-use coap_store::{CacheKey, Evictions, Put, Store, Stored, bytes_of};
+use coap_store::{Evictions, Put, SharedKey, Store, Stored, bytes_of};
 use std::alloc::Global;
 
 /// A store that keeps its entries in a list, the most recently used first, and searches it in each
 /// call.
 pub struct ListStore {
-    entries: Vec<(CacheKey, Stored)>,
+    entries: Vec<(SharedKey, Stored)>,
     /// The maximum number of bytes that the entries may count for.
     most_bytes: u64,
     /// The maximum number of entries.
@@ -66,18 +66,18 @@ impl Store for ListStore {
         0
     }
 
-    fn touch(&mut self, key: &CacheKey) {
+    fn touch(&mut self, key: &SharedKey) {
         use_entry(&mut self.entries, key);
     }
 
-    fn peek(&self, key: &CacheKey) -> Option<&Stored> {
+    fn peek(&self, key: &SharedKey) -> Option<&Stored> {
         match place_of(&self.entries, key) {
             Some(place) => Some(&self.entries[place].1),
             None => None,
         }
     }
 
-    fn put(&mut self, key: CacheKey, stored: Stored) -> Put {
+    fn put(&mut self, key: SharedKey, stored: Stored) -> Put {
         if bytes_of(&key, &stored) > self.most_bytes {
             forget_entry(&mut self.entries, &key);
             return Put::TooLarge;
@@ -98,7 +98,7 @@ impl Store for ListStore {
         mark_all(&mut self.entries, target)
     }
 
-    fn forget(&mut self, key: &CacheKey) -> bool {
+    fn forget(&mut self, key: &SharedKey) -> bool {
         forget_entry(&mut self.entries, key)
     }
 
@@ -116,14 +116,14 @@ impl Store for ListStore {
 }
 
 /// The position of the entry with a key.
-fn place_of(entries: &[(CacheKey, Stored)], key: &CacheKey) -> Option<usize>
+fn place_of(entries: &[(SharedKey, Stored)], key: &SharedKey) -> Option<usize>
     ensures { result ≡ position (has_key entry_key key.now) entries.now }
 {
     entries.iter().position(|entry| entry.0 == *key)
 }
 
 /// Removes the entry with a key. There is then room for another.
-fn take_out(entries: &mut Vec<(CacheKey, Stored)>, key: &CacheKey) -> Option<(CacheKey, Stored)>
+fn take_out(entries: &mut Vec<(SharedKey, Stored)>, key: &SharedKey) -> Option<(SharedKey, Stored)>
     requires { are_distinct entry_key entries.old.items ≡ true }
     ensures entry { result ≡ of_key entry_key key.now entries.old.items }
     ensures others { entries.new.items ≡ others entry_key key.now entries.old.items }
@@ -136,7 +136,7 @@ fn take_out(entries: &mut Vec<(CacheKey, Stored)>, key: &CacheKey) -> Option<(Ca
 }
 
 /// Puts an entry first. There must be room for it.
-fn put_back(entries: &mut Vec<(CacheKey, Stored)>, entry: (CacheKey, Stored))
+fn put_back(entries: &mut Vec<(SharedKey, Stored)>, entry: (SharedKey, Stored))
     requires { vec_len entries.old < vec_capacity entries.old }
     ensures { entries.new.items ≡ entry ∷ entries.old.items }
 {
@@ -147,7 +147,7 @@ fn put_back(entries: &mut Vec<(CacheKey, Stored)>, entry: (CacheKey, Stored))
 
 /// Removes the entry with a key and drops it. Returns whether there was one; there is then room for
 /// another.
-fn forget_entry(entries: &mut Vec<(CacheKey, Stored)>, key: &CacheKey) -> bool
+fn forget_entry(entries: &mut Vec<(SharedKey, Stored)>, key: &SharedKey) -> bool
     requires { are_distinct entry_key entries.old.items ≡ true }
     ensures found { result ≡ is_some (of_key entry_key key.now entries.old.items) }
     ensures others { entries.new.items ≡ others entry_key key.now entries.old.items }
@@ -158,8 +158,8 @@ fn forget_entry(entries: &mut Vec<(CacheKey, Stored)>, key: &CacheKey) -> bool
 
 /// Puts an entry first, replacing the one with its key.
 fn put_entry(
-    entries: &mut Vec<(CacheKey, Stored)>,
-    key: CacheKey,
+    entries: &mut Vec<(SharedKey, Stored)>,
+    key: SharedKey,
     stored: Stored,
 ) -> Result<(), OutOfMemory>
     requires { are_distinct entry_key entries.old.items ≡ true }
@@ -177,7 +177,7 @@ fn put_entry(
 }
 
 /// The number of entries from the front that are within the limits.
-fn count_fitting(entries: &[(CacheKey, Stored)], bytes: u64, most: usize) -> usize
+fn count_fitting(entries: &[(SharedKey, Stored)], bytes: u64, most: usize) -> usize
     requires { bytes < 2 ^ 63 }
     ensures cut { take result entries.now ≡ cut entry_size bytes most entries.now }
     ensures within { result ≤ length entries.now }
@@ -196,7 +196,7 @@ fn count_fitting(entries: &[(CacheKey, Stored)], bytes: u64, most: usize) -> usi
 }
 
 /// How many entries these are, and how many of them are fresh at this moment.
-fn count_evicted(entries: &[(CacheKey, Stored)], now: Moment) -> Evictions
+fn count_evicted(entries: &[(SharedKey, Stored)], now: Moment) -> Evictions
     ensures { result ≡ evictions_of now entries.now }
 {
     let mut fresh = 0;
@@ -213,7 +213,7 @@ fn count_evicted(entries: &[(CacheKey, Stored)], now: Moment) -> Evictions
 
 /// Evicts the entries after those that are within the limits, and returns how many these were, and
 /// how many of them were fresh at this moment.
-fn cut_to(entries: &mut Vec<(CacheKey, Stored)>, bytes: u64, most: usize, now: Moment) -> Evictions
+fn cut_to(entries: &mut Vec<(SharedKey, Stored)>, bytes: u64, most: usize, now: Moment) -> Evictions
     requires { bytes < 2 ^ 63 }
     ensures kept { entries.new.items ≡ cut entry_size bytes most entries.old.items }
     ensures counted { result ≡ evictions_of now (beyond entry_size bytes most entries.old.items) }
@@ -225,7 +225,7 @@ fn cut_to(entries: &mut Vec<(CacheKey, Stored)>, bytes: u64, most: usize, now: M
 }
 
 /// Moves the entry with a key to the front.
-fn use_entry(entries: &mut Vec<(CacheKey, Stored)>, key: &CacheKey)
+fn use_entry(entries: &mut Vec<(SharedKey, Stored)>, key: &SharedKey)
     requires { are_distinct entry_key entries.old.items ≡ true }
     ensures { entries.new.items ≡ used entry_key key.now entries.old.items }
 {
@@ -236,7 +236,7 @@ fn use_entry(entries: &mut Vec<(CacheKey, Stored)>, key: &CacheKey)
 }
 
 /// Marks the entry if it is for this target, and returns whether it is.
-fn mark_entry(entry: &mut (CacheKey, Stored), target: &Target) -> bool
+fn mark_entry(entry: &mut (SharedKey, Stored), target: &Target) -> bool
     ensures answer { result ≡ is_for target.now entry.old }
     ensures marked { entry.new ≡ marked target.now entry.old }
 {
@@ -248,7 +248,7 @@ fn mark_entry(entry: &mut (CacheKey, Stored), target: &Target) -> bool
 }
 
 /// Marks the entries for a target, and counts them.
-fn mark_all(entries: &mut Vec<(CacheKey, Stored)>, target: &Target) -> usize
+fn mark_all(entries: &mut Vec<(SharedKey, Stored)>, target: &Target) -> usize
     ensures counted { result ≡ count_by (is_for target.now) entries.old.items }
     ensures marked { entries.new.items ≡ map (marked target.now) entries.old.items }
 {
@@ -256,7 +256,7 @@ fn mark_all(entries: &mut Vec<(CacheKey, Stored)>, target: &Target) -> usize
 }
 
 /// Marks those among some entries that are for a target, and counts them.
-fn mark_entries(entries: &mut [(CacheKey, Stored)], target: &Target) -> usize
+fn mark_entries(entries: &mut [(SharedKey, Stored)], target: &Target) -> usize
     ensures counted { result ≡ count_by (is_for target.now) entries.old }
     ensures marked { entries.new ≡ map (marked target.now) entries.old }
 {
@@ -270,7 +270,7 @@ fn mark_entries(entries: &mut [(CacheKey, Stored)], target: &Target) -> usize
 }
 
 /// The number of bytes that entries count for.
-fn total_of(entries: &[(CacheKey, Stored)]) -> u64
+fn total_of(entries: &[(SharedKey, Stored)]) -> u64
     requires { total entry_size entries.now < 2 ^ 63 }
     ensures { result ≡ total entry_size entries.now }
 {

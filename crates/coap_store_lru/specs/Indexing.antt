@@ -15,7 +15,7 @@ use Rattle.coap_store_lru.specs.declared.group.Group.TheVariants.{One, Several}
 
 -- the keys in a group, for a hasher H that makes a J for each key
 abbrev pub keys_in : {H J : Type 0} → Group H J → List CacheKey
-keys_in (One key) = key.value ∷ []
+keys_in (One key) = key ∷ []
 keys_in (Several keys) = keys.value.keys
 
 -- the group contains this key

@@ -6,7 +6,7 @@ ghost use Rattle.coap_store.specs.Keys.{same_key};
 ghost use Rattle.coap_store_lru.specs.Indexing.{has, keys_in};
 
 use coap_message::OutOfMemory;
-use coap_store::CacheKey;
+use coap_store::SharedKey;
 use std::alloc::Global;
 use std::collections::HashSet;
 use std::hash::BuildHasher;
@@ -14,8 +14,8 @@ use std::hash::BuildHasher;
 /// Keys whose targets have the same digest, as those with the same target do. A single key isn't
 /// put into a set, which would take many times its room.
 pub(crate) enum Group<H: BuildHasher> {
-    One(Box<CacheKey>),
-    Several(Box<HashSet<CacheKey, H>>),
+    One(SharedKey),
+    Several(Box<HashSet<SharedKey, H>>),
 }
 
 impl<H: BuildHasher + Drop> Drop for Group<H> {
@@ -29,19 +29,24 @@ impl<H: BuildHasher + Drop> Drop for Group<H> {
 
 impl<H: BuildHasher + Copy> Group<H> {
     /// A group with one key.
-    pub(crate) fn of(alloc: Global, key: CacheKey) -> Result<Group<H>, OutOfMemory>
-        ensures { IfOk result (λ group. keys_in group ≡ key ∷ []) }
+    pub(crate) fn of(key: SharedKey) -> Group<H>
+        ensures { keys_in result ≡ key ∷ [] }
     {
-        Ok(Group::One(Box::new(alloc, key)?))
+        Group::One(key)
     }
 
     /// Adds a key. If memory runs out, the keys are unchanged.
-    pub(crate) fn add(&mut self, alloc: Global, hasher: H, key: CacheKey) -> Result<(), OutOfMemory>
+    pub(crate) fn add(
+        &mut self,
+        alloc: Global,
+        hasher: H,
+        key: SharedKey,
+    ) -> Result<(), OutOfMemory>
         ensures { (k : CacheKey)
             → has self.new k ≡ ((is_ok result && same_key key k) || has self.old k) }
     {
         let first = match self {
-            Group::One(first) => first.copied()?,
+            Group::One(first) => first.share()?,
             Group::Several(keys) => return add(keys, key),
         };
         *self = Group::Several(Box::new(alloc, both(alloc, hasher, first, key)?)?);
@@ -50,13 +55,13 @@ impl<H: BuildHasher + Copy> Group<H> {
 
     /// Removes a key from the group, and returns whether no other is left; if so, the group is to
     /// be dropped, and may still contain this key. Doesn't allocate.
-    pub(crate) fn leave(&mut self, key: &CacheKey) -> bool
+    pub(crate) fn leave(&mut self, key: &SharedKey) -> bool
         ensures left { (k : CacheKey) → (not result && has self.new k)
             ≡ (not (same_key key.now k) && has self.old k) }
         ensures filled { IsFalse result → length (keys_in self.new) ≢ 0 }
     {
         match self {
-            Group::One(only) => **only == *key,
+            Group::One(only) => *only == *key,
             Group::Several(keys) => delete(keys, key),
         }
     }
@@ -66,9 +71,9 @@ impl<H: BuildHasher + Copy> Group<H> {
 fn both<H: BuildHasher>(
     alloc: Global,
     hasher: H,
-    first: CacheKey,
-    second: CacheKey,
-) -> Result<HashSet<CacheKey, H>, OutOfMemory>
+    first: SharedKey,
+    second: SharedKey,
+) -> Result<HashSet<SharedKey, H>, OutOfMemory>
 where
     H: Drop,
     ensures { IfOk result
@@ -82,7 +87,7 @@ where
 }
 
 /// Adds a key to a set.
-fn add<H: BuildHasher>(keys: &mut HashSet<CacheKey, H>, key: CacheKey) -> Result<(), OutOfMemory>
+fn add<H: BuildHasher>(keys: &mut HashSet<SharedKey, H>, key: SharedKey) -> Result<(), OutOfMemory>
     ensures { (k : CacheKey)
         → contains same_key keys.new k
         ≡ ((is_ok result && same_key key k) || contains same_key keys.old k) }
@@ -92,7 +97,7 @@ fn add<H: BuildHasher>(keys: &mut HashSet<CacheKey, H>, key: CacheKey) -> Result
 }
 
 /// Removes a key from a set, and returns whether the set is empty now.
-fn delete<H: BuildHasher>(keys: &mut HashSet<CacheKey, H>, key: &CacheKey) -> bool
+fn delete<H: BuildHasher>(keys: &mut HashSet<SharedKey, H>, key: &SharedKey) -> bool
     ensures left { (k : CacheKey)
         → contains same_key keys.new k
         ≡ (not (same_key key.now k) && contains same_key keys.old k) }

@@ -16,7 +16,7 @@ use crate::group::Group;
 use crate::target_index::TargetIndex;
 use coap_endpoint::Target;
 use coap_message::{Moment, OutOfMemory};
-use coap_store::{CacheKey, Evictions, Put, Store, Stored, bytes_of};
+use coap_store::{Evictions, Put, SharedKey, Store, Stored};
 use lru::LruCache;
 use std::alloc::Global;
 use std::collections::HashSet;
@@ -26,7 +26,7 @@ use std::hash::BuildHasher;
 /// the target. Peers choose both, so the hasher should have keys that are drawn at random, as
 /// `RandomState` does.
 pub struct LruStore<H: BuildHasher> {
-    recent: LruCache<CacheKey, Stored, H>,
+    recent: LruCache<SharedKey, Stored, H>,
     /// The number of bytes that the entries count for.
     total: u64,
     index: TargetIndex<H>,
@@ -88,17 +88,17 @@ impl<H: BuildHasher + Copy> Store for LruStore<H> {
         self.index.secret
     }
 
-    fn touch(&mut self, key: &CacheKey) {
+    fn touch(&mut self, key: &SharedKey) {
         if !is_first(&self.recent, key) {
             self.recent.promote(key);
         }
     }
 
-    fn peek(&self, key: &CacheKey) -> Option<&Stored> {
+    fn peek(&self, key: &SharedKey) -> Option<&Stored> {
         self.recent.peek(key)
     }
 
-    fn put(&mut self, key: CacheKey, stored: Stored) -> Put {
+    fn put(&mut self, key: SharedKey, stored: Stored) -> Put {
         let size = bytes_of(&key, &stored);
         if size > self.most_bytes {
             self.forget(&key);
@@ -127,7 +127,7 @@ impl<H: BuildHasher + Copy> Store for LruStore<H> {
         }
     }
 
-    fn forget(&mut self, key: &CacheKey) -> bool {
+    fn forget(&mut self, key: &SharedKey) -> bool {
         take_out(&mut self.recent, &mut self.total, &mut self.index, key)
     }
 
@@ -156,15 +156,22 @@ struct Room {
 /// An entry, and the number of bytes that it counts for.
 #[derive(Drop)]
 struct Measured {
-    key: CacheKey,
+    key: SharedKey,
     stored: Stored,
     size: u64,
     ghost measured: { size ≡ min (size_of key stored) (2 ^ 64 - 1) },
 }
 
+/// How many bytes an entry counts for.
+fn bytes_of(key: &SharedKey, stored: &Stored) -> u64
+    ensures { result ≡ min (size_of key.now stored.now) (2 ^ 64 - 1) }
+{
+    coap_store::bytes_of(key.key(), stored)
+}
+
 /// Whether the entry with a key is the most recently used one, which is found without hashing the
 /// key.
-fn is_first<H: BuildHasher>(recent: &LruCache<CacheKey, Stored, H>, key: &CacheKey) -> bool
+fn is_first<H: BuildHasher>(recent: &LruCache<SharedKey, Stored, H>, key: &SharedKey) -> bool
     requires { are_distinct entry_key recent.now.entries ≡ true }
     ensures { IsTrue result → used entry_key key.now recent.now.entries ≡ recent.now.entries }
 {
@@ -176,10 +183,10 @@ fn is_first<H: BuildHasher>(recent: &LruCache<CacheKey, Stored, H>, key: &CacheK
 
 /// Removes the entry with a key and drops it. Returns whether there was one.
 fn take_out<H: BuildHasher + Copy>(
-    recent: &mut LruCache<CacheKey, Stored, H>,
+    recent: &mut LruCache<SharedKey, Stored, H>,
     total: &mut u64,
     index: &mut TargetIndex<H>,
-    key: &CacheKey,
+    key: &SharedKey,
 ) -> bool
     requires { AreThoseOf recent.old.entries total.old
         (is_indexed index.old.secret index.old.groups) }
@@ -201,7 +208,7 @@ fn take_out<H: BuildHasher + Copy>(
 
 /// Puts an entry first, replacing the one with its key.
 fn put_first<H: BuildHasher + Copy>(
-    recent: &mut LruCache<CacheKey, Stored, H>,
+    recent: &mut LruCache<SharedKey, Stored, H>,
     total: &mut u64,
     index: &mut TargetIndex<H>,
     entry: Measured,
@@ -239,7 +246,7 @@ fn put_first<H: BuildHasher + Copy>(
 /// Adds the key of the first entry to the index. If memory runs out, the first entry is removed
 /// again.
 fn index_first<H: BuildHasher + Copy>(
-    recent: &mut LruCache<CacheKey, Stored, H>,
+    recent: &mut LruCache<SharedKey, Stored, H>,
     index: &mut TargetIndex<H>,
 ) -> Result<(), OutOfMemory>
     ensures ok { OnOk result (recent.new ≡ recent.old) }
@@ -263,7 +270,7 @@ fn index_first<H: BuildHasher + Copy>(
 /// Evicts the least recently used entries until there is room for the rest, and returns how many
 /// these were.
 fn cut_to<H: BuildHasher + Copy>(
-    recent: &mut LruCache<CacheKey, Stored, H>,
+    recent: &mut LruCache<SharedKey, Stored, H>,
     total: &mut u64,
     index: &mut TargetIndex<H>,
     room: Room,
@@ -287,7 +294,7 @@ fn cut_to<H: BuildHasher + Copy>(
 }
 
 /// Whether there is no room for entries that count for `total` bytes.
-fn is_over<H: BuildHasher>(recent: &LruCache<CacheKey, Stored, H>, total: u64, room: Room) -> bool
+fn is_over<H: BuildHasher>(recent: &LruCache<SharedKey, Stored, H>, total: u64, room: Room) -> bool
     ensures { result
         ≡ (nat_lt room.bytes total || nat_lt room.entries (length recent.now.entries)) }
 {
@@ -297,7 +304,7 @@ fn is_over<H: BuildHasher>(recent: &LruCache<CacheKey, Stored, H>, total: u64, r
 /// Evicts the least recently used entry, if there is one, and counts it, by whether it is fresh at
 /// this moment.
 fn take_last<H: BuildHasher + Copy>(
-    recent: &mut LruCache<CacheKey, Stored, H>,
+    recent: &mut LruCache<SharedKey, Stored, H>,
     total: &mut u64,
     index: &mut TargetIndex<H>,
     now: Moment,
@@ -326,7 +333,7 @@ fn take_last<H: BuildHasher + Copy>(
 
 /// Marks the entries for those keys in a group that have this target, and counts these keys.
 fn mark_group<H: BuildHasher>(
-    recent: &mut LruCache<CacheKey, Stored, H>,
+    recent: &mut LruCache<SharedKey, Stored, H>,
     group: &Group<H>,
     target: &Target,
 ) -> usize
@@ -346,8 +353,8 @@ fn mark_group<H: BuildHasher>(
 
 /// Marks the entries for those keys of a set that have this target, and counts these keys.
 fn mark_keys<H: BuildHasher>(
-    recent: &mut LruCache<CacheKey, Stored, H>,
-    keys: &HashSet<CacheKey, H>,
+    recent: &mut LruCache<SharedKey, Stored, H>,
+    keys: &HashSet<SharedKey, H>,
     target: &Target,
 ) -> usize
     requires { are_distinct entry_key recent.old.entries ≡ true }
@@ -368,8 +375,8 @@ fn mark_keys<H: BuildHasher>(
 
 /// Marks the entry with a key, if the key has this target, and returns 1 then and otherwise 0.
 fn mark_of<H: BuildHasher>(
-    recent: &mut LruCache<CacheKey, Stored, H>,
-    key: &CacheKey,
+    recent: &mut LruCache<SharedKey, Stored, H>,
+    key: &SharedKey,
     target: &Target,
 ) -> usize
     requires { are_distinct entry_key recent.old.entries ≡ true }
@@ -388,7 +395,7 @@ fn mark_of<H: BuildHasher>(
 }
 
 /// Marks the entry with a key, if there is one.
-fn mark_key<H: BuildHasher>(recent: &mut LruCache<CacheKey, Stored, H>, key: &CacheKey)
+fn mark_key<H: BuildHasher>(recent: &mut LruCache<SharedKey, Stored, H>, key: &SharedKey)
     requires { are_distinct entry_key recent.old.entries ≡ true }
     ensures { recent.new
         ≡ lru_cache (map (marked_by (λ k. same_key k key.now)) recent.old.entries) recent.old.cap }

@@ -12,7 +12,7 @@ ghost use Rattle.coap_store_lru.specs.Indexing.{AreFilled, in_group, is_indexed}
 use crate::group::Group;
 use coap_endpoint::Target;
 use coap_message::OutOfMemory;
-use coap_store::{CacheKey, digest_of_target};
+use coap_store::{SharedKey, digest_of_target};
 use std::alloc::Global;
 use std::collections::HashMap;
 use std::collections::hash_map::Entry;
@@ -67,23 +67,23 @@ impl<H: BuildHasher + Copy> TargetIndex<H> {
     }
 
     /// Adds a key. If memory runs out, the keys are unchanged.
-    pub(crate) fn insert(&mut self, key: &CacheKey) -> Result<(), OutOfMemory>
+    pub(crate) fn insert(&mut self, key: &SharedKey) -> Result<(), OutOfMemory>
         ensures { (k : CacheKey)
             → is_indexed self.new.secret self.new.groups k
             ≡ ((is_ok result && same_key key.now k)
             || is_indexed self.old.secret self.old.groups k) }
     {
-        let copy = key.copied()?;
-        let at = digest_of_target(self.secret, &key.target);
+        let copy = key.share()?;
+        let at = digest_of(self.secret, key);
         enter(&mut self.groups, self.alloc, self.hasher, at, copy)
     }
 
     /// Removes a key, and with the last key of a digest its group. Doesn't allocate.
-    pub(crate) fn remove(&mut self, key: &CacheKey)
+    pub(crate) fn remove(&mut self, key: &SharedKey)
         ensures { (k : CacheKey) → is_indexed self.new.secret self.new.groups k
             ≡ (not (same_key key.now k) && is_indexed self.old.secret self.old.groups k) }
     {
-        let at = digest_of_target(self.secret, &key.target);
+        let at = digest_of(self.secret, key);
         if leave(&mut self.groups, at, key) {
             self.groups.remove(&at);
         }
@@ -97,7 +97,7 @@ fn enter<H: BuildHasher + Copy>(
     alloc: Global,
     hasher: H,
     at: u64,
-    key: CacheKey,
+    key: SharedKey,
 ) -> Result<(), OutOfMemory>
     requires { AreFilled groups.old }
     ensures more { (k : CacheKey) → in_group groups.new at k
@@ -110,7 +110,7 @@ fn enter<H: BuildHasher + Copy>(
     match groups.entry(at)? {
         Entry::Occupied(entry) => entry.into_mut().add(alloc, hasher, key),
         Entry::Vacant(entry) => {
-            entry.insert(Group::of(alloc, key)?);
+            entry.insert(Group::of(key));
             Ok(())
         }
     }
@@ -121,7 +121,7 @@ fn enter<H: BuildHasher + Copy>(
 fn leave<H: BuildHasher + Copy>(
     groups: &mut HashMap<u64, Group<H>>,
     at: u64,
-    key: &CacheKey,
+    key: &SharedKey,
 ) -> bool
     requires { AreFilled groups.old }
     ensures left { (k : CacheKey) → (not result && in_group groups.new at k)
@@ -135,4 +135,11 @@ fn leave<H: BuildHasher + Copy>(
         Some(group) => group.leave(key),
         None => false,
     }
+}
+
+/// The digest of the target of a key.
+fn digest_of(secret: u64, key: &SharedKey) -> u64
+    ensures { result ≡ digest_of_target secret key.now.target }
+{
+    digest_of_target(secret, &key.key().target)
 }

@@ -2,7 +2,7 @@
 ghost use Rattle.std.specs.Prelude.{IfOk};
 ghost use Rattle.coap_endpoint.specs.Target.{IsTarget};
 
-use coap_cache::{CacheKey, Stored};
+use coap_cache::{CacheKey, SharedKey, Stored};
 use coap_endpoint::{Endpoint, Ip, Target};
 use coap_message::{DecodeError, OptionList, OutOfMemory, Pieces, decode};
 use std::alloc::Global;
@@ -35,11 +35,10 @@ pub(crate) fn target(alloc: Global) -> Result<Target, OutOfMemory>
 }
 
 /// The key of a GET of that target.
-pub(crate) fn key(alloc: Global) -> Result<CacheKey, OutOfMemory> {
-    Ok(CacheKey {
-        target: target(alloc)?,
-        options: OptionList::new(alloc),
-    })
+pub(crate) fn key(alloc: Global) -> Result<SharedKey, OutOfMemory> {
+    let target = target(alloc)?;
+    let options = OptionList::new(alloc);
+    SharedKey::new(alloc, CacheKey { target, options })
 }
 
 /// A 2.05 with Max-Age 10 and an ETag, which came at moment 0.

@@ -1,5 +1,5 @@
 //! Both stores, called directly: what they keep within their limits, and what they return.
-use coap_cache::{CacheKey, ListStore, LruStore, Put, Store, Stored, bytes_of};
+use coap_cache::{CacheKey, ListStore, LruStore, Put, SharedKey, Store, Stored, bytes_of};
 use coap_message::{Code, Kind, Message, OptionList, OutOfMemory, Pieces, Seq, Token};
 use coap_option::numbers;
 use coap_target::{Endpoint, Ip, Target};
@@ -26,15 +26,13 @@ fn target(alloc: Global, segment: &[u8]) -> Result<Target, OutOfMemory> {
 }
 
 /// A cache key for that resource, with or without an Accept.
-fn key(alloc: Global, segment: &[u8], accept: &[u8]) -> Result<CacheKey, OutOfMemory> {
+fn key(alloc: Global, segment: &[u8], accept: &[u8]) -> Result<SharedKey, OutOfMemory> {
     let mut options = OptionList::new(alloc);
     if let [format] = accept {
         options.push(numbers::ACCEPT, &[*format])?;
     }
-    Ok(CacheKey {
-        target: target(alloc, segment)?,
-        options,
-    })
+    let target = target(alloc, segment)?;
+    SharedKey::new(alloc, CacheKey { target, options })
 }
 
 /// A 2.05 without options that came at moment 0, with a payload of this many bytes.
@@ -146,7 +144,7 @@ fn a_new_response_takes_the_room_of_those_used_least(rt: HostRuntime) -> Result<
 }
 
 /// Checks whether a response is found that is fresh at this moment.
-fn check_hit<S: Store>(rt: &impl Abort, store: &mut S, key: &CacheKey, now: u64, expected: bool) {
+fn check_hit<S: Store>(rt: &impl Abort, store: &mut S, key: &SharedKey, now: u64, expected: bool) {
     assert_eq!(rt; store.hit(key, now), expected);
 }
 
@@ -169,7 +167,7 @@ fn check_marked<S: Store>(
     rt: &impl Abort,
     alloc: Global,
     store: &mut S,
-    (first, last): (&CacheKey, &CacheKey),
+    (first, last): (&SharedKey, &SharedKey),
 ) -> Result<(), OutOfMemory> {
     // without a Max-Age a response is fresh for a minute
     check_hit(rt, store, first, 0, false);

@@ -17,10 +17,10 @@ alone false = refl
 pub returns-in-One-clause-marked : goal.returns-in-One-clause-marked
 returns-in-One-clause-marked g c =
     let of = is_of c.args.target.now in
-    let only = c.in-One.key.value in
+    let only = c.in-One.key in
     let held : (k : CacheKey) → same_key k only ≡ has c.args.group.now k = λ k. subst (λ (group : Group _ _). same_key k only ≡ has group k) (sym c.in-One.is) (alone (same_key k only)) in
-    (rw c.deref.ensures at c.mark_of.ensures.marked)
+    c.mark_of.ensures.marked
     ∙ ap (λ es. lru_cache es c.args.recent.now.cap) (map-same_marks (λ k. of k && same_key k only) (λ k. of k && has c.args.group.now k) c.args.recent.now.entries (λ k. ap (λ (b : Bool). of k && b) (held k)))
 
 pub returns-in-One-clause-distinct : goal.returns-in-One-clause-distinct
-returns-in-One-clause-distinct g c = subst (λ (group : Group _ _). IsDistinct same_key (keys_in group)) (sym c.in-One.is) (distinct-one c.in-One.key.value)
+returns-in-One-clause-distinct g c = subst (λ (group : Group _ _). IsDistinct same_key (keys_in group)) (sym c.in-One.is) (distinct-one c.in-One.key)

@@ -12,7 +12,7 @@ returns-in-Occupied-clause-filled g c =
     let some : length (keys_in c.add.new.self) ≢ 0 = still-keys (keys_in c.into_mut.result.now) (keys_in c.add.new.self) (λ k. is_ok c.add.result && same_key c.args.key k) c.add.ensures (c.requires c.args.at c.into_mut.result.now found) in
     search (rules, filled-put c.args.groups.now c.requires c.args.at c.add.new.self some)
 
-pub returns-in_ok-of-in-Vacant-clause-more : goal.returns-in_ok-of-in-Vacant-clause-more
-returns-in_ok-of-in-Vacant-clause-more g c =
+pub returns-in-Vacant-clause-more : goal.returns-in-Vacant-clause-more
+returns-in-Vacant-clause-more g c =
     let none : get nat_eq c.args.groups.now c.args.at ≡ None = search rules in
-    search (rules, more-opened c.args.groups.now c.args.at c.args.key c.in_ok-of-in-Vacant.field-0 c.in_ok-of-in-Vacant.ensures none)
+    search (rules, more-opened c.args.groups.now c.args.at c.args.key c.of.result c.of.ensures none)

@@ -1,6 +1,7 @@
-use Rattle.std.proofs.Common.{◌≡◌, ◌≤◌, ◌∙◌, Some, length, refl, rules, sym, subst}
+use Rattle.std.proofs.Common.{◌≡◌, ◌≤◌, ◌∙◌, Some, ap, length, refl, rules, sym, subst}
 use Rattle.std.proofs.lemmas.Option.{same_Some}
 use Rattle.coap_pending.specs.Table.{item_at}
+use Rattle.coap_store.specs.declared.key.CacheKey.{CacheKey}
 use Rattle.coap_model.specs.State.{Step}
 use Rattle.coap_core.specs.Done.{Does}
 use Rattle.coap_core.specs.Dues.{IsExchangeDue}
@@ -38,7 +39,7 @@ on_request_timeout-requires-clause-ended g c =
     record {
       item = c.in-Some.exchange.now;
       found = found g k;
-      holds = (has-ended c.args.self.now c.args.timing.now c.in-Some.exchange.now (due g k) c.in-Sent.is (sym c.if-is_late.ensures), refl);
+      holds = (has-ended c.args.self.now c.args.timing.now c.in-Some.exchange.now (due g k) c.in-Sent.is (sym c.if-is_late.ensures), ap (λ (k : CacheKey). k.target.at) c.key.ensures);
     }
 
 pub send-requires-clause-queued : goal.send-requires-clause-queued
@@ -47,7 +48,7 @@ send-requires-clause-queued g c =
     record {
       item = c.in-Some.exchange.now;
       found = found g k;
-      holds = (rw c.in-Queued.is refl, refl);
+      holds = (rw c.in-Queued.is refl, ap (λ (k : CacheKey). k.target.at) c.key.ensures);
     }
 
 pub on_request_timeout-requires-clause-can : goal.on_request_timeout-requires-clause-can

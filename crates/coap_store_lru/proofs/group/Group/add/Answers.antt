@@ -10,7 +10,7 @@ use Rattle.coap_store_lru.proofs.group.Group.add.Goals as goal
 pub returns : goal.returns
 returns g c =
     let key = c.args.key in
-    let first = c.in-One.first.value in
+    let first = c.in-One.first in
     let copy : c.in_ok-first-in-One.first ≡ first = search rules in
     λ k. ap (λ (s : HashSet CacheKey _). contains same_key s k) c.in_ok-new.ensures.ok
     ∙ c.in_ok-both.ensures k

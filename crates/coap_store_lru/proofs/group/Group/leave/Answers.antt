@@ -8,7 +8,7 @@ use Rattle.coap_store_lru.proofs.group.Group.leave.Goals as goal
 pub returns-in-One-clause-left : goal.returns-in-One-clause-left
 returns-in-One-clause-left g c =
     let key = c.args.key.now in
-    let only = c.in-One.only.value in
+    let only = c.in-One.only in
     let is : c.eq.result ≡ same_key only key = search rules in
     λ k. ap (λ b. not b && (same_key k only || false)) is
     ∙ only-left only key k

@@ -9,9 +9,9 @@ pub returns : goal.returns
 returns g c =
     let self = c.args.self.now in
     let key = c.args.key.now in
-    let at = c.digest_of_target-at.result in
+    let at = c.digest_of-at.result in
     let new = c.enter.new.groups in
     let added = is_ok c.enter.result in
     let changed : (k : CacheKey) → in_group new at k ≡ ((added && same_key key k) || in_group self.groups at k) =
     λ k. c.enter.ensures.more k ∙ ap (λ (j : CacheKey). (added && same_key j k) || in_group self.groups at k) c.in_ok-copy.ensures in
-    is_indexed-changed self.groups new at c.enter.ensures.others self.secret key (λ p b. (added && p) || b) c.digest_of_target-at.ensures.exact (none_added added) changed
+    is_indexed-changed self.groups new at c.enter.ensures.others self.secret key (λ p b. (added && p) || b) c.digest_of-at.ensures (none_added added) changed

@@ -11,7 +11,7 @@ invariant_of-self g c =
     let old = c.args.self.now.groups in
     let between = c.leave.new.groups in
     let new = c.remove.new.self in
-    let at = c.digest_of_target-at.result in
+    let at = c.digest_of-at.result in
     let put : (e : ℕ) → get nat_eq new e ≡ cond (nat_eq at e) None (get nat_eq between e) = c.remove.ensures.updates.0 in
     let others : (e : ℕ) → nat_eq at e ≡ false → get nat_eq new e ≡ get nat_eq old e = λ e other. put-elsewhere between new at None put e other ∙ c.leave.ensures.others e other in
     record { filled = filled-but old new at others c.args.self.now.filled (filled_none new at (put-here between new at None put)) }
@@ -23,17 +23,17 @@ returns-then-leave g c =
     let key = c.args.key.now in
     let between = c.leave.new.groups in
     let new = c.remove.new.self in
-    let at = c.digest_of_target-at.result in
+    let at = c.digest_of-at.result in
     let put : (e : ℕ) → get nat_eq new e ≡ cond (nat_eq at e) None (get nat_eq between e) = c.remove.ensures.updates.0 in
     let others : (e : ℕ) → nat_eq at e ≡ false → get nat_eq new e ≡ get nat_eq old e = λ e other. put-elsewhere between new at None put e other ∙ c.leave.ensures.others e other in
     let gone : (k : CacheKey) → in_group new at k ≡ (not (same_key key k) && in_group old at k) =
     λ k. none-in_group new at (put-here between new at None put) k ∙ sym (ap (λ b. not b && in_group between at k) c.if-leave.true) ∙ c.leave.ensures.left k in
-    is_indexed-changed old new at others self.secret key (λ p b. not p && b) c.digest_of_target-at.ensures.exact (λ b. refl) gone
+    is_indexed-changed old new at others self.secret key (λ p b. not p && b) c.digest_of-at.ensures (λ b. refl) gone
 
 pub returns-else-leave : goal.returns-else-leave
 returns-else-leave g c =
     let self = c.args.self.now in
     let between = c.leave.new.groups in
-    let at = c.digest_of_target-at.result in
-    is_indexed-changed self.groups between at c.leave.ensures.others self.secret c.args.key.now (λ p b. not p && b) c.digest_of_target-at.ensures.exact (λ b. refl)
+    let at = c.digest_of-at.result in
+    is_indexed-changed self.groups between at c.leave.ensures.others self.secret c.args.key.now (λ p b. not p && b) c.digest_of-at.ensures (λ b. refl)
     (λ k. sym (ap (λ b. not b && in_group between at k) c.if-leave.false) ∙ c.leave.ensures.left k)
