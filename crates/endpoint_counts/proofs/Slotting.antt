@@ -1,5 +1,5 @@
 -- Entries in numbered places: what stands where, and what is counted for an endpoint.
-use Rattle.std.proofs.Common.{◌≡◌, ℕ, suc, zero, ◌+◌, ◌-◌, ◌<◌, ◌≤◌, List, [], ◌∷◌, ◌++◌, length, length-append, length-set, set, slice_get, take, take_at, Bool, true, false, cond, eqb, Option, Some, None, refl, sym, ap, ◌∙◌, subst, arith, inl, inr}
+use Rattle.std.proofs.Common.{◌≡◌, ℕ, suc, zero, ◌+◌, ◌-◌, ◌<◌, ◌≤◌, List, [], ◌∷◌, ◌++◌, length, length-append, length-set, map, set, slice_get, take, take_at, Bool, true, false, cond, eqb, Option, Some, None, refl, sym, ap, ◌∙◌, subst, arith, inl, inr}
 use Rattle.std.specs.Prelude.{◌⊎◌}
 use Rattle.std.specs.List.{AllByRecursion}
 use Rattle.std.proofs.lemmas.Bool.{eqb-true, eqb-false, eq-eqb, ne_eqb}
@@ -10,7 +10,7 @@ use Rattle.endpoint_counts.specs.declared.endpoints.EndpointCounts.{EndpointCoun
 use Rattle.endpoint_counts.specs.declared.slots.Entry.{Entry}
 use Rattle.endpoint_counts.specs.Digests.{digest_of_endpoint}
 use Rattle.ordered_index.specs.Ordered.{is_key}
-use Rattle.endpoint_counts.specs.Slots.{entry_key, found, is_entry_of, numbered, slots_of, AreDistinct, AreSome}
+use Rattle.endpoint_counts.specs.Slots.{entry_key, found, is_entry_of, numbered, slots_of, AreDistinct, AreGapless, AreSome}
 use Rattle.coap_pending.proofs.Tables.{none-least}
 use Rattle.endpoint_counts.proofs.Firsts.{first-some}
 use Rattle.coap_pending.specs.Table.{Numbered, Table, IsRising, IsTable, admitted_to, changed_at, first_that, item_at, passes, without, withdrawn, withdrawn_at}
@@ -32,6 +32,14 @@ module _ {A : Type 0} where
   pub numbered-length : (k : ℕ) (xs : List A) → length (numbered k xs) ≡ length xs
   numbered-length k [] = refl
   numbered-length k (x ∷ xs) = ap suc (numbered-length (suc k) xs)
+
+  -- so they are without a gap
+  numbered-items : (k : ℕ) (xs : List A) → map (λ x. x.1) (numbered k xs) ≡ xs
+  numbered-items k [] = refl
+  numbered-items k (x ∷ xs) = ap (λ (l : List A). x ∷ l) (numbered-items (suc k) xs)
+
+  pub numbered-gapless : (xs : List A) → AreGapless (numbered 0 xs)
+  numbered-gapless xs = ap (numbered 0) (sym (numbered-items 0 xs))
 
   -- no place has a number that isn't after the one before the first
   pub numbered-low : (k q : ℕ) (xs : List A) → q ≤ k → item_at q (numbered k xs) ≡ None

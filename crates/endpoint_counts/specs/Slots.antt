@@ -1,5 +1,5 @@
 -- Entries in numbered places: what is counted for an endpoint, and where an endpoint's entry is.
-use Rattle.std.specs.Prelude.{◌≡◌, ℕ, suc, ◌<◌, Bool, true, if◌then◌else◌, List, [], ◌∷◌, length, Option, Some, None}
+use Rattle.std.specs.Prelude.{◌≡◌, ℕ, suc, ◌<◌, Bool, true, if◌then◌else◌, List, [], ◌∷◌, length, map, Option, Some, None}
 use Rattle.coap_endpoint.specs.declared.endpoint.Endpoint.{Endpoint}
 use Rattle.coap_endpoint.specs.Endpoint.{same_endpoint}
 use Rattle.endpoint_counts.specs.declared.endpoints.EndpointCounts.{EndpointCounts}
@@ -15,6 +15,10 @@ numbered before (x ∷ xs) = (suc before, x) ∷ numbered (suc before) xs
 abbrev pub slots_of : List Entry → ℕ → Table Entry
 slots_of entries limit =
     record { items = numbered 0 entries; limit = limit; per_client = 0; admitted = length entries }
+
+-- the places are numbered from 1 on, without a gap
+abbrev pub AreGapless : {A : Type 0} → List (Numbered A) → Type 0
+AreGapless items = items ≡ numbered 0 (map (λ x. x.1) items)
 
 -- the entry is of this endpoint
 abbrev pub is_entry_of : Endpoint → Entry → Bool

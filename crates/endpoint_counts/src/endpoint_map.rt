@@ -2,7 +2,7 @@
 ghost use Rattle.std.specs.Prelude.{◌≡◌, ◌<◌, length, if◌then◌else◌, Some, None, IfOk};
 ghost use Rattle.coap_endpoint.specs.declared.endpoint.Endpoint.{Endpoint};
 ghost use Rattle.endpoint_counts.specs.Endpoints.{is_one};
-ghost use Rattle.endpoint_counts.specs.Slots.{found, is_entry_of, AreDistinct, AreSome};
+ghost use Rattle.endpoint_counts.specs.Slots.{found, is_entry_of, AreDistinct, AreGapless, AreSome};
 ghost use Rattle.coap_pending.specs.Table.{empty_table, first_that, item_at, passes, IsTable};
 
 use crate::endpoints::EndpointCounts;
@@ -92,13 +92,14 @@ impl EndpointMap {
     }
 
     // Does nothing: it lets a proof conclude that there are no more entries than items that they
-    // count.
+    // count, and that `entry` gives all of them, one after another.
     pub fn laws(&self)
         ensures distinct { AreDistinct self.now.items }
         ensures some { AreSome self.now.items }
         ensures sound { IsTable self.now }
+        ensures gapless { AreGapless self.now.items }
     {
-        let _ = &self.slots;
+        let _ = self.slots.len();
     }
 
     /// Sets what is counted for an endpoint, whose place is this: of something there is at least

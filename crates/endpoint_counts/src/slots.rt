@@ -1,5 +1,6 @@
 //! Counts with their endpoints, in numbered places.
 ghost use Rattle.std.specs.Prelude.{◌≡◌, ◌<◌, ◌≤◌, ◌^◌, [], length, IfNone, IfOk};
+ghost use Rattle.endpoint_counts.specs.Slots.{AreGapless};
 ghost use Rattle.coap_pending.specs.Table.{admitted_to, changed_at, empty_table, item_at, withdrawn, IsTable};
 
 use crate::endpoints::EndpointCounts;
@@ -59,6 +60,7 @@ impl Slots {
         ensures all { length self.now.items ≡ self.now.admitted }
         ensures fits { self.now.limit < 2 ^ 64 }
         ensures sound { IsTable self.now }
+        ensures gapless { AreGapless self.now.items }
     {
         self.entries.len() as u64
     }
