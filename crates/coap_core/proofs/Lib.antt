@@ -9,3 +9,8 @@ pub mod Uris
 pub mod Widths
 pub mod Read
 pub mod Puts
+pub mod Sums
+pub mod Grouping
+pub mod Totals
+pub mod Listing
+pub mod Greatest

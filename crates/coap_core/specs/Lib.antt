@@ -1,6 +1,9 @@
 pub mod Arrivals
 pub mod Events
+pub mod Examples
 pub mod Forms
+pub mod Holders
+pub mod Parts
 pub mod Settings
 pub mod Asked
 pub mod Done

@@ -1,6 +1,15 @@
 //! Who has most of a table that is full.
+ghost use Rattle.std.specs.Prelude.{◌≡◌, ◌≤◌, [], ◌∷◌, length, vec_capacity, vec_len, IfNone, IfOk, IfSome, None};
+ghost use Rattle.coap_message.specs.Reading.{head_at};
+ghost use Rattle.coap_model.specs.State.{records_of};
+ghost use Rattle.endpoint_counts.specs.Slots.{AreGapless};
+ghost use Rattle.coap_core.specs.Events.{seen};
+ghost use Rattle.coap_core.specs.Holders as spec;
+ghost use Rattle.coap_core.specs.Parts.{AreOf, IsGreatestOf, client_parts, record_parts};
+ghost use Rattle.coap_core.specs.Told.{told};
 
 use crate::event::Event;
+use crate::most::{Part, Sum, most_of};
 use crate::proxy::Core;
 use crate::watch::Seen;
 use coap_endpoint::{Endpoint, Ip};
@@ -9,6 +18,7 @@ use coap_message::{Kind, Moment, OutOfMemory, head_of};
 use coap_model::{LimitValues, Outcome};
 use coap_store::Store;
 use std::alloc::Global;
+use std::marker::Model;
 
 /// How long nobody is looked for once somebody was found, in milliseconds.
 const PAUSE: Moment = 60_000;
@@ -24,7 +34,9 @@ pub enum SharedTable {
 
 impl SharedTable {
     /// Its name, which is that of its limit.
-    pub fn name(self) -> &'static str {
+    pub fn name(self) -> &'static str
+        ensures { result.now ≡ spec.table_name self }
+    {
         match self {
             SharedTable::ConRecords => "con_records",
             SharedTable::NonRecords => "non_records",
@@ -49,74 +61,9 @@ pub struct Holder {
     pub found: Moment,
 }
 
-/// What an endpoint has of a table.
-#[derive(Clone, Copy, Debug, PartialEq, Eq, PartialOrd, Ord)]
-struct Part {
-    at: Endpoint,
-    count: u64,
-}
-
-/// What the ports of an address have that were counted so far, of which this is the last.
-#[derive(Clone, Copy)]
-struct Sum {
-    last: Endpoint,
-    held: u64,
-    ports: u64,
-}
-
-impl Sum {
-    /// That of a first part.
-    fn of(part: Part) -> Sum {
-        Sum {
-            last: part.at,
-            held: part.count,
-            ports: 1,
-        }
-    }
-
-    /// That with one part more, if it is of the same address.
-    fn with(self, part: Part) -> Option<Sum> {
-        if part.at.ip != self.last.ip {
-            return None;
-        }
-        let more = u64::from(part.at.port != self.last.port);
-        Some(Sum {
-            last: part.at,
-            held: self.held.saturating_add(part.count),
-            ports: self.ports.saturating_add(more),
-        })
-    }
-}
-
-/// The address that has most, given parts in order of their endpoints.
-fn most_of(parts: &[Part]) -> Option<Sum> {
-    let (mut most, mut sum) = (None, None);
-    for part in parts {
-        let next = next_sum(sum, *part);
-        sum = Some(next);
-        most = greater(most, next);
-    }
-    most
-}
-
-/// The sum with one part more: of the same address, or the first of another.
-fn next_sum(sum: Option<Sum>, part: Part) -> Sum {
-    match sum {
-        Some(sum) => sum.with(part).unwrap_or(Sum::of(part)),
-        None => Sum::of(part),
-    }
-}
-
-/// The greater of two sums; of equal ones the first.
-fn greater(most: Option<Sum>, sum: Sum) -> Option<Sum> {
-    match most {
-        Some(it) if it.held >= sum.held => most,
-        Some(_) | None => Some(sum),
-    }
-}
-
 /// Who had most of each table when it was last found full. At most once a minute somebody is looked
 /// for: when a message was turned away for want of room in a table, or of its client's share in it.
+/// Only `new` allocates.
 #[derive(Drop)]
 pub struct Holders {
     /// What each endpoint has, while somebody is looked for.
@@ -130,12 +77,33 @@ pub struct Holders {
     waiters: Option<Holder>,
 }
 
+impl Model for Holders {
+    ghost use Rattle.std.specs.Prelude.{◌≤◌, vec_capacity};
+    ghost use Rattle.coap_core.specs.Holders as spec;
+
+    ghost Value = { spec.Holders };
+
+    ghost view = { λ h.
+        record {
+          room = h.room;
+          next = h.next;
+          con_records = h.con_records;
+          non_records = h.non_records;
+          exchanges = h.exchanges;
+          waiters = h.waiters;
+        } };
+
+    ghost invariant = { λ h. h.room ≤ vec_capacity h.parts };
+}
+
 impl Holders {
-    /// Nobody yet, with these limits. No other call allocates.
+    /// Nobody yet, with room for the tables of a proxy with these limits.
     ///
     /// # Errors
     /// Out of memory.
-    pub fn new(alloc: Global, limits: &LimitValues) -> Result<Holders, OutOfMemory> {
+    pub fn new(alloc: Global, limits: &LimitValues) -> Result<Holders, OutOfMemory>
+        ensures nobody { IfOk result (λ holders. holders ≡ spec.nobody limits.now) }
+    {
         let records = limits.con_records.max(limits.non_records);
         let room = records.max(limits.exchanges).max(limits.waiters) as usize;
         Ok(Holders {
@@ -150,7 +118,11 @@ impl Holders {
     }
 
     /// Those that were found last, for each table that was full.
-    pub fn all(&self) -> [Option<Holder>; 4] {
+    pub fn all(&self) -> [Option<Holder>; 4]
+        ensures { result
+            ≡ self.now.con_records ∷ self.now.non_records ∷ self.now.exchanges
+            ∷ self.now.waiters ∷ [] }
+    {
         [
             self.con_records,
             self.non_records,
@@ -160,7 +132,9 @@ impl Holders {
     }
 
     /// Notes who has most of a table.
-    pub fn note(&mut self, holder: Holder) {
+    pub fn note(&mut self, holder: Holder)
+        ensures { self.new ≡ spec.noted holder holder.table self.old }
+    {
         match holder.table {
             SharedTable::ConRecords => self.con_records = Some(holder),
             SharedTable::NonRecords => self.non_records = Some(holder),
@@ -172,7 +146,18 @@ impl Holders {
     /// Is told of a turn, with the core as it is after it. Returns who has most of the table that
     /// is full, if that was found in this turn.
     #[inline(always)]
-    pub fn look<S: Store + Drop>(&mut self, turn: Seen<'_>, core: &Core<S>) -> Option<Holder> {
+    pub fn look<S: Store + Drop>(&mut self, turn: Seen<'_>, core: &Core<S>) -> Option<Holder>
+        // Nobody is looked for unless a message was turned away for want of room, and not within a
+        // minute after somebody was looked for.
+        ensures none { spec.looks_in self.old (told turn.entry core.now) ≡ None
+            → result ≡ None }
+        ensures same { spec.looks_in self.old (told turn.entry core.now) ≡ None
+            → self.new ≡ self.old }
+
+        // Otherwise it is an address of which no other has more.
+        ensures found { IfSome (spec.looks_in self.old (told turn.entry core.now)) (λ table.
+            spec.IsFound table turn.entry.now core.now self.old result self.new) }
+    {
         let outcome = turn.report?.outcome;
         if may_be_full(outcome) {
             self.look_closely(turn.now, turn.event, outcome, core)
@@ -181,8 +166,8 @@ impl Holders {
         }
     }
 
-    /// Looks for who has most of the table for want of which an event had this outcome: no room for a
-    /// record, or 5.03.
+    /// Looks for who has most of the table for want of which an event had this outcome: no room for
+    /// a record, or 5.03.
     #[inline(never)]
     fn look_closely<S: Store + Drop>(
         &mut self,
@@ -190,75 +175,18 @@ impl Holders {
         event: Event<'_>,
         outcome: Outcome,
         core: &Core<S>,
-    ) -> Option<Holder> {
-        let table = if outcome == Outcome::NoRecordRoom {
-            records_for(event)?
-        } else {
-            full_table(event, core)?
-        };
-        if now < self.next {
+    ) -> Option<Holder>
+        ensures { spec.Looks now core.now
+            (spec.lacking_at (seen event.entry) core.now outcome) self.old result self.new }
+    {
+        let table = lacking_at(event, outcome, core)?;
+        let (count, limit) = usage_of(table, core);
+        if now < self.next || limit > self.room as u64 {
             return None;
         }
         self.next = now.saturating_add(PAUSE);
-        self.list(table, core);
-        let holder = self.holder(table, now, core)?;
-        self.note(holder);
-        Some(holder)
-    }
-
-    /// Lists what each endpoint has of a table.
-    fn list<S: Store + Drop>(&mut self, table: SharedTable, core: &Core<S>) {
-        self.parts.clear();
-        match table {
-            SharedTable::ConRecords => self.list_records(Kind::Con, core),
-            SharedTable::NonRecords => self.list_records(Kind::Non, core),
-            SharedTable::Exchanges => self.list_clients(core.openers()),
-            SharedTable::Waiters => self.list_clients(core.waiting_clients()),
-        }
-    }
-
-    /// Lists one for each record of messages of a type.
-    fn list_records<S: Store + Drop>(&mut self, kind: Kind, core: &Core<S>) {
-        for place in 0..self.room {
-            let Some(at) = core.record_source(kind, place) else {
-                return;
-            };
-            self.add(Part { at, count: 1 });
-        }
-    }
-
-    /// Lists what each client has.
-    fn list_clients(&mut self, clients: &EndpointMap) {
-        for place in 0..self.room {
-            let Some(entry) = clients.entry((place as u64).saturating_add(1)) else {
-                return;
-            };
-            self.add(Part {
-                at: entry.peer.endpoint(),
-                count: entry.counts.all as u64,
-            });
-        }
-    }
-
-    /// Adds a part, if there is room for it.
-    fn add(&mut self, part: Part) {
-        if self.parts.len() < self.room {
-            // There is room, so this takes no memory.
-            let _ = self.parts.push(part);
-        }
-    }
-
-    /// Who has most of what is listed of a table.
-    fn holder<S: Store + Drop>(
-        &mut self,
-        table: SharedTable,
-        now: Moment,
-        core: &Core<S>,
-    ) -> Option<Holder> {
-        self.parts.as_mut_slice().sort_unstable();
-        let most = most_of(self.parts.as_slice())?;
-        let (count, limit) = usage_of(table, core);
-        Some(Holder {
+        let most = greatest(&mut self.parts, self.room, table, core)?;
+        let holder = Holder {
             table,
             count,
             limit,
@@ -266,12 +194,100 @@ impl Holders {
             held: most.held,
             ports: most.ports,
             found: now,
-        })
+        };
+        self.note(holder);
+        Some(holder)
+    }
+}
+
+/// Which address has most of a table. The vector has room for what each endpoint has of it.
+fn greatest<S: Store + Drop>(
+    parts: &mut Vec<Part>,
+    room: usize,
+    table: SharedTable,
+    core: &Core<S>,
+) -> Option<Sum>
+    requires room { room ≤ vec_capacity parts.old }
+    requires fits { spec.limit_of table core.now.setting.limits ≤ room }
+    ensures capacity { vec_capacity parts.new ≡ vec_capacity parts.old }
+    ensures none { IfNone result (spec.owners table core.now ≡ []) }
+    ensures most { IfSome result (λ sum. IsGreatestOf (spec.owners table core.now) sum) }
+{
+    core.tables_fit();
+    parts.clear();
+    list(parts, room, table, core);
+    parts.sort_unstable();
+    most_of(parts.as_slice())
+}
+
+/// Lists what each endpoint has of a table.
+fn list<S: Store + Drop>(parts: &mut Vec<Part>, room: usize, table: SharedTable, core: &Core<S>)
+    requires room { room ≤ vec_capacity parts.old }
+    requires empty { parts.old.items ≡ [] }
+    requires len { vec_len parts.old ≡ 0 }
+    requires fits { length (spec.owners table core.now) ≤ room }
+    ensures capacity { vec_capacity parts.new ≡ vec_capacity parts.old }
+    ensures listed { AreOf (spec.owners table core.now) parts.new.items }
+{
+    match table {
+        SharedTable::ConRecords => list_records(parts, room, Kind::Con, core),
+        SharedTable::NonRecords => list_records(parts, room, Kind::Non, core),
+        SharedTable::Exchanges => {
+            let clients = core.openers();
+            clients.laws();
+            list_clients(parts, room, clients);
+        }
+        SharedTable::Waiters => {
+            let clients = core.waiting_clients();
+            clients.laws();
+            list_clients(parts, room, clients);
+        }
+    }
+}
+
+/// Lists one for each record of messages of a type.
+fn list_records<S: Store + Drop>(parts: &mut Vec<Part>, room: usize, kind: Kind, core: &Core<S>)
+    requires room { room ≤ vec_capacity parts.old }
+    requires empty { parts.old.items ≡ [] }
+    requires len { vec_len parts.old ≡ 0 }
+    requires fits { length (records_of kind core.now).items ≤ room }
+    ensures capacity { vec_capacity parts.new ≡ vec_capacity parts.old }
+    ensures listed { parts.new.items ≡ record_parts (records_of kind core.now).items }
+{
+    for place in 0..room {
+        let Some(at) = core.record_source(kind, place) else {
+            return;
+        };
+        parts.push_reserved(Part { at, count: 1 });
+    }
+}
+
+/// Lists what each client has.
+fn list_clients(parts: &mut Vec<Part>, room: usize, clients: &EndpointMap)
+    requires room { room ≤ vec_capacity parts.old }
+    requires empty { parts.old.items ≡ [] }
+    requires len { vec_len parts.old ≡ 0 }
+    requires fits { length clients.now.items ≤ room }
+    requires gapless { AreGapless clients.now.items }
+    ensures capacity { vec_capacity parts.new ≡ vec_capacity parts.old }
+    ensures listed { parts.new.items ≡ client_parts clients.now.items }
+{
+    for place in 0..room {
+        let Some(entry) = clients.entry(place as u64 + 1) else {
+            return;
+        };
+        parts.push_reserved(Part {
+            at: entry.peer.endpoint(),
+            count: entry.counts.all as u64,
+        });
     }
 }
 
 /// How much of a table all have, and how much they may have.
-fn usage_of<S: Store + Drop>(table: SharedTable, core: &Core<S>) -> (u64, u64) {
+fn usage_of<S: Store + Drop>(table: SharedTable, core: &Core<S>) -> (u64, u64)
+    ensures { result
+        ≡ (spec.used_of table core.now, spec.limit_of table core.now.setting.limits) }
+{
     let (counts, limits) = (core.counts(), core.limits().values());
     match table {
         SharedTable::ConRecords => (counts.con_records, limits.con_records),
@@ -282,7 +298,9 @@ fn usage_of<S: Store + Drop>(table: SharedTable, core: &Core<S>) -> (u64, u64) {
 }
 
 /// Whether a message was turned away, so that a table may be full.
-fn may_be_full(outcome: Outcome) -> bool {
+fn may_be_full(outcome: Outcome) -> bool
+    ensures { result ≡ spec.is_turned_away outcome }
+{
     match outcome {
         Outcome::NoRecordRoom | Outcome::Overloaded => true,
         Outcome::Ignored
@@ -303,28 +321,44 @@ fn may_be_full(outcome: Outcome) -> bool {
     }
 }
 
+/// The table for want of which an event had this outcome.
+fn lacking_at<S: Store + Drop>(
+    event: Event<'_>,
+    outcome: Outcome,
+    core: &Core<S>,
+) -> Option<SharedTable>
+    ensures { result ≡ spec.lacking_at (seen event.entry) core.now outcome }
+{
+    let Event::Datagram { from, bytes } = event else {
+        return None;
+    };
+    match outcome {
+        Outcome::NoRecordRoom => records_for(bytes),
+        Outcome::Overloaded => full_for(from, core),
+        _ => None,
+    }
+}
+
 /// The records of messages of the type that came.
-fn records_for(event: Event<'_>) -> Option<SharedTable> {
-    match event {
-        Event::Datagram { bytes, .. } => match head_of(bytes)?.kind {
-            Kind::Con => Some(SharedTable::ConRecords),
-            Kind::Non | Kind::Ack | Kind::Rst => Some(SharedTable::NonRecords),
-        },
-        Event::Tick => None,
+fn records_for(bytes: &[u8]) -> Option<SharedTable>
+    ensures { result ≡ spec.records_for (head_at bytes.now) }
+{
+    match head_of(bytes)?.kind {
+        Kind::Con => Some(SharedTable::ConRecords),
+        Kind::Non | Kind::Ack | Kind::Rst => Some(SharedTable::NonRecords),
     }
 }
 
 /// The table of exchanges or of waiters that is full, for all or for the client that a request came
 /// from.
-fn full_table<S: Store + Drop>(event: Event<'_>, core: &Core<S>) -> Option<SharedTable> {
-    let Event::Datagram { from, .. } = event else {
-        return None;
-    };
-    let (all, own) = (core.counts(), core.client_counts(from));
+fn full_for<S: Store + Drop>(client: Endpoint, core: &Core<S>) -> Option<SharedTable>
+    ensures { result ≡ spec.full_for client core.now }
+{
+    let (all, own) = (core.counts(), core.client_counts(client));
     let limits = core.limits().values();
-    if all.exchanges >= limits.exchanges || own.exchanges >= limits.client_exchanges {
+    if !(all.exchanges < limits.exchanges && own.exchanges < limits.client_exchanges) {
         Some(SharedTable::Exchanges)
-    } else if all.waiters >= limits.waiters || own.waiters >= limits.client_waiters {
+    } else if !(all.waiters < limits.waiters && own.waiters < limits.client_waiters) {
         Some(SharedTable::Waiters)
     } else {
         None

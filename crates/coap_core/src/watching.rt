@@ -1,5 +1,5 @@
 //! What a core shows to those who watch it: what its next tick is about, and what a message meets.
-ghost use Rattle.std.specs.Prelude.{◌≡◌, is_some, slice_get};
+ghost use Rattle.std.specs.Prelude.{◌≡◌, ◌≤◌, is_some, length, slice_get};
 ghost use Rattle.std.specs.Option.{option_copied, option_map};
 ghost use Rattle.coap_pending.specs.Exchanges.{is_joinable, is_opened_by};
 ghost use Rattle.coap_pending.specs.Table.{first_that, item_at};
@@ -8,6 +8,8 @@ ghost use Rattle.endpoint_counts.specs.Clients.{AreOfClients};
 ghost use Rattle.coap_model.specs.State.{records_of};
 ghost use Rattle.coap_model.specs.Ticks.{item_due};
 ghost use Rattle.coap_store.specs.Entries.{stored_for};
+ghost use Rattle.coap_core.specs.declared.holders.SharedTable.{SharedTable};
+ghost use Rattle.coap_core.specs.Holders.{limit_of, owners};
 ghost use Rattle.coap_core.specs.Watching as spec;
 
 use crate::proxy::Core;
@@ -139,6 +141,14 @@ impl<S: Store + Drop> Core<S> {
         ensures exact { AreOfClients is_of self.now.waiters result.now }
     {
         self.state.under_way.waiters().clients()
+    }
+
+    // Does nothing: it lets a proof conclude that no table has more items than it may have.
+    pub(crate) fn tables_fit(&self)
+        ensures { (table : SharedTable)
+            → length (owners table self.now) ≤ limit_of table self.now.setting.limits }
+    {
+        let _ = &self.state;
     }
 
     /// The number of Message IDs that are free at the moment of the last step: neither given nor
