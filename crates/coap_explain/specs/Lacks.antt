@@ -2,10 +2,22 @@
 use Rattle.std.specs.Prelude.{ℕ, ◌-◌, nat_lt, nat_le, List, [], ◌∷◌, Option, None, Some, if◌then◌else◌}
 use Rattle.coap_message.specs.declared.kind.Kind.{Kind}
 use Rattle.coap_message.specs.declared.kind.Kind.TheVariants as kinds
+use Rattle.coap_endpoint.specs.declared.endpoint.Endpoint.{Endpoint}
+use Rattle.coap_model.specs.State.{State, client_counts, counts}
+use Rattle.coap_core.specs.Watching.{free_ids}
 use Rattle.coap_explain.specs.declared.lacks.Lack.{Lack}
 use Rattle.coap_explain.specs.declared.lacks.Share.{Share}
 use Rattle.coap_explain.specs.declared.lacks.Share.TheVariants.{Exchanges, ClientExchanges, Waiters, ClientWaiters, Con, ClientCon, Non, ClientNon, Ids}
 use Rattle.coap_explain.specs.declared.lacks.Usage.{Usage}
+
+-- what a proxy holds, of which a client has its share
+abbrev pub usage_of : State → Endpoint → Usage
+usage_of w client = record {
+  all = counts w;
+  own = client_counts w client;
+  limits = w.setting.limits;
+  free_ids = free_ids w;
+}
 
 -- a share is lacking only if it has reached its limit
 abbrev pub full : Share → ℕ → ℕ → Option Lack

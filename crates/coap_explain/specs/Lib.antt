@@ -1,1 +1,4 @@
+pub mod Causes
+pub mod Details
 pub mod Lacks
+pub mod Words

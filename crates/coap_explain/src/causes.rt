@@ -1,5 +1,12 @@
 //! Why a message was refused, ignored or dropped, in words, for an account and for a log. The causes
 //! are found again from the message and from what the proxy holds: a step doesn't give them.
+ghost use Rattle.std.specs.Prelude.{◌≡◌, ◌++◌, codes, OnOk};
+ghost use Rattle.std.specs.Io.KnownBytes.{Appends};
+ghost use Rattle.std.specs.Option.{option_copied};
+ghost use Rattle.coap_option.specs.declared.side.Side.{Side};
+ghost use Rattle.coap_option.specs.Screening.{first_refused};
+ghost use Rattle.coap_explain.specs.Causes.{gateway_of, is_other_tag, refusal_of, unprocessed_message, unprocessed_of};
+ghost use Rattle.coap_explain.specs.Words as spec;
 
 use crate::lacks::{Lack, Lacks, Share, Usage};
 use coap_core::{Core, Exchange};
@@ -12,7 +19,9 @@ use std::io::Write;
 
 impl Share {
     /// The name of a share, as an account has it.
-    fn name(self) -> &'static str {
+    fn name(self) -> &'static str
+        ensures { result.now ≡ spec.share_name self }
+    {
         match self {
             Share::Exchanges => "exchanges",
             Share::ClientExchanges => "client exchanges",
@@ -27,7 +36,9 @@ impl Share {
     }
 
     /// The same as a key of a log.
-    pub(crate) fn key(self) -> &'static str {
+    pub(crate) fn key(self) -> &'static str
+        ensures { result.now ≡ spec.share_key self }
+    {
         match self {
             Share::ClientExchanges => "client_exchanges",
             Share::ClientWaiters => "client_waiters",
@@ -38,16 +49,25 @@ impl Share {
     }
 }
 
-/// Adds what is lacking: `NAME COUNT/LIMIT` for each share.
-pub(crate) fn put_lacks<W: Write>(line: &mut W, lacks: &Lacks) -> io::Result<()> {
-    for lack in lacks.iter().flatten() {
-        let Lack {
-            share,
-            count,
-            limit,
-        } = *lack;
-        let name = share.name();
-        write!(line, " {name} {count}/{limit}")?;
+/// Adds what is lacking of a share, if anything is: `NAME COUNT/LIMIT`.
+fn put_lack<W: Write>(line: &mut W, lack: Option<Lack>) -> io::Result<()>
+    ensures { OnOk result (Appends (W.contents line.old) (W.contents line.new)
+        (spec.lack_text lack)) }
+{
+    let Some(lack) = lack else {
+        return Ok(());
+    };
+    let (name, count, limit) = (lack.share.name(), lack.count, lack.limit);
+    write!(line, " {name} {count}/{limit}")
+}
+
+/// Adds what is lacking of each share.
+pub(crate) fn put_lacks<W: Write>(line: &mut W, lacks: &Lacks) -> io::Result<()>
+    ensures { OnOk result (Appends (W.contents line.old) (W.contents line.new)
+        (spec.lacks_text lacks.now)) }
+{
+    for lack in lacks {
+        put_lack(line, *lack)?;
     }
     Ok(())
 }
@@ -84,7 +104,9 @@ pub(crate) enum Refusal {
 }
 
 /// Why a request was refused with a code.
-fn refusal_of(code: Code, request: &MessageRef<'_>) -> Refusal {
+fn refusal_of(code: Code, request: &MessageRef<'_>) -> Refusal
+    ensures { result ≡ refusal_of code (first_refused Side.Request request.now.options) }
+{
     if code == Code::BAD_REQUEST {
         Refusal::Uri
     } else if code == Code::NOT_FOUND {
@@ -101,13 +123,12 @@ fn refusal_of(code: Code, request: &MessageRef<'_>) -> Refusal {
     }
 }
 
-/// Adds why a request was refused with a code.
-pub(crate) fn put_refusal<W: Write>(
-    line: &mut W,
-    code: Code,
-    request: &MessageRef<'_>,
-) -> io::Result<()> {
-    match refusal_of(code, request) {
+/// Adds a cause of a refusal.
+fn put_refusal_cause<W: Write>(line: &mut W, refusal: Refusal) -> io::Result<()>
+    ensures { OnOk result (Appends (W.contents line.old) (W.contents line.new)
+        (spec.refusal_text refusal)) }
+{
+    match refusal {
         Refusal::Option(number) => write!(line, " option {number}"),
         Refusal::Uri => line.write_all(b" uri"),
         Refusal::NoMap => line.write_all(b" no map"),
@@ -117,25 +138,88 @@ pub(crate) fn put_refusal<W: Write>(
     }
 }
 
+/// Adds why a request was refused with a code.
+pub(crate) fn put_refusal<W: Write>(
+    line: &mut W,
+    code: Code,
+    request: &MessageRef<'_>,
+) -> io::Result<()>
+    ensures { OnOk result (Appends (W.contents line.old) (W.contents line.new)
+        (spec.refusal_text
+        (refusal_of code (first_refused Side.Request request.now.options)))) }
+{
+    put_refusal_cause(line, refusal_of(code, request))
+}
+
 /// Why a message wasn't processed.
-pub(crate) fn put_unprocessed<W: Write>(line: &mut W, bytes: &[u8], most: u64) -> io::Result<()> {
-    if bytes.len() as u64 > most {
-        return line.write_all(b" length");
+#[derive(Clone, Copy, Debug, PartialEq, Eq)]
+enum Unprocessed {
+    /// It is longer than a datagram may be.
+    Length,
+    /// It is no message.
+    Format,
+    /// It is a response for which no exchange waits.
+    NoExchange,
+    /// Its code is none of a message of its type.
+    Code,
+    Ping,
+    /// It acknowledges or resets nothing.
+    Nothing,
+}
+
+impl Unprocessed {
+    /// Why these bytes weren't processed, where a datagram may have so many at most.
+    fn of(bytes: &[u8], most: u64) -> Unprocessed
+        ensures { result ≡ unprocessed_of most bytes.now }
+    {
+        if bytes.len() as u64 > most {
+            return Unprocessed::Length;
+        }
+        match MessageRef::read(bytes) {
+            Ok(message) => Unprocessed::of_message(&message),
+            Err(_) => Unprocessed::Format,
+        }
     }
-    let Ok(message) = MessageRef::read(bytes) else {
-        return line.write_all(b" format");
-    };
-    if message.code().is_response() {
-        return line.write_all(b" no exchange awaits it");
+
+    /// Why a message wasn't processed.
+    fn of_message(message: &MessageRef<'_>) -> Unprocessed
+        ensures { result ≡ unprocessed_message message.now }
+    {
+        if message.code().is_response() {
+            return Unprocessed::NoExchange;
+        }
+        if !message.code().is_empty() {
+            return Unprocessed::Code;
+        }
+        match message.kind() {
+            Kind::Con => Unprocessed::Ping,
+            Kind::Non => Unprocessed::Code,
+            Kind::Ack | Kind::Rst => Unprocessed::Nothing,
+        }
     }
-    if !message.code().is_empty() {
-        return line.write_all(b" code");
+
+    /// The cause in words.
+    fn word(self) -> &'static str
+        ensures { result.now ≡ spec.unprocessed_word self }
+    {
+        match self {
+            Unprocessed::Length => "length",
+            Unprocessed::Format => "format",
+            Unprocessed::NoExchange => "no exchange awaits it",
+            Unprocessed::Code => "code",
+            Unprocessed::Ping => "ping",
+            Unprocessed::Nothing => "nothing awaits it",
+        }
     }
-    match message.kind() {
-        Kind::Con => line.write_all(b" ping"),
-        Kind::Non => line.write_all(b" code"),
-        Kind::Ack | Kind::Rst => line.write_all(b" nothing awaits it"),
-    }
+}
+
+/// Adds why a message wasn't processed.
+pub(crate) fn put_unprocessed<W: Write>(line: &mut W, bytes: &[u8], most: u64) -> io::Result<()>
+    ensures { OnOk result (Appends (W.contents line.old) (W.contents line.new)
+        (codes " " ++ spec.unprocessed_word (unprocessed_of most bytes.now))) }
+{
+    let word = Unprocessed::of(bytes, most).word();
+    write!(line, " {word}")
 }
 
 /// Why a client gets 5.02 of the proxy's own in place of what an origin sent.
@@ -153,7 +237,9 @@ pub(crate) enum BadGateway {
 
 impl BadGateway {
     /// The cause, if a response is passed on as 5.02. The exchange is the one that awaits it.
-    pub(crate) fn of(response: &MessageRef<'_>, awaited: Option<&Exchange>) -> BadGateway {
+    pub(crate) fn of(response: &MessageRef<'_>, awaited: Option<&Exchange>) -> BadGateway
+        ensures { result ≡ gateway_of response.now (option_copied awaited.entry) }
+    {
         if response.kind() == Kind::Rst {
             return BadGateway::Reset;
         }
@@ -167,7 +253,9 @@ impl BadGateway {
     }
 
     /// The cause in a word.
-    pub(crate) fn word(self) -> &'static str {
+    pub(crate) fn word(self) -> &'static str
+        ensures { result.now ≡ spec.gateway_word self }
+    {
         match self {
             BadGateway::Reset => "reset",
             BadGateway::Option(_) => "option",
@@ -177,7 +265,10 @@ impl BadGateway {
     }
 
     /// Adds the cause, as an account has it.
-    pub(crate) fn put<W: Write>(self, line: &mut W) -> io::Result<()> {
+    pub(crate) fn put<W: Write>(self, line: &mut W) -> io::Result<()>
+        ensures { OnOk result (Appends (W.contents line.old) (W.contents line.new)
+            (spec.gateway_text self)) }
+    {
         match self {
             BadGateway::Option(number) => write!(line, "option {number}"),
             BadGateway::TooLong => line.write_all(b"doesn't fit"),
@@ -188,7 +279,9 @@ impl BadGateway {
 
 /// Whether a response is a 2.03 to a GET that asked for another ETag, or for none (RFC 7252,
 /// 5.9.1.3).
-fn is_other_tag(response: &MessageRef<'_>, exchange: &Exchange) -> bool {
+fn is_other_tag(response: &MessageRef<'_>, exchange: &Exchange) -> bool
+    ensures { result ≡ is_other_tag response.now exchange.now }
+{
     if response.code() != Code::VALID || !exchange.is_get {
         return false;
     }
@@ -211,7 +304,9 @@ pub(crate) enum Silence {
 
 impl Silence {
     /// The cause in a word.
-    pub(crate) fn word(self) -> &'static str {
+    pub(crate) fn word(self) -> &'static str
+        ensures { result.now ≡ spec.silence_word self }
+    {
         match self {
             Silence::NotSent => "unsent",
             Silence::NotAcknowledged => "unacknowledged",

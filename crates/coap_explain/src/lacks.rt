@@ -75,7 +75,9 @@ fn short_of_ids(free: u64, needed: u64) -> Option<Lack>
 
 impl Usage {
     /// What a core holds, of which a client has its share.
-    pub(crate) fn of<S: Store + Drop>(core: &Core<S>, client: Endpoint) -> Usage {
+    pub(crate) fn of<S: Store + Drop>(core: &Core<S>, client: Endpoint) -> Usage
+        ensures { result ≡ spec.usage_of core.now client }
+    {
         Usage {
             all: core.counts(),
             own: core.client_counts(client),

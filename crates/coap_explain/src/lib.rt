@@ -1,5 +1,8 @@
 //! Accounts and logs: what each event was and what it did, in a line of words; and what goes wrong.
 //!
+//! Contracts give each word, which cause stands for a message, and each number of these and of what
+//! was sent. Only tested is where they stand in a line, and how endpoints and targets are written.
+//!
 //! # First use
 //!
 //! ```rust
@@ -14,8 +17,10 @@
 
 mod causes;
 mod due;
+pub mod examples;
 mod explainer;
 mod lacks;
+pub mod laws;
 mod log_fields;
 mod logger;
 mod messages;

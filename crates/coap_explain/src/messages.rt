@@ -1,7 +1,12 @@
 //! Messages in words.
+ghost use Rattle.std.specs.Prelude.{◌≡◌, ◌<◌, OnOk};
+ghost use Rattle.std.specs.Io.KnownBytes.{Appends};
+ghost use Rattle.coap_message.specs.OptRef.{seen};
+ghost use Rattle.coap_message.specs.Reading.{read_message};
+ghost use Rattle.coap_explain.specs.Words as spec;
 
 use coap_endpoint::{Endpoint, Ip, Target};
-use coap_message::{Code, Kind, MessageRef, uint};
+use coap_message::{Code, Kind, MessageRef, OptRef, uint};
 use coap_option::numbers;
 use std::io;
 use std::io::Write;
@@ -39,7 +44,9 @@ pub(crate) fn put_endpoint<W: Write>(line: &mut W, endpoint: Endpoint) -> io::Re
 }
 
 /// The name of a type (RFC 7252, 4.2 and 4.3).
-fn kind_name(kind: Kind) -> &'static str {
+fn kind_name(kind: Kind) -> &'static str
+    ensures { result.now ≡ spec.kind_word kind }
+{
     match kind {
         Kind::Con => "CON",
         Kind::Non => "NON",
@@ -50,7 +57,10 @@ fn kind_name(kind: Kind) -> &'static str {
 
 /// Adds a code: the name of a method (RFC 7252, 5.8), or the class, a dot and the detail in two
 /// digits.
-pub(crate) fn put_code<W: Write>(line: &mut W, code: Code) -> io::Result<()> {
+pub(crate) fn put_code<W: Write>(line: &mut W, code: Code) -> io::Result<()>
+    ensures { OnOk result (Appends (W.contents line.old) (W.contents line.new)
+        (spec.code_text code)) }
+{
     match code.0 {
         1 => line.write_all(b"GET"),
         2 => line.write_all(b"POST"),
@@ -58,13 +68,17 @@ pub(crate) fn put_code<W: Write>(line: &mut W, code: Code) -> io::Result<()> {
         4 => line.write_all(b"DELETE"),
         _ => {
             let (class, detail) = (code.class(), code.detail());
-            write!(line, "{class}.{detail:02}")
+            let (tens, ones) = (detail / 10, detail % 10);
+            write!(line, "{class}.{tens}{ones}")
         }
     }
 }
 
 /// Adds the type of a message, and its method or its code.
-pub(crate) fn put_kind<W: Write>(line: &mut W, message: &MessageRef<'_>) -> io::Result<()> {
+pub(crate) fn put_kind<W: Write>(line: &mut W, message: &MessageRef<'_>) -> io::Result<()>
+    ensures { OnOk result (Appends (W.contents line.old) (W.contents line.new)
+        (spec.kind_text message.now)) }
+{
     let kind = kind_name(message.kind());
     write!(line, " {kind} ")?;
     put_code(line, message.code())
@@ -137,30 +151,65 @@ pub(crate) fn put_target<W: Write>(line: &mut W, target: &Target) -> io::Result<
     Ok(())
 }
 
+/// A hexadecimal digit, in lower case.
+fn hex_digit(number: u8) -> u8
+    requires { number < 16 }
+    ensures { result ≡ spec.hex_digit number }
+{
+    if number < 10 {
+        b'0' + number
+    } else {
+        b'a' - 10 + number
+    }
+}
+
 /// Adds bytes in hexadecimal digits.
-fn put_hex<W: Write>(line: &mut W, bytes: &[u8]) -> io::Result<()> {
+fn put_hex<W: Write>(line: &mut W, bytes: &[u8]) -> io::Result<()>
+    ensures { OnOk result (Appends (W.contents line.old) (W.contents line.new)
+        (spec.hex_of bytes.now)) }
+{
     for byte in bytes {
-        write!(line, "{byte:02x}")?;
+        line.write_all(&[hex_digit(byte / 16), hex_digit(byte % 16)])?;
+    }
+    Ok(())
+}
+
+/// Adds an option of a sent message, if it is an ETag or a Max-Age.
+fn put_option<W: Write>(line: &mut W, option: OptRef<'_>) -> io::Result<()>
+    ensures { OnOk result (Appends (W.contents line.old) (W.contents line.new)
+        (spec.option_text (seen option.entry))) }
+{
+    if option.number == numbers::ETAG {
+        line.write_all(b" ETag ")?;
+        return put_hex(line, option.value);
+    }
+    if option.number == numbers::MAX_AGE && option.value.len() <= 4 {
+        let seconds = uint(option.value);
+        return write!(line, " Max-Age {seconds}");
     }
     Ok(())
 }
 
 /// Adds what a sent message is: its method or its code, its ETags and its Max-Age.
-pub(crate) fn put_sent<W: Write>(line: &mut W, sent: &[u8]) -> io::Result<()> {
-    let Ok(message) = MessageRef::read(sent) else {
-        return Ok(());
-    };
+pub(crate) fn put_message<W: Write>(line: &mut W, message: &MessageRef<'_>) -> io::Result<()>
+    ensures { OnOk result (Appends (W.contents line.old) (W.contents line.new)
+        (spec.sent_text message.now)) }
+{
     line.write_all(b" ")?;
     put_code(line, message.code())?;
     for option in message.options() {
-        if option.number == numbers::ETAG {
-            line.write_all(b" ETag ")?;
-            put_hex(line, option.value)?;
-        }
-        if option.number == numbers::MAX_AGE && option.value.len() <= 4 {
-            let seconds = uint(option.value);
-            write!(line, " Max-Age {seconds}")?;
-        }
+        put_option(line, option)?;
     }
     Ok(())
+}
+
+/// Adds what sent bytes are, if they are a message.
+pub(crate) fn put_sent<W: Write>(line: &mut W, sent: &[u8]) -> io::Result<()>
+    ensures { OnOk result (Appends (W.contents line.old) (W.contents line.new)
+        (spec.sent_bytes_text (read_message sent.now))) }
+{
+    match MessageRef::read(sent) {
+        Ok(message) => put_message(line, &message),
+        Err(_) => Ok(()),
+    }
 }

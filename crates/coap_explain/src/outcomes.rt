@@ -1,4 +1,8 @@
 //! What a step did, in words.
+ghost use Rattle.std.specs.Prelude.{◌≡◌, ◌++◌, codes, OnOk};
+ghost use Rattle.coap_message.specs.Reading.{read_message};
+ghost use Rattle.coap_explain.specs.Details.{dropped_text, refused_text};
+ghost use Rattle.coap_explain.specs.Words as spec;
 
 use crate::causes::{BadGateway, overload_of, put_lacks, put_refusal, put_unprocessed};
 use crate::due::{Came, Due};
@@ -23,8 +27,44 @@ pub(crate) struct Before<'a> {
     pub(crate) came: Option<Came>,
 }
 
+/// What a step did, in a word or some.
+fn outcome_word(outcome: Outcome) -> &'static str
+    ensures { result.now ≡ spec.outcome_word outcome }
+{
+    match outcome {
+        Outcome::Ignored => "ignored",
+        Outcome::Rejected => "rejected",
+        Outcome::Again => "again",
+        Outcome::NoRecordRoom => "no record room",
+        Outcome::Refused(_) => "refused",
+        Outcome::Hit => "hit",
+        Outcome::Joined => "joined",
+        Outcome::Opened => "opened",
+        Outcome::Overloaded => "overloaded",
+        Outcome::NoId => "no id",
+        Outcome::Answered { .. } => "answered",
+        Outcome::Acked => "acked",
+        Outcome::SentRequest => "sent",
+        Outcome::Resent => "resent",
+        Outcome::Delivered => "delivered",
+        Outcome::GaveUp => "gave up",
+        Outcome::Idle => "idle",
+    }
+}
+
+/// Adds what a step did.
+fn put_word(line: &mut Vec<u8>, outcome: Outcome) -> io::Result<()>
+    ensures { OnOk result
+        (line.new.items ≡ line.old.items ++ codes " " ++ spec.outcome_word outcome) }
+{
+    let word = outcome_word(outcome);
+    write!(line, " {word}")
+}
+
 /// What the cache did with an answer.
-fn storing_name(storing: Storing) -> &'static str {
+fn storing_name(storing: Storing) -> &'static str
+    ensures { result.now ≡ spec.storing_word storing }
+{
     match storing {
         Storing::Kept => "kept",
         Storing::TooLarge => "too large",
@@ -67,7 +107,7 @@ fn put_answered(
     most: u64,
     storing: Storing,
 ) -> io::Result<()> {
-    line.write_all(b" answered ")?;
+    line.write_all(b" ")?;
     let Ok(message) = MessageRef::read(arrived.bytes) else {
         return Ok(());
     };
@@ -76,14 +116,26 @@ fn put_answered(
         line.write_all(b" ")?;
         return cause.put(line);
     }
-    put_code(line, message.code())?;
+    put_stored(line, message.code(), storing)
+}
+
+/// Adds the code of an answer, and what the cache did with it.
+fn put_stored(line: &mut Vec<u8>, code: Code, storing: Storing) -> io::Result<()>
+    ensures { OnOk result (line.new.items
+        ≡ line.old.items ++ spec.code_text code ++ codes " " ++ spec.storing_word storing) }
+{
+    put_code(line, code)?;
     let name = storing_name(storing);
     write!(line, " {name}")
 }
 
-/// Adds that a request was refused with a code, and why.
-fn put_refused(line: &mut Vec<u8>, code: Code, bytes: &[u8]) -> io::Result<()> {
-    line.write_all(b" refused ")?;
+/// Adds the code that a request was refused with, and why.
+fn put_refused(line: &mut Vec<u8>, code: Code, bytes: &[u8]) -> io::Result<()>
+    ensures { OnOk result (line.new.items
+        ≡ line.old.items ++ codes " " ++ spec.code_text code
+        ++ refused_text code (read_message bytes.now)) }
+{
+    line.write_all(b" ")?;
     put_code(line, code)?;
     match MessageRef::read(bytes) {
         Ok(message) => put_refusal(line, code, &message),
@@ -91,13 +143,15 @@ fn put_refused(line: &mut Vec<u8>, code: Code, bytes: &[u8]) -> io::Result<()> {
     }
 }
 
-/// Adds that there was no room for a record, and which records have reached their limit.
+/// Adds which records have reached their limit.
 fn put_dropped<S: Store + Drop>(
     line: &mut Vec<u8>,
     core: &Core<S>,
     arrived: Arrived<'_>,
-) -> io::Result<()> {
-    line.write_all(b" no record room")?;
+) -> io::Result<()>
+    ensures { OnOk result (line.new.items
+        ≡ line.old.items ++ dropped_text core.now arrived.entry.from (read_message arrived.entry.bytes.now)) }
+{
     match MessageRef::read(arrived.bytes) {
         Ok(message) => put_lacks(
             line,
@@ -107,28 +161,22 @@ fn put_dropped<S: Store + Drop>(
     }
 }
 
-/// Adds that a request was turned away, and what was lacking.
+/// Adds the code with which a request was turned away, and what was lacking.
 fn put_overloaded<S: Store + Drop>(
     line: &mut Vec<u8>,
     core: &Core<S>,
     arrived: Arrived<'_>,
 ) -> io::Result<()> {
-    line.write_all(b" overloaded 5.03")?;
+    line.write_all(b" 5.03")?;
     match MessageRef::read(arrived.bytes) {
         Ok(message) => put_lacks(line, &overload_of(core, arrived.from, &message)),
         Err(_) => Ok(()),
     }
 }
 
-/// Adds a word, and what was sent.
-fn put_with_sent(line: &mut Vec<u8>, word: &str, sent: &[u8]) -> io::Result<()> {
-    write!(line, " {word}")?;
-    put_sent(line, sent)
-}
-
-/// Adds a word, what was sent, and to whom.
-fn put_sent_to(line: &mut Vec<u8>, word: &str, report: Report, sent: &[u8]) -> io::Result<()> {
-    put_with_sent(line, word, sent)?;
+/// Adds what was sent, and to whom.
+fn put_sent_to(line: &mut Vec<u8>, report: Report, sent: &[u8]) -> io::Result<()> {
+    put_sent(line, sent)?;
     match report.send {
         Some(to) => {
             line.write_all(b" to ")?;
@@ -158,24 +206,13 @@ fn put_arrived<S: Store + Drop>(
     let (bytes, sent) = (arrived.bytes, arrived.sent);
     let most = core.limits().values().datagram;
     match arrived.outcome {
-        Outcome::Ignored => {
-            line.write_all(b" ignored")?;
-            put_unprocessed(line, bytes, most)
-        }
-        Outcome::Rejected => {
-            line.write_all(b" rejected")?;
-            put_unprocessed(line, bytes, most)
-        }
-        Outcome::Again => put_with_sent(line, "again", sent),
+        Outcome::Ignored | Outcome::Rejected => put_unprocessed(line, bytes, most),
+        Outcome::Again | Outcome::Hit | Outcome::Joined | Outcome::Opened => put_sent(line, sent),
         Outcome::NoRecordRoom => put_dropped(line, core, arrived),
         Outcome::Refused(code) => put_refused(line, code, bytes),
-        Outcome::Hit => put_with_sent(line, "hit", sent),
-        Outcome::Joined => put_with_sent(line, "joined", sent),
-        Outcome::Opened => put_with_sent(line, "opened", sent),
         Outcome::Overloaded => put_overloaded(line, core, arrived),
-        Outcome::NoId => line.write_all(b" no id"),
+        Outcome::NoId | Outcome::Acked => Ok(()),
         Outcome::Answered { storing } => put_answered(line, alloc, arrived, most, storing),
-        Outcome::Acked => line.write_all(b" acked"),
         // a tick's
         Outcome::SentRequest
         | Outcome::Resent
@@ -187,7 +224,6 @@ fn put_arrived<S: Store + Drop>(
 
 /// Adds what was given up: a request to an origin, or the delivery of an answer to a client.
 fn put_given_up(line: &mut Vec<u8>, turn: Seen<'_>, before: Before<'_>) -> io::Result<()> {
-    line.write_all(b" gave up")?;
     match before.due {
         Due::Exchange(exchange) => {
             line.write_all(b" ")?;
@@ -206,7 +242,7 @@ fn put_delivered(
     turn: Seen<'_>,
     before: Before<'_>,
 ) -> io::Result<()> {
-    put_sent_to(line, "delivered", report, turn.sent)?;
+    put_sent_to(line, report, turn.sent)?;
     let Due::Exchange(exchange) = before.due else {
         return Ok(());
     };
@@ -223,11 +259,10 @@ fn put_due(
     before: Before<'_>,
 ) -> io::Result<()> {
     match report.outcome {
-        Outcome::SentRequest => put_sent_to(line, "sent", report, turn.sent),
-        Outcome::Resent => put_sent_to(line, "resent", report, turn.sent),
+        Outcome::SentRequest | Outcome::Resent => put_sent_to(line, report, turn.sent),
         Outcome::Delivered => put_delivered(line, report, turn, before),
         Outcome::GaveUp => put_given_up(line, turn, before),
-        Outcome::Idle => line.write_all(b" idle"),
+        Outcome::Idle => Ok(()),
         // a datagram's
         Outcome::Ignored
         | Outcome::Rejected
@@ -255,6 +290,7 @@ pub(crate) fn put_outcome<S: Store + Drop>(
     let Some(report) = turn.report else {
         return line.write_all(b" out of memory");
     };
+    put_word(line, report.outcome)?;
     match turn.event {
         Event::Datagram { from, bytes } => {
             let arrived = Arrived {
