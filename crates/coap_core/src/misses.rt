@@ -112,7 +112,8 @@ impl<S: Store + Drop> State<S> {
         asked: &CacheQuery,
         out: &mut Datagram,
     ) -> Result<Report, OutOfMemory>
-        requires can { CanSend (of_arrival (joinable_step self.old) arrival exchange) arrival self.old out.old }
+        requires can { CanSend (of_arrival (joinable_step self.old) arrival exchange)
+            arrival self.old out.old }
         requires tags { asked.now.tags ≡ tags_of arrival.message.now }
         ensures { IsDoneFor arrival.entry
             (of_arrival (joinable_step self.old) arrival.entry exchange)
@@ -226,7 +227,8 @@ impl<S: Store + Drop> State<S> {
         ensures form { OnOk result
             (out.new.bytes
             ≡ spelling
-            (forwarded (next_token self.now) asked.now.key.target (option_map (λ tag. tag.now) tag.entry)
+            (forwarded (next_token self.now) asked.now.key.target
+            (option_map (λ tag. tag.now) tag.entry)
             request.now 0)) }
         ensures kept { out.new.room ≡ out.old.room }
     {
@@ -288,7 +290,8 @@ impl<S: Store + Drop> State<S> {
         exchange: NewExchange<'_>,
         out: &mut Datagram,
     ) -> Result<Report, OutOfMemory>
-        requires can { CanSend (of_arrival (opening_step self.old) arrival exchange.key) arrival self.old out.old }
+        requires can { CanSend (of_arrival (opening_step self.old) arrival exchange.key)
+            arrival self.old out.old }
         requires room { has_room_to_open self.old arrival.now arrival.from ≡ true }
         requires tags { exchange.tags ≡ tags_of arrival.message.now }
         requires copy { exchange.copy
@@ -335,7 +338,8 @@ impl<S: Store + Drop> State<S> {
         tags: Pieces,
         out: &mut Datagram,
     ) -> Result<Report, OutOfMemory>
-        requires can { CanSend (of_arrival (joins self.old) arrival exchange) arrival self.old out.old }
+        requires can { CanSend (of_arrival (joins self.old) arrival exchange)
+            arrival self.old out.old }
         requires room { has_room_to_join self.old arrival.now arrival.from ≡ true }
         requires tags { tags ≡ tags_of arrival.message.now }
         ensures { IsDoneFor arrival.entry

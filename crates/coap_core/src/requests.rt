@@ -254,7 +254,8 @@ impl<S: Store + Drop> State<S> {
         code: Code,
         out: &mut Datagram,
     ) -> Result<Report, OutOfMemory>
-        requires can { CanSend (of_arrival (refuses self.old) arrival code) arrival self.old out.old }
+        requires can { CanSend (of_arrival (refuses self.old) arrival code)
+            arrival self.old out.old }
         ensures { IsDoneFor arrival.entry
             (of_arrival (refuses self.old) arrival.entry code)
             result out.old out.new self.old self.new }

@@ -150,7 +150,8 @@ fn put_dropped<S: Store + Drop>(
     arrived: Arrived<'_>,
 ) -> io::Result<()>
     ensures { OnOk result (line.new.items
-        ≡ line.old.items ++ dropped_text core.now arrived.entry.from (read_message arrived.entry.bytes.now)) }
+        ≡ line.old.items
+        ++ dropped_text core.now arrived.entry.from (read_message arrived.entry.bytes.now)) }
 {
     match MessageRef::read(arrived.bytes) {
         Ok(message) => put_lacks(
