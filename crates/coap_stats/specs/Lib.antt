@@ -7,3 +7,4 @@ pub mod Examples
 pub mod Line
 pub use Rattle.coap_core.specs.Told
 pub use Rattle.coap_core.specs.Watched
+pub mod Metrics

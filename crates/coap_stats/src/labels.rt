@@ -1,4 +1,7 @@
 //! Labels of metrics: the part of a proxy that a number is about.
+ghost use Rattle.std.specs.Prelude.{◌≡◌, OnOk};
+ghost use Rattle.coap_stats.specs.declared.labels.Whose.TheVariants.{All};
+
 use crate::line::put;
 use coap_core::Holder;
 use coap_endpoint::{Endpoint, Ip};
@@ -87,7 +90,9 @@ fn put_holder(out: &mut Vec<u8>, holder: Holder) -> Result<(), OutOfMemory> {
 
 /// Adds the label of a part behind others: `,map="/PREFIX"`, `,origin="ADDRESS:PORT"`, or
 /// `,table="TABLE",address="ADDRESS"`.
-pub(crate) fn put_whose(out: &mut Vec<u8>, whose: Whose<'_>) -> Result<(), OutOfMemory> {
+pub(crate) fn put_whose(out: &mut Vec<u8>, whose: Whose<'_>) -> Result<(), OutOfMemory>
+    ensures { whose.entry ≡ All → OnOk result (out.new.items ≡ out.old.items) }
+{
     match whose {
         Whose::All => return Ok(()),
         Whose::Map(prefix) => {

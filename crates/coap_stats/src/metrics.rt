@@ -1,4 +1,9 @@
 //! The counts as metrics, in the text format that Prometheus reads.
+ghost use Rattle.std.specs.Prelude.{◌≡◌, ◌++◌, codes, OnOk, map};
+ghost use Rattle.std.specs.List.{flat_map};
+ghost use Rattle.coap_stats.specs.declared.labels.Whose.TheVariants.{All};
+ghost use Rattle.coap_stats.specs.Line.{refusal_words, request_words, share_seen, word_seen};
+ghost use Rattle.coap_stats.specs.Metrics as spec;
 
 use crate::labels::{Whose, put_whose};
 use crate::line::{put, put_number};
@@ -106,7 +111,10 @@ const LIMIT: Metric = Metric {
 };
 
 /// Adds the lines that describe a metric.
-pub(crate) fn put_head(out: &mut Vec<u8>, metric: Metric) -> Result<(), OutOfMemory> {
+pub(crate) fn put_head(out: &mut Vec<u8>, metric: Metric) -> Result<(), OutOfMemory>
+    ensures { OnOk result (out.new.items ≡ out.old.items ++ spec.head_text
+        (spec.metric_seen metric)) }
+{
     put(out, b"# HELP ")?;
     put(out, metric.name.as_bytes())?;
     put(out, b" ")?;
@@ -119,7 +127,9 @@ pub(crate) fn put_head(out: &mut Vec<u8>, metric: Metric) -> Result<(), OutOfMem
 }
 
 /// Adds the label that tells a proxy from others on its host, behind the name of a metric.
-fn put_listen(out: &mut Vec<u8>, name: &str, listen: &str) -> Result<(), OutOfMemory> {
+fn put_listen(out: &mut Vec<u8>, name: &str, listen: &str) -> Result<(), OutOfMemory>
+    ensures { OnOk result (out.new.items ≡ out.old.items ++ spec.listen_text listen.now name.now) }
+{
     put(out, name.as_bytes())?;
     put(out, b"{listen=\"")?;
     put(out, listen.as_bytes())?;
@@ -132,7 +142,11 @@ fn put_metric(
     listen: &str,
     metric: Metric,
     number: u64,
-) -> Result<(), OutOfMemory> {
+) -> Result<(), OutOfMemory>
+    ensures { OnOk result
+        (out.new.items ≡ out.old.items ++ spec.metric_text listen.now
+        (spec.metric_seen metric) number) }
+{
     put_head(out, metric)?;
     put_listen(out, metric.name, listen)?;
     put(out, b"} ")?;
@@ -185,7 +199,12 @@ pub(crate) fn put_sample(
     out: &mut Vec<u8>,
     family: Family<'_>,
     word: Word,
-) -> Result<(), OutOfMemory> {
+) -> Result<(), OutOfMemory>
+    ensures { family.entry.whose ≡ All → OnOk result (out.new.items ≡ out.old.items
+        ++ spec.sample_text family.entry.listen.now
+        (spec.metric_seen family.entry.metric) family.entry.label.now
+        (word_seen word)) }
+{
     put_listen(out, family.metric.name, family.listen)?;
     put_whose(out, family.whose)?;
     put(out, b",")?;
@@ -202,7 +221,12 @@ pub(crate) fn put_samples(
     out: &mut Vec<u8>,
     family: Family<'_>,
     words: &[Word],
-) -> Result<(), OutOfMemory> {
+) -> Result<(), OutOfMemory>
+    ensures { family.entry.whose ≡ All → OnOk result (out.new.items ≡ out.old.items
+        ++ spec.samples_text family.entry.listen.now
+        (spec.metric_seen family.entry.metric) family.entry.label.now
+        (map word_seen words.now)) }
+{
     for word in words {
         put_sample(out, family, *word)?;
     }
@@ -210,7 +234,10 @@ pub(crate) fn put_samples(
 }
 
 /// Adds the metrics that have one number each.
-fn put_traffic(out: &mut Vec<u8>, listen: &str, tally: &Tally) -> Result<(), OutOfMemory> {
+fn put_traffic(out: &mut Vec<u8>, listen: &str, tally: &Tally) -> Result<(), OutOfMemory>
+    ensures { OnOk result (out.new.items ≡ out.old.items
+        ++ spec.traffic_text listen.now tally.now) }
+{
     put_metric(out, listen, UPTIME, tally.last / 1000)?;
     put_metric(out, listen, RECEIVED, tally.received)?;
     put_metric(out, listen, SENT, tally.sent)?;
@@ -225,13 +252,24 @@ pub(crate) fn put_requests(
     out: &mut Vec<u8>,
     family: Family<'_>,
     requests: &RequestCounts,
-) -> Result<(), OutOfMemory> {
+) -> Result<(), OutOfMemory>
+    ensures { family.entry.whose ≡ All → OnOk result (out.new.items ≡ out.old.items
+        ++ spec.samples_text family.entry.listen.now
+        (spec.metric_seen family.entry.metric) family.entry.label.now
+        (request_words requests.now)
+        ++ spec.samples_text family.entry.listen.now
+        (spec.metric_seen family.entry.metric) family.entry.label.now
+        (refusal_words requests.now.refused)) }
+{
     put_samples(out, family, &request_words(requests))?;
     put_samples(out, family, &refusal_words(&requests.refused))
 }
 
 /// Adds what says whether the cache is too small: what it evicted, and why exchanges were opened.
-fn put_cache(out: &mut Vec<u8>, listen: &str, statistics: &Statistics) -> Result<(), OutOfMemory> {
+fn put_cache(out: &mut Vec<u8>, listen: &str, statistics: &Statistics) -> Result<(), OutOfMemory>
+    ensures { OnOk result (out.new.items ≡ out.old.items
+        ++ spec.cache_text listen.now statistics.now.evictions statistics.now.openings) }
+{
     let opened = Family {
         metric: OPENED,
         label: "stored",
@@ -245,7 +283,10 @@ fn put_cache(out: &mut Vec<u8>, listen: &str, statistics: &Statistics) -> Result
 }
 
 /// Adds the counts of requests and of answers.
-fn put_outcomes(out: &mut Vec<u8>, listen: &str, tally: &Tally) -> Result<(), OutOfMemory> {
+fn put_outcomes(out: &mut Vec<u8>, listen: &str, tally: &Tally) -> Result<(), OutOfMemory>
+    ensures { OnOk result (out.new.items ≡ out.old.items
+        ++ spec.outcomes_text listen.now tally.now) }
+{
     let requests = Family {
         metric: REQUESTS,
         label: "outcome",
@@ -265,36 +306,87 @@ fn put_outcomes(out: &mut Vec<u8>, listen: &str, tally: &Tally) -> Result<(), Ou
 }
 
 /// Adds the line of what a proxy holds of one kind, or may hold.
-fn put_share(
-    out: &mut Vec<u8>,
-    listen: &str,
-    metric: Metric,
-    (share, number): (Share, u64),
-) -> Result<(), OutOfMemory> {
+fn put_kind(out: &mut Vec<u8>, listen: &str, metric: Metric, word: Word) -> Result<(), OutOfMemory>
+    ensures { OnOk result (out.new.items ≡ out.old.items
+        ++ spec.sample_text listen.now (spec.metric_seen metric) (codes "what")
+        (word_seen word)) }
+{
     let family = Family {
         metric,
         label: "what",
         listen,
         whose: Whose::All,
     };
-    let word = Word {
-        key: share.key,
-        number,
-    };
     put_sample(out, family, word)
 }
 
-/// Adds what a proxy holds, and what it may hold.
-fn put_held(out: &mut Vec<u8>, listen: &str, shares: &[Share]) -> Result<(), OutOfMemory> {
-    put_head(out, HELD)?;
+/// Adds how much a proxy holds of one kind.
+fn put_count(out: &mut Vec<u8>, listen: &str, share: Share) -> Result<(), OutOfMemory>
+    ensures { OnOk result (out.new.items ≡ out.old.items
+        ++ spec.count_text listen.now (share_seen share)) }
+{
+    let word = Word {
+        key: share.key,
+        number: share.count,
+    };
+    put_kind(out, listen, HELD, word)
+}
+
+/// Adds how much it may hold.
+fn put_limit(out: &mut Vec<u8>, listen: &str, share: Share) -> Result<(), OutOfMemory>
+    ensures { OnOk result (out.new.items ≡ out.old.items
+        ++ spec.limit_text listen.now (share_seen share)) }
+{
+    let word = Word {
+        key: share.key,
+        number: share.limit,
+    };
+    put_kind(out, listen, LIMIT, word)
+}
+
+/// Adds how much a proxy holds of each kind.
+fn put_counts_of(out: &mut Vec<u8>, listen: &str, shares: &[Share]) -> Result<(), OutOfMemory>
+    ensures { OnOk result (out.new.items ≡ out.old.items
+        ++ flat_map (spec.count_text listen.now) (map share_seen shares.now)) }
+{
     for share in shares {
-        put_share(out, listen, HELD, (*share, share.count))?;
-    }
-    put_head(out, LIMIT)?;
-    for share in shares {
-        put_share(out, listen, LIMIT, (*share, share.limit))?;
+        put_count(out, listen, *share)?;
     }
     Ok(())
+}
+
+/// Adds how much it may hold of each.
+fn put_limits_of(out: &mut Vec<u8>, listen: &str, shares: &[Share]) -> Result<(), OutOfMemory>
+    ensures { OnOk result (out.new.items ≡ out.old.items
+        ++ flat_map (spec.limit_text listen.now) (map share_seen shares.now)) }
+{
+    for share in shares {
+        put_limit(out, listen, *share)?;
+    }
+    Ok(())
+}
+
+/// Adds what a proxy holds, and what it may hold.
+fn put_held(out: &mut Vec<u8>, listen: &str, shares: &[Share]) -> Result<(), OutOfMemory>
+    ensures { OnOk result (out.new.items ≡ out.old.items
+        ++ spec.held_text listen.now (map share_seen shares.now)) }
+{
+    put_head(out, HELD)?;
+    put_counts_of(out, listen, shares)?;
+    put_head(out, LIMIT)?;
+    put_limits_of(out, listen, shares)
+}
+
+/// Adds the counts of the whole proxy.
+fn put_own(out: &mut Vec<u8>, listen: &str, statistics: &Statistics) -> Result<(), OutOfMemory>
+    ensures { OnOk result (out.new.items ≡ out.old.items
+        ++ spec.traffic_text listen.now statistics.now.tally
+        ++ spec.outcomes_text listen.now statistics.now.tally
+        ++ spec.cache_text listen.now statistics.now.evictions statistics.now.openings) }
+{
+    put_traffic(out, listen, &statistics.tally)?;
+    put_outcomes(out, listen, &statistics.tally)?;
+    put_cache(out, listen, statistics)
 }
 
 /// Adds the counts as metrics, each with its help and its type: what turns did, by its outcome where
@@ -313,9 +405,7 @@ pub fn put_metrics(
     counts: &Counts,
     limits: &LimitValues,
 ) -> Result<(), OutOfMemory> {
-    put_traffic(out, listen, &statistics.tally)?;
-    put_outcomes(out, listen, &statistics.tally)?;
-    put_cache(out, listen, statistics)?;
+    put_own(out, listen, statistics)?;
     put_maps(out, listen, &statistics.maps)?;
     put_origins(out, listen, &statistics.origins, statistics.tally.last)?;
     put_held(out, listen, &shares(counts, limits))?;
