@@ -5,6 +5,6 @@ use Rattle.coap_dedup.specs.declared.seen.Seen.{Seen}
 use Rattle.coap_dedup.specs.declared.seen.Seen.TheVariants.{New, Again}
 
 -- nothing for a new one; for one that was seen before, the reply that was kept, if there was one
-abbrev pub told : Seen → Option (Option (List ℕ))
-told New = None
-told (Again reply) = Some (option_copied reply)
+abbrev pub found : Seen → Option (Option (List ℕ))
+found New = None
+found (Again reply) = Some (option_copied reply)

@@ -7,7 +7,7 @@ ghost use Rattle.coap_dedup.specs.Indexing.{AreNumbersOf};
 ghost use Rattle.coap_endpoint.specs.declared.endpoint.Endpoint.{Endpoint};
 ghost use Rattle.coap_dedup.specs.Lists.{AreApart, AreInOrder, AreUpTo, count_from, is_living, living, record_of};
 ghost use Rattle.coap_dedup.specs.Records.{AreRecords, living_at, living_of, no_records, with_kept};
-ghost use Rattle.coap_dedup.specs.Seen.{told};
+ghost use Rattle.coap_dedup.specs.Seen.{found};
 ghost use Rattle.coap_dedup.specs.Sources.{numbers_from, place_of, share_of, AreLinked};
 
 use crate::error::Refused;
@@ -99,10 +99,10 @@ impl Records {
         })
     }
 
-    /// Whether there is a live record of a message from this endpoint with this Message ID, and what
-    /// its duplicate gets (RFC 7252, 4.5). Doesn't allocate.
+    /// Whether there is a live record of a message from this endpoint with this Message ID, and
+    /// what its duplicate gets (RFC 7252, 4.5). Doesn't allocate.
     pub fn seen(&self, from: Endpoint, id: u16, now: Moment) -> Seen<'_>
-        ensures exact { told result
+        ensures exact { found result
             ≡ option_map (λ r. r.reply) (record_of from id (living_at now self.now)) }
         ensures sound { AreRecords self.now }
     {

@@ -10,6 +10,7 @@ use coap_endpoint::Endpoint;
 use coap_message::OutOfMemory;
 use std::alloc::Global;
 use std::collections::BTreeMap;
+use std::collections::btree_map::Entry;
 
 /// What an endpoint has of the records.
 #[derive(Clone, Copy)]
@@ -150,19 +151,23 @@ fn grow(shares: &mut Shares, from: Endpoint, number: u64) -> Result<Option<u64>,
     ensures new { OnErr result (share_in shares.old from ≡ None) }
     ensures same { OnErr result ((e : Endpoint) → share_in shares.new e ≡ share_in shares.old e) }
 {
-    let alone = Share {
-        count: 1,
-        first: number,
-        last: number,
-    };
-    let Some(old) = shares.insert(from, alone)? else {
-        return Ok(None);
-    };
-    if let Some(share) = shares.get_mut(&from) {
-        share.count = old.count + 1;
-        share.first = old.first;
+    match shares.entry(from)? {
+        Entry::Vacant(entry) => {
+            entry.insert(Share {
+                count: 1,
+                first: number,
+                last: number,
+            });
+            Ok(None)
+        }
+        Entry::Occupied(entry) => {
+            let share = entry.into_mut();
+            let last = share.last;
+            share.count += 1;
+            share.last = number;
+            Ok(Some(last))
+        }
     }
-    Ok(Some(old.last))
 }
 
 /// Notes the number of the next record of the same endpoint after the one at this place.

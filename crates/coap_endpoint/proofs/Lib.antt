@@ -1,3 +1,4 @@
 pub mod Equality
 pub mod Lists
 pub mod Orders
+pub mod Numbers

@@ -1,4 +1,5 @@
 pub mod Endpoint
+pub mod Order
 pub mod Equality
 pub mod Target
 pub mod Hashing

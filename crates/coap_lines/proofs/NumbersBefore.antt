@@ -9,7 +9,7 @@ use Rattle.std.proofs.lemmas.List.Folds.{list_any-append}
 use Rattle.coap_lines.specs.Texts.{cut, has}
 use Rattle.coap_lines.specs.Numbers.{number_before, number_of}
 use Rattle.coap_lines.proofs.Cuts.{All-others, cut-front, cut-is, cut-without}
-use Rattle.coap_lines.proofs.Numerals.{great-none, other-none}
+use Rattle.coap_lines.proofs.Numerals.{great-none, long-none, other-none}
 
 -- digits contain no byte that isn't one
 pub has-digits : (byte : ℕ) → is_ascii_digit byte ≡ false → (text : List ℕ) → AllDigits 10 text → has byte text ≡ false
@@ -70,6 +70,12 @@ pub great-before-none : (byte most : ℕ) (text : List ℕ) (i : ℕ) → most <
 great-before-none byte most text i bound other inside digits great =
     before-none byte most text i inside (has-digits byte other (take (i + 1) text) digits)
     (λ front long same. great-none most front (i + 1) bound (rw same great))
+
+-- more digits than such a number has
+pub long-before-none : (byte most : ℕ) (text : List ℕ) (i : ℕ) → most < 10 ^ i → most < 2 ^ 64 → 0 < i → is_ascii_digit byte ≡ false → i < length text → AllDigits 10 (take (i + 1) text) → number_before byte most text ≡ None
+long-before-none byte most text i few bound some other inside digits =
+    before-none byte most text i inside (has-digits byte other (take (i + 1) text) digits)
+    (λ front long same. long-none most front i few bound some long)
 
 -- digits up to the end
 pub end-none : (byte most : ℕ) (text : List ℕ) → is_ascii_digit byte ≡ false → AllDigits 10 text → number_before byte most text ≡ None

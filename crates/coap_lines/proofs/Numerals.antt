@@ -1,14 +1,16 @@
 -- Numbers as texts: what is read, and what is written.
-use Rattle.std.proofs.Common.{◌≡◌, ◌==◌, ℕ, ◌+◌, ◌-◌, ◌*◌, ◌%◌, ◌^◌, ◌<◌, ◌≤◌, Bool, true, false, ◌&&◌, ◌||◌, List, length, get_or, take, Option, Some, None, refl, sym, arith, ⊎_elim, ltb, leb, cond, eq-eqb, le-leb, zero, suc}
+use Rattle.std.proofs.Common.{◌≡◌, ◌==◌, ℕ, ◌+◌, ◌-◌, ◌*◌, ◌%◌, ◌^◌, ◌<◌, ◌≤◌, Bool, true, false, ◌&&◌, ◌||◌, List, length, get_or, take, Option, Some, None, refl, sym, ap, arith, ⊎_elim, ltb, leb, cond, eq-eqb, le-leb, zero, suc}
 use Rattle.std.specs.Fmt.{decimal, digits}
 use Rattle.std.specs.Char.{digit_value, is_ascii_digit}
 use Rattle.std.specs.Str.{bytes_eq}
 use Rattle.std.specs.Str.Parse.{AllDigits, digits_value}
 use Rattle.std.proofs.lemmas.Bool.{and_parts, cases_Bool, eqb-false, eqb-true, leb-true, ltb-false, ltb-true, or_parts}
 use Rattle.std.proofs.lemmas.Bool.Decides.{nat_tests}
-use Rattle.std.proofs.lemmas.Int.Digits.{digits_more, digits_value_more}
-use Rattle.std.proofs.lemmas.Fmt.{decimal_by_steps, decimal-digits_value, decimal_is_IsNumeral, first_decimal}
+use Rattle.std.proofs.lemmas.Int.Digits.{digits_more, digits_value-lt, digits_value_more}
+use Rattle.std.proofs.lemmas.Fmt.{decimal_by_steps, decimal-digits_value, decimal_is_IsNumeral, first_decimal, length-decimal-le}
 use Rattle.std.proofs.lemmas.List.Folds.{list_any-append}
+use Rattle.std.proofs.lemmas.List.{length-take-le}
+use Rattle.std.proofs.Math.Nat.{pow-le-pow_right}
 use Rattle.std.proofs.lemmas.Option.{none-some}
 use Rattle.std.proofs.lemmas.Slice.Eq.{bytes_eq-Decides}
 use Rattle.std.proofs.lemmas.Str.Parse.{IsNumeralModel, digit_at, digits_value-take-le, numerals_by_value, tells_digits}
@@ -90,6 +92,22 @@ pub great-none : (most : ℕ) (text : List ℕ) (i : ℕ) → most < 2 ^ 64 → 
 great-none most text i bound great = number_of-none most text (λ n spelled within.
     let value : digits_value 10 text ≡ n = rw spelled (decimal_is_IsNumeral n (omega arith)).1 in
     omega (arith, digits_value-take-le 10 text i (omega arith), value))
+
+-- nor from a text that is longer than such a number
+pub long-none : (most : ℕ) (text : List ℕ) (i : ℕ) → most < 10 ^ i → most < 2 ^ 64 → 0 < i → i < length text → number_of most text ≡ None
+long-none most text i few bound some long = number_of-none most text (λ n spelled within.
+    let short : length (decimal n) ≤ i = length-decimal-le i n some (omega (arith, few, within)) (omega arith) in
+    let same : length text ≡ length (decimal n) = ap length spelled in
+    omega (arith, short, same))
+
+-- the number of at most so many digits is below that power
+pub digits-below : (text : List ℕ) (i number most : ℕ) → i ≤ length text → i ≤ most → AllDigits 10 (take i text) → number ≡ digits_value 10 (take i text) → number < 10 ^ most
+digits-below text i number most inside few all value =
+    let below = digits_value-lt 10 (take i text) all in
+    let long : length (take i text) ≡ i = length-take-le i text inside in
+    let own : number < 10 ^ i = rw value (rw long at below) in
+    let power : 10 ^ i ≤ 10 ^ most = pow-le-pow_right {n = 10} (omega arith) few in
+    omega (arith, own, power)
 
 -- the number of one more digit
 pub next_number : (text : List ℕ) (i number : ℕ) → i < length text → is_ascii_digit (get_or text i 0) ≡ true → number ≡ digits_value 10 (take i text) → digits_value 10 (take (i + 1) text) ≡ number * 10 + (get_or text i 0 - 48)

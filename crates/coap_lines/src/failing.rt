@@ -1,8 +1,8 @@
 //! A reader or a writer, and the note whether it failed when it was last asked.
 //!
 //! Outside this file the reader and the writer are only looked at (`inner`), and asked by
-//! `take_piece` and `put`, which make the note. Nobody else can write or undo a note: the fields are
-//! private, so that the compiler refuses such a body. So an error that others give out as the
+//! `take_piece` and `put`, which make the note. Nobody else can write or undo a note: the fields
+//! are private, so that the compiler refuses such a body. So an error that others give out as the
 //! reader's or the writer's is one.
 ghost use Rattle.std.specs.Prelude.{◌≡◌, ◌≢◌, ◌≤◌, false, true, [], IfSome, IfErr, IfOk, OnErr, OnOk, length, vec_capacity};
 ghost use Rattle.std.specs.Borrow.{sem};

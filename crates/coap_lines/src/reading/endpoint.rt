@@ -6,7 +6,7 @@ ghost use Rattle.coap_lines.specs.Endpoints.{segments_read, source_of, source_se
 ghost use Rattle.coap_lines.specs.Numbers.{number_before, number_of, number_seen};
 
 use crate::reading::cutting::cut;
-use crate::reading::number::{read_group, read_number, read_number_before};
+use crate::reading::number::{read_group, read_number, read_short_before};
 use coap_endpoint::{Endpoint, Ip};
 use coap_uri::first_part;
 use std::net::Ipv6Addr;
@@ -50,12 +50,13 @@ fn read_octet_before(text: &[u8], byte: u8) -> Option<(u8, &[u8])>
     ensures read { number_seen result ≡ number_before byte 255 text.now }
     ensures shorter { IfSome result (λ found. length found.1.now ≤ length text.now) }
 {
-    let (octet, rest) = read_number_before(text, byte, 255)?;
+    let (octet, rest) = read_short_before(text, byte, 255)?;
     Some((octet as u8, rest))
 }
 
 /// The endpoint of an IPv4 address and a port before a space, and what follows that space. It goes
-/// over the text once.
+/// over the text once. It is kept apart, and so is `read_pairs`, so that each has all registers.
+#[inline(never)]
 #[tactic(auto, unfolding(crate::specs::Endpoints::v4_source))]
 fn read_v4_source(text: &[u8]) -> Option<(Endpoint, &[u8])>
     ensures read { source_seen result ≡ v4_source text.now }
@@ -65,10 +66,10 @@ fn read_v4_source(text: &[u8]) -> Option<(Endpoint, &[u8])>
     let (b, rest) = read_octet_before(rest, b'.')?;
     let (c, rest) = read_octet_before(rest, b'.')?;
     let (d, rest) = read_octet_before(rest, b':')?;
-    let (port, rest) = read_number_before(rest, b' ', 65_535)?;
+    let (port, rest) = read_short_before(rest, b' ', 65_535)?;
     let endpoint = Endpoint {
         ip: Ip::V4([a, b, c, d]),
-        port: port as u16,
+        port,
     };
     Some((endpoint, rest))
 }

@@ -54,6 +54,32 @@ pub(crate) fn read_number_before(text: &[u8], byte: u8, most: u64) -> Option<(u6
     None
 }
 
+/// The same where `most` has at most five digits. Few turns, of a fixed number, are written out by
+/// the compiler, each with what is known of its place.
+#[inline(always)]
+pub(crate) fn read_short_before(text: &[u8], byte: u8, most: u16) -> Option<(u16, &[u8])>
+    requires { is_ascii_digit byte ≡ false }
+    ensures read { number_seen result ≡ number_before byte most text.now }
+    ensures within { IfSome result (λ found. found.0 ≤ most) }
+    ensures shorter { IfSome result (λ found. length found.1.now ≤ length text.now) }
+{
+    let mut number: u32 = 0;
+    'digits: for place in 0..6 {
+        if place == text.len() {
+            return None;
+        }
+        let next = text[place];
+        if !next.is_ascii_digit() {
+            if next != byte || number > u32::from(most) || has_wrong_start(&text[..place]) {
+                return None;
+            }
+            return Some((number as u16, &text[place + 1..]));
+        }
+        number = number * 10 + u32::from(next - b'0');
+    }
+    None
+}
+
 /// Whether all bytes are hexadecimal digits, in either case.
 fn are_digits(text: &[u8]) -> bool
     ensures { result ≡ list_all (λ b. is_digit b 16) text.now }

@@ -6,7 +6,7 @@ ghost use Rattle.coap_model.specs.Events.{event_given};
 
 use crate::reading::datagram::read_bytes;
 use crate::reading::endpoint::read_source;
-use crate::reading::number::read_number_before;
+use crate::reading::number::{read_number_before, read_short_before};
 use coap_endpoint::Endpoint;
 use coap_message::{Datagram, LAST_MOMENT, MOST_JITTER, Moment};
 
@@ -61,14 +61,10 @@ pub fn read_turn(line: &[u8], last: Moment, into: &mut Datagram) -> Option<Turn>
     ensures room { into.new.room ≡ into.old.room }
 {
     let (now, rest) = read_number_before(line, b' ', LAST_MOMENT)?;
-    let (draw, text) = read_number_before(rest, b' ', u64::from(MOST_JITTER))?;
+    let (draw, text) = read_short_before(rest, b' ', MOST_JITTER)?;
     let from = read_event(text, into)?;
     if now < last {
         return None;
     }
-    Some(Turn {
-        now,
-        draw: draw as u16,
-        from,
-    })
+    Some(Turn { now, draw, from })
 }
