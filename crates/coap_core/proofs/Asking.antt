@@ -33,7 +33,7 @@ use Rattle.coap_core.specs.Asked.{CanAsk, IsForwardable, missed_step, needing_st
 use Rattle.coap_core.specs.Done.{Does, IsDone, repetition_of, wants_memory}
 use Rattle.coap_core.specs.declared.arrival.Arrival.{Arrival}
 use Rattle.coap_core.specs.declared.request_target.CacheQuery.{CacheQuery}
-use Rattle.coap_core.specs.declared.misses.Missed.{Missed}
+use Rattle.coap_core.specs.declared.misses.Miss.{Miss}
 use Rattle.coap_model.proofs.Verdicts.{askable}
 use Rattle.coap_core.proofs.Puts.{taken-takes}
 use Rattle.coap_core.proofs.Records.{held-same}
@@ -197,7 +197,7 @@ module _ (w : State) (now : ℕ) (client : Endpoint) (m : Message) where
 
 -- ---- requests that aren't answered from the store
 
-module _ {a : Arrival} {query : CacheQuery} {known : Missed} {w : State} (can : CanAsk a query known w) where
+module _ {a : Arrival} {query : CacheQuery} {miss : Miss} {w : State} (can : CanAsk a query miss w) where
   -- they may be forwarded
   pub forwardable : IsForwardable a.message.now query
   forwardable =

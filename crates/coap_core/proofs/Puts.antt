@@ -30,11 +30,11 @@ use Rattle.coap_model.specs.Memory.{takes_memory}
 use Rattle.coap_model.specs.Answers.{Arrived, answer_for, entry_made, may_store, tainted_all, with_changed, keeps, keeps_if, stores, answers_so, answers_with, answers}
 use Rattle.coap_model.specs.State.{State, Step, later, silent, says, accepts, has_record_room, remembers, with_record}
 use Rattle.coap_model.specs.Empties.{on_exchange}
-use Rattle.coap_model.specs.Responses.{awaiting, on_awaited, on_separate}
+use Rattle.coap_model.specs.Responses.{awaiting, on_not_confirmable, on_separate}
 use Rattle.coap_core.proofs.Awaiting.{awaited}
 use Rattle.coap_core.specs.Done.{Does, resets, wants_memory}
 use Rattle.coap_core.specs.Needs.{IsOpenAt}
-use Rattle.coap_core.specs.Storing.{IsKept, IsPut, answering, answering_at, awaited_step, separate_step, if_storable, accepted, accepted_bytes, accepted_to}
+use Rattle.coap_core.specs.Storing.{IsKept, IsPut, answering, answering_at, not_confirmable_step, separate_step, if_storable, accepted, accepted_bytes, accepted_to}
 
 -- the choice of a test that is known
 pick-true : {A : Type 0} (b : Bool) (x y : A) → b ≡ true → cond b x y ≡ x
@@ -232,8 +232,8 @@ answer-does w v now number source m entry changed storing report old new after a
 
 module _ (w : State) (now : ℕ) (grown : Bool) (source : Endpoint) (m : Message) (number : ℕ) (P : Step → Type 0) (rising : IsRising 0 w.exchanges) (found : Some number ≡ option_map (λ x. x.0) (awaiting w source m)) where
   -- what holds of the step of an answer for that number holds of the step of a response that isn't confirmable
-  pub awaited-does : is_con m.kind ≡ false → IfSome (answering_at w now grown source m number) P → P (awaited_step w now grown source m)
-  awaited-does other each = awaited w source m number (λ o. P (on_awaited w now grown source m o)) rising found (λ x at. plain x (rw at at each))
+  pub awaited-does : is_con m.kind ≡ false → IfSome (answering_at w now grown source m number) P → P (not_confirmable_step w now grown source m)
+  awaited-does other each = awaited w source m number (λ o. P (on_not_confirmable w now grown source m o)) rising found (λ x at. plain x (rw at at each))
     where
       plain : (x : Exchange) → P (answering w now grown source m (number, x)) → P (answers w now grown source m (number, x))
       plain x p = subst P (pick-false (is_con m.kind) _ _ other) p

@@ -22,7 +22,7 @@ use Rattle.coap_model.specs.declared.due.DueItem.TheVariants.{OfExchange, OfWait
 use Rattle.coap_model.specs.State.{State, later, next_id}
 use Rattle.coap_model.specs.Ticks.{exchange_due, waiter_due, first_item, item_due, if_due, sends, resends, gives_up, on_request_timeout, on_item, on_tick}
 use Rattle.coap_model.proofs.FirstDue.{first_due-holds}
-use Rattle.coap_core.specs.Dues.{HasCome, IsClientDue, IsExchangeDue, exchange_at, waiter_at, sending_at, request_timeout_at, form_at}
+use Rattle.coap_core.specs.Dues.{HasCome, IsWaiterDue, IsExchangeDue, exchange_at, waiter_at, sending_at, request_timeout_at, form_at}
 use Rattle.coap_core.specs.Needs.{IsFound}
 use Rattle.coap_core.specs.declared.timing.Timing.{Timing}
 
@@ -131,7 +131,7 @@ due-at w now at number rising e le =
     first-due-at (due_among w.setting.limits.nstart w.setting.limits.exchange_ms w.exchanges) w.exchanges now at number rising (exchange-first (exchange_due w) (waiter_due w) at number (sym e)) le
 
 -- and the client
-pub client-due-at : (w : State) (now at number : ℕ) → IsRising 0 w.waiters → Some (OfWaiter at number) ≡ item_due w → at ≤ now → IsFound (λ v. IsClientDue w now v) number w.waiters
+pub client-due-at : (w : State) (now at number : ℕ) → IsRising 0 w.waiters → Some (OfWaiter at number) ≡ item_due w → at ≤ now → IsFound (λ v. IsWaiterDue w now v) number w.waiters
 client-due-at w now at number rising e le =
     first-due-at (due_after w.exchanges) w.waiters now at number rising (waiter-first (exchange_due w) (waiter_due w) at number (sym e)) le
 

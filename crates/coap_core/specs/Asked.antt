@@ -16,8 +16,7 @@ use Rattle.coap_endpoint.specs.declared.endpoint.Endpoint.{Endpoint}
 use Rattle.coap_model.specs.State.{State, Step, has_room_to_join}
 use Rattle.coap_model.specs.Requests.{joins, opens, turns_away, on_exchange_needed, on_miss}
 use Rattle.coap_core.specs.declared.misses.Miss.{Miss}
-use Rattle.coap_core.specs.declared.misses.Missed.{Missed}
-use Rattle.coap_core.specs.declared.misses.Miss.TheVariants.{Nothing, Stale}
+use Rattle.coap_core.specs.declared.misses.Miss.TheVariants.{Nothing, Unusable}
 use Rattle.coap_core.specs.declared.requests.Verdict.{Verdict}
 use Rattle.coap_core.specs.declared.requests.Verdict.TheVariants.{RefusedWith, MayAsk}
 use Rattle.coap_core.specs.Needs.{CanReplyTo}
@@ -46,21 +45,20 @@ held_for w m key = if is_get m.code then stored_for key w.store else None
 -- what a miss says of what is stored for the key of a request
 abbrev pub held_by : State → CacheKey → Miss → Option Stored
 held_by w key Nothing = None
-held_by w key Stale = stored_for key w.store
+held_by w key Unusable = stored_for key w.store
 
 -- what a miss says is what is stored for the request
 pub record IsMissed (w : State) (m : Message) (key : CacheKey) (miss : Miss) : Type 0 where
   pub held : held_for w m key ≡ held_by w key miss
-  pub stale : miss ≡ Stale → is_some (stored_for key w.store) ≡ true
+  pub unusable : miss ≡ Unusable → is_some (stored_for key w.store) ≡ true
 
 -- an exchange may be joined or opened for this request: it may be forwarded, a reply may be sent
 -- at once, and it isn't answered from the store
-pub record CanAsk (request : Arrival) (query : CacheQuery) (known : Missed) (w : State) : Type 0
+pub record CanAsk (request : Arrival) (query : CacheQuery) (miss : Miss) (w : State) : Type 0
   where
     pub reply : CanReplyTo request w
     pub asked : IsAsked w request.message.now query
-    pub missed : IsMissed w request.message.now query.key known.stored
-    pub hashed : known.key ≡ query.key
+    pub missed : IsMissed w request.message.now query.key miss
 
 -- the steps of a request that isn't answered from the store, of one that needs an exchange, and of
 -- one that opens it

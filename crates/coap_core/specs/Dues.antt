@@ -29,14 +29,14 @@ IsExchangeDue w now x =
     HasCome
     (due_among w.setting.limits.nstart w.setting.limits.exchange_ms w.exchanges x) now
 
--- the same for a client
-abbrev pub IsClientDue : State → ℕ → Waiter → Type 0
-IsClientDue w now v = HasCome (due_after w.exchanges v) now
+-- the same for a waiter
+abbrev pub IsWaiterDue : State → ℕ → Waiter → Type 0
+IsWaiterDue w now v = HasCome (due_after w.exchanges v) now
 
--- a client waits for the exchange of this delivery, which has its endpoint and its type
+-- a waiter waits for the exchange of this delivery, which has its endpoint and its type
 pub record IsServed (d : Delivery) (v : Waiter) : Type 0 where
   pub waits : v.state ≡ Waiting d.exchange
-  pub to : d.client.to ≡ v.client
+  pub to : d.waiter.to ≡ v.client
   pub kind : d.kind ≡ v.kind
 
 -- there is an exchange with this number, and its answer has come
@@ -55,7 +55,7 @@ step_with w now step (Some a) = step a
 abbrev pub exchange_at : State → Timing → ℕ → Step
 exchange_at w t number = on_exchange w t.now t.draw number (item_at number w.exchanges)
 
--- the same for the client with this number
+-- the same for the waiter with this number
 abbrev pub waiter_at : State → Timing → ℕ → Step
 waiter_at w t number = on_waiter w t.now t.draw number (item_at number w.waiters)
 
@@ -70,22 +70,22 @@ request_timeout_at w now number =
     step_with w now (λ x. on_request_timeout w now number x (fire_of_sending now x.sending))
     (item_at number w.exchanges)
 
--- a client is sent the answer of its exchange
+-- a waiter is sent the answer of its exchange
 abbrev pub delivery_at : State → Timing → Delivery → Step
 delivery_at w t d =
     step_with w t.now
     (λ v.
-    on_awaited w t.now t.draw d.client.number v d.exchange (item_at d.exchange w.exchanges))
-    (item_at d.client.number w.waiters)
+    on_awaited w t.now t.draw d.waiter.number v d.exchange (item_at d.exchange w.exchanges))
+    (item_at d.waiter.number w.waiters)
 
--- the clients, after this one was sent these bytes with the next id
-abbrev pub told_in : State → Timing → Delivery → List ℕ → List (Numbered Waiter)
-told_in w t d bytes =
+-- the waiters, after this one was sent these bytes with the next id
+abbrev pub waiters_after : State → Timing → Delivery → List ℕ → List (Numbered Waiter)
+waiters_after w t d bytes =
     if is_con d.kind
-    then changed_at d.client.number (delivered bytes (next_id w) (started t.now t.draw)) w.waiters
-    else without d.client.number w.waiters
+    then changed_at d.waiter.number (delivered bytes (next_id w) (started t.now t.draw)) w.waiters
+    else without d.waiter.number w.waiters
 
--- what a client is sent for the answer of this exchange
+-- what a waiter is sent for the answer of this exchange
 abbrev pub given_for : State → ℕ → Waiter → Bool → Option Answer → List ℕ
 given_for w now v to_get None = []
 given_for w now v to_get (Some a) = spelling (given_to w now v to_get a)
@@ -97,13 +97,13 @@ given_of w now v (Some x) = given_for w now v x.is_get (exchanges.answer_at x)
 abbrev pub given_at : State → ℕ → Waiter → ℕ → List ℕ
 given_at w now v exchange = given_of w now v (item_at exchange w.exchanges)
 
--- the current timeout of a client that was sent its answer has ended
+-- the current timeout of a waiter that was sent its answer has ended
 abbrev pub unheard : State → ℕ → ℕ → Waiter → WaiterState → Step
 unheard w now number v (Waiting exchange) = idles w now
 unheard w now number v (Delivering bytes id timer) =
     on_delivery_timeout w now number v bytes (fire_of now timer)
 
--- the same for the client with this number
+-- the same for the waiter with this number
 abbrev pub delivery_timeout_at : State → ℕ → ℕ → Step
 delivery_timeout_at w now number =
     step_with w now (λ v. unheard w now number v v.state) (item_at number w.waiters)
@@ -116,7 +116,7 @@ form_of (Some x) = x.form
 abbrev pub form_at : ℕ → List (Numbered Exchange) → List ℕ
 form_at number exchanges = form_of (item_at number exchanges)
 
--- the encoded response that a client was sent
+-- the encoded response that a waiter was sent
 abbrev pub answer_in_state : WaiterState → List ℕ
 answer_in_state (Waiting exchange) = []
 answer_in_state (Delivering bytes id timer) = bytes

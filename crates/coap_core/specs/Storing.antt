@@ -12,7 +12,7 @@ use Rattle.coap_model.specs.declared.report.Storing.TheVariants.{Kept, TooLarge,
 use Rattle.coap_limits.specs.Limits.{Limits}
 use Rattle.coap_forward.specs.Messages.{is_con, acknowledgement}
 use Rattle.coap_model.specs.Answers.{entry_made, may_store, answers}
-use Rattle.coap_model.specs.Responses.{awaiting, on_awaited, on_separate, on_unknown}
+use Rattle.coap_model.specs.Responses.{awaiting, on_not_confirmable, on_separate, on_unknown}
 use Rattle.coap_model.specs.State.{State, Step, known_of, remembers, with_record}
 use Rattle.coap_message.specs.Spelling.{spelling}
 use Rattle.coap_endpoint.specs.declared.endpoint.Endpoint.{Endpoint}
@@ -61,8 +61,9 @@ accepted now source m w =
     if is_con m.kind then with_record now source m (spelling (acknowledgement m.id)) w else w
 
 -- the steps of a response that isn't Confirmable, of one that is, and of a new one that is
-abbrev pub awaited_step : State → ℕ → Bool → Endpoint → Message → Step
-awaited_step w now grown source m = on_awaited w now grown source m (awaiting w source m)
+abbrev pub not_confirmable_step : State → ℕ → Bool → Endpoint → Message → Step
+not_confirmable_step w now grown source m =
+    on_not_confirmable w now grown source m (awaiting w source m)
 
 abbrev pub confirmable_step : State → ℕ → Bool → Endpoint → Message → Step
 confirmable_step w now grown source m =

@@ -4,7 +4,7 @@ use Rattle.coap_core.specs.Events.{seen}
 use Rattle.coap_model.specs.Runs.{Turn}
 use Rattle.coap_model.specs.State.{State}
 use Rattle.coap_model.specs.declared.report.Report.{Report}
-use Rattle.coap_core.specs.declared.watch.Seen.{Seen}
+use Rattle.coap_core.specs.declared.watch.WatchedTurn.{WatchedTurn}
 
 -- A turn; what its step did, or none if memory ran out for it; what was sent, and whether that was
 -- taken, which it is too if nothing was sent; and the proxy after the turn.
@@ -16,7 +16,7 @@ pub record Told : Type 0 where
   pub state : State
 
 -- what a program tells of a turn, with this proxy after it
-abbrev pub told : Seen → State → Told
+abbrev pub told : WatchedTurn → State → Told
 told s w = record {
   turn = record { now = s.now; draw = s.draw; event = seen s.event };
   report = s.report;

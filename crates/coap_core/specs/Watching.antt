@@ -1,4 +1,5 @@
--- What a proxy tells those who watch it: what its next tick is about, and what a message would meet.
+-- What a proxy tells those who watch it: what its next tick is about, and what a message would
+-- meet.
 use Rattle.std.specs.Prelude.{ℕ, ◌-◌, Option, None, Some}
 use Rattle.coap_endpoint.specs.declared.endpoint.Endpoint.{Endpoint}
 use Rattle.coap_pending.specs.declared.exchange.Exchange.{Exchange}

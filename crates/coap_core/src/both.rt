@@ -1,7 +1,7 @@
 //! Several watchers as one.
 
 use crate::proxy::Core;
-use crate::watch::{Seen, Watch};
+use crate::watch::{Watch, WatchedTurn};
 use coap_store::Store;
 
 /// Two watchers as one: each is told all turns, the first one first.
@@ -16,13 +16,13 @@ impl<A: Watch, B: Watch> Watch for Both<A, B> {
         A.sees before.first told after.first × B.sees before.second told after.second };
 
     #[inline(always)]
-    fn foresee<S: Store + Drop>(&mut self, turn: Seen<'_>, core: &Core<S>) {
+    fn foresee<S: Store + Drop>(&mut self, turn: WatchedTurn<'_>, core: &Core<S>) {
         self.first.foresee(turn, core);
         self.second.foresee(turn, core);
     }
 
     #[inline(always)]
-    fn see<S: Store + Drop>(&mut self, turn: Seen<'_>, core: &Core<S>) {
+    fn see<S: Store + Drop>(&mut self, turn: WatchedTurn<'_>, core: &Core<S>) {
         self.first.see(turn, core);
         self.second.see(turn, core);
     }
@@ -35,7 +35,7 @@ impl<W: Watch> Watch for Option<W> {
     ghost sees = { SeesIfAny W.sees };
 
     #[inline(always)]
-    fn foresee<S: Store + Drop>(&mut self, turn: Seen<'_>, core: &Core<S>) {
+    fn foresee<S: Store + Drop>(&mut self, turn: WatchedTurn<'_>, core: &Core<S>) {
         match self {
             Some(watcher) => watcher.foresee(turn, core),
             None => {}
@@ -43,7 +43,7 @@ impl<W: Watch> Watch for Option<W> {
     }
 
     #[inline(always)]
-    fn see<S: Store + Drop>(&mut self, turn: Seen<'_>, core: &Core<S>) {
+    fn see<S: Store + Drop>(&mut self, turn: WatchedTurn<'_>, core: &Core<S>) {
         match self {
             Some(watcher) => watcher.see(turn, core),
             None => {}

@@ -3,7 +3,7 @@
 ghost use Rattle.std.specs.Prelude.{◌≡◌, true, is_some};
 ghost use Rattle.coap_pending.specs.Table.{item_at};
 ghost use Rattle.coap_forward.specs.Messages.{is_bare};
-ghost use Rattle.coap_model.specs.Empties.{acknowledges, closes, on_client, on_exchange, on_empty};
+ghost use Rattle.coap_model.specs.Empties.{acknowledges, closes, on_delivery, on_exchange, on_empty};
 ghost use Rattle.coap_model.specs.History.{grown_of};
 ghost use Rattle.coap_core.specs.Arrivals.{of_arrival, of_grown};
 ghost use Rattle.coap_core.specs.Done.{Does, resets};
@@ -29,12 +29,12 @@ impl<S: Store + Drop> State<S> {
         let exchanges = self.under_way.exchanges();
         match exchanges.sent_as(arrival.from, id, arrival.now) {
             Some(number) => self.on_sent(arrival, number, out),
-            None => self.on_client(arrival, out),
+            None => self.on_delivery(arrival, out),
         }
     }
 
-    /// Acknowledges or resets the request of the exchange numbered `number`. If that was
-    /// acknowledged or answered before, the message isn't for a request.
+    /// Handles an acknowledgement or a Reset of the request of the exchange numbered `number`. If
+    /// that was acknowledged or answered before, the message can only be about an answer.
     fn on_sent(
         &mut self,
         arrival: Arrival<'_, '_>,
@@ -53,7 +53,7 @@ impl<S: Store + Drop> State<S> {
             unreachable!()
         };
         if !exchange.is_sent() {
-            return self.on_client(arrival, out);
+            return self.on_delivery(arrival, out);
         }
         match arrival.message.kind() {
             Kind::Ack => self.acknowledge(arrival.now, number, out),
@@ -61,8 +61,8 @@ impl<S: Store + Drop> State<S> {
         }
     }
 
-    /// Marks the request of the exchange numbered `number` as acknowledged: its answer is to come
-    /// as a separate response.
+    /// Notes that the request of the exchange numbered `number` was acknowledged: its answer is to
+    /// come as a separate response.
     fn acknowledge(&mut self, now: Moment, number: ExchangeNumber, out: &mut Datagram) -> Report
         requires can { CanGoOn self.old }
         requires sent { IsSentAt number self.old.exchanges }
@@ -90,22 +90,23 @@ impl<S: Store + Drop> State<S> {
         })
     }
 
-    /// Handles an acknowledgement or a Reset of an answer that was sent to a client.
-    fn on_client(&mut self, arrival: Arrival<'_, '_>, out: &mut Datagram) -> Report
+    /// Handles an acknowledgement or a Reset of an answer that a waiter was sent. If there is no
+    /// such answer, the message is ignored.
+    fn on_delivery(&mut self, arrival: Arrival<'_, '_>, out: &mut Datagram) -> Report
         requires can { CanGoOn self.old }
-        ensures { Does (of_arrival (on_client self.old) arrival.entry) result out.old out.new
+        ensures { Does (of_arrival (on_delivery self.old) arrival.entry) result out.old out.new
             self.new }
     {
         let id = arrival.message.id();
         let waiters = self.under_way.waiters();
         match waiters.sent_as(arrival.from, id, arrival.now) {
-            Some(number) => self.close_client(arrival.now, number, out),
+            Some(number) => self.close_waiter(arrival.now, number, out),
             None => self.ignore(arrival.now, out),
         }
     }
 
     /// Removes the waiter numbered `number`, which has acknowledged its answer, or rejected it.
-    fn close_client(&mut self, now: Moment, number: WaiterNumber, out: &mut Datagram) -> Report
+    fn close_waiter(&mut self, now: Moment, number: WaiterNumber, out: &mut Datagram) -> Report
         requires { CanGoOn self.old }
         ensures { Does (closes self.old now number) result out.old out.new self.new }
     {

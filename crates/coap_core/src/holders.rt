@@ -1,4 +1,4 @@
-//! Who has most of a table that is full.
+//! Which address has more of a full table than any other.
 ghost use Rattle.std.specs.Prelude.{◌≡◌, ◌≤◌, [], ◌∷◌, length, vec_capacity, vec_len, IfNone, IfOk, IfSome, None};
 ghost use Rattle.coap_message.specs.Reading.{head_at};
 ghost use Rattle.coap_model.specs.State.{records_of};
@@ -11,7 +11,7 @@ ghost use Rattle.coap_core.specs.Told.{told};
 use crate::event::Event;
 use crate::most::{Part, Sum, most_of};
 use crate::proxy::Core;
-use crate::watch::Seen;
+use crate::watch::WatchedTurn;
 use coap_endpoint::{Endpoint, Ip};
 use coap_exchange::EndpointMap;
 use coap_message::{Kind, Moment, OutOfMemory, head_of};
@@ -46,7 +46,7 @@ impl SharedTable {
     }
 }
 
-/// The address that has most of a table.
+/// The address that has more of a table than any other, or as much.
 #[derive(Clone, Copy, Debug, PartialEq, Eq)]
 pub struct Holder {
     pub table: SharedTable,
@@ -61,9 +61,9 @@ pub struct Holder {
     pub found: Moment,
 }
 
-/// Who had most of each table when it was last found full. At most once a minute somebody is looked
-/// for: when a message was turned away for want of room in a table, or of its client's share in it.
-/// Only `new` allocates.
+/// Which address had more of each table than any other when it was last found full. One is looked
+/// for at most once a minute: when a message was turned away for want of room in a table, or of its
+/// client's share in it. Only `new` allocates.
 #[derive(Drop)]
 pub struct Holders {
     /// What each endpoint has, while somebody is looked for.
@@ -131,7 +131,7 @@ impl Holders {
         ]
     }
 
-    /// Notes who has most of a table.
+    /// Notes which address has more of a table than any other.
     pub fn note(&mut self, holder: Holder)
         ensures { self.new ≡ spec.noted holder holder.table self.old }
     {
@@ -143,10 +143,10 @@ impl Holders {
         }
     }
 
-    /// Is told of a turn, with the core as it is after it. Returns who has most of the table that
-    /// is full, if that was found in this turn.
+    /// Is told of a turn, with the core as it is after it. Returns which address has more of the
+    /// table that is full than any other, if that was found in this turn.
     #[inline(always)]
-    pub fn look<S: Store + Drop>(&mut self, turn: Seen<'_>, core: &Core<S>) -> Option<Holder>
+    pub fn look<S: Store + Drop>(&mut self, turn: WatchedTurn<'_>, core: &Core<S>) -> Option<Holder>
         // Nobody is looked for unless a message was turned away for want of room, and not within a
         // minute after somebody was looked for.
         ensures none { spec.looks_in self.old (told turn.entry core.now) ≡ None
@@ -166,8 +166,8 @@ impl Holders {
         }
     }
 
-    /// Looks for who has most of the table for want of which an event had this outcome: no room for
-    /// a record, or 5.03.
+    /// Looks for the address that has more than any other of the table for want of which an event
+    /// had this outcome: no room for a record, or 5.03.
     #[inline(never)]
     fn look_closely<S: Store + Drop>(
         &mut self,
@@ -200,7 +200,8 @@ impl Holders {
     }
 }
 
-/// Which address has most of a table. The vector has room for what each endpoint has of it.
+/// Which address has more of a table than any other; of equal ones, the lowest. The vector has room
+/// for what each endpoint has of the table.
 fn greatest<S: Store + Drop>(
     parts: &mut Vec<Part>,
     room: usize,
@@ -349,8 +350,8 @@ fn records_for(bytes: &[u8]) -> Option<SharedTable>
     }
 }
 
-/// The table of exchanges or of waiters that is full, for all or for the client that a request came
-/// from.
+/// The first table, that of exchanges or else that of waiters, which has no room for a request of
+/// this client: it is full, or the client has its share of it.
 fn full_for<S: Store + Drop>(client: Endpoint, core: &Core<S>) -> Option<SharedTable>
     ensures { result ≡ spec.full_for client core.now }
 {

@@ -87,8 +87,8 @@ impl<S: Store + Drop> State<S> {
         !records.is_full(now) && !records.is_client_full(source, now)
     }
 
-    /// If the message is a duplicate, writes to `out` what it gets; otherwise leaves `out` as it
-    /// is.
+    /// If the message is a duplicate, writes to `out` what it gets: the kept reply if it is
+    /// Confirmable, and otherwise nothing (RFC 7252, 4.5). If it is new, leaves `out` as it is.
     pub(crate) fn repeat(&self, arrival: Arrival<'_, '_>, out: &mut Datagram) -> Option<Report>
         requires fits { IfSome (of_arrival (repetition_of self.now) arrival) (λ step.
             length step.bytes ≤ out.old.room) }
@@ -126,8 +126,8 @@ impl<S: Store + Drop> State<S> {
         silent(Outcome::NoRecordRoom)
     }
 
-    /// Whether a reply can be sent at once to a request of this type. An acknowledgement needs no
-    /// new id.
+    /// Whether a reply can be sent at once to a request of this type: an acknowledgement needs no
+    /// Message ID of the proxy's own.
     pub(crate) fn can_reply(&self, now: Moment, kind: Kind) -> bool
         requires ready { CanStep now self.now }
         ensures { result ≡ can_reply self.now now kind }
@@ -161,7 +161,8 @@ impl<S: Store + Drop> State<S> {
         }
     }
 
-    /// Remembers a new message, and `sent` as what is sent at once for it.
+    /// Remembers a new message. If it is Confirmable, `sent` is kept with it: what is sent at once,
+    /// which a duplicate gets again (RFC 7252, 4.5).
     pub(crate) fn remember(
         &mut self,
         arrival: Arrival<'_, '_>,

@@ -53,4 +53,4 @@ pub use coap_target::{RouteError, Routes};
 pub use event::Event;
 pub use holders::{Holder, Holders, SharedTable};
 pub use proxy::{Core, MOST_EVENTS};
-pub use watch::{Seen, Unwatched, Watch};
+pub use watch::{Unwatched, Watch, WatchedTurn};

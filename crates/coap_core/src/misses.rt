@@ -18,41 +18,27 @@ use crate::known::put_acceptance;
 use crate::request_target::CacheQuery;
 use crate::requests::is_get;
 use crate::state::State;
-use coap_exchange::{ExchangeNumber, HashedKey, Joining, Opening};
+use coap_exchange::{ExchangeNumber, Joining, Opening};
 use coap_forward::{Form, put_forwarded, put_with_max_age, token_of, validating_tag};
 use coap_message::{Code, Datagram, Full, MessageRef, OutOfMemory, Pieces, Seq, Token};
 use coap_model::{Outcome, Report};
-use coap_store::{Store, Stored};
+use coap_store::{SharedKey, Store, Stored};
+use endpoint_counts::Peer;
 
 /// What is stored for the key of a request that isn't answered from the store.
 #[derive(Clone, Copy)]
 pub(crate) enum Miss {
     /// Nothing, or the request isn't a GET, so that nothing is looked up.
     Nothing,
-    /// A response that isn't usable.
-    Stale,
-}
-
-/// The key of a request that isn't answered from the store, and what is stored for it.
-#[derive(Drop)]
-pub(crate) struct Missed<'k> {
-    stored: Miss,
-    key: HashedKey<'k>,
-}
-
-impl<'k> Missed<'k> {
-    /// This is stored for the key.
-    pub(crate) fn new(key: HashedKey<'k>, stored: Miss) -> Missed<'k>
-        ensures { result ≡ record { stored = stored; key = key.entry } }
-    {
-        Missed { stored, key }
-    }
+    /// A response that is stale, or is marked since its target was changed.
+    Unusable,
 }
 
 /// What an exchange is opened with, in addition to its request.
 #[derive(Drop)]
 pub(crate) struct NewExchange<'k> {
-    key: HashedKey<'k>,
+    client: Peer,
+    key: &'k SharedKey,
     /// The tags of the responses that the client already holds.
     tags: Pieces,
     /// The stored response that the request asks to validate.
@@ -87,10 +73,10 @@ impl<S: Store + Drop> State<S> {
         &mut self,
         arrival: Arrival<'_, '_>,
         asked: &CacheQuery,
-        missed: Missed<'_>,
+        miss: Miss,
         out: &mut Datagram,
     ) -> Result<Report, OutOfMemory>
-        requires ask { CanAsk arrival asked.now missed self.old }
+        requires ask { CanAsk arrival asked.now miss self.old }
         requires can { CanDo (of_arrival (missed_step self.old) arrival asked.now.key)
             arrival.now self.old out.old }
         ensures { IsDoneFor arrival.entry
@@ -98,9 +84,9 @@ impl<S: Store + Drop> State<S> {
             result out.old out.new self.old self.new }
     {
         let exchanges = self.under_way.exchanges();
-        match exchanges.joinable_as(&missed.key) {
+        match exchanges.joinable_as(&asked.key) {
             Some(exchange) => self.on_joinable(arrival, exchange, asked, out),
-            None => self.on_exchange_needed(arrival, asked, missed, out),
+            None => self.on_exchange_needed(arrival, asked, miss, out),
         }
     }
 
@@ -119,11 +105,12 @@ impl<S: Store + Drop> State<S> {
             (of_arrival (joinable_step self.old) arrival.entry exchange)
             result out.old out.new self.old self.new }
     {
-        if !self.has_room_to_join(arrival.now, arrival.from) {
+        let client = Peer::new(arrival.from);
+        if !self.has_room_to_join(arrival.now, client) {
             return self.overload(arrival, out);
         }
         let tags = asked.tags.clone()?;
-        self.join(arrival, exchange, tags, out)
+        self.join(arrival, client, exchange, tags, out)
     }
 
     /// Opens an exchange for a key, if the forwarded request isn't too long, and then if there is
@@ -133,10 +120,10 @@ impl<S: Store + Drop> State<S> {
         &mut self,
         arrival: Arrival<'_, '_>,
         asked: &CacheQuery,
-        missed: Missed<'_>,
+        miss: Miss,
         out: &mut Datagram,
     ) -> Result<Report, OutOfMemory>
-        requires ask { CanAsk arrival asked.now missed self.old }
+        requires ask { CanAsk arrival asked.now miss self.old }
         requires can { CanDo (of_arrival (needing_step self.old) arrival asked.now.key)
             arrival.now self.old out.old }
         ensures { IsDoneFor arrival.entry
@@ -147,18 +134,24 @@ impl<S: Store + Drop> State<S> {
             let code = Code::REQUEST_ENTITY_TOO_LARGE;
             return self.refuse(arrival, code, out);
         }
-        if !self.has_room_to_open(arrival.now, arrival.from) {
+        let client = Peer::new(arrival.from);
+        if !self.has_room_to_open(arrival.now, client) {
             return self.overload(arrival, out);
         }
-        let Missed { stored, key } = missed;
-        let copy = self.put_validating(arrival.message, asked, stored, out)?;
-        let tags = asked.tags.clone()?;
-        self.open(arrival, NewExchange { key, tags, copy }, out)
+        let copy = self.put_validating(arrival.message, asked, miss, out)?;
+        let new = NewExchange {
+            client,
+            key: &asked.key,
+            tags: asked.tags.clone()?,
+            copy,
+        };
+        self.open(arrival, new, out)
     }
 
-    /// Rewrites the forwarded request, which `out` holds, with the tag of what is stored for the
-    /// key, if something with a tag is, and if it fits with the tag. Returns a copy of what is
-    /// stored then (RFC 7252, 5.6.2).
+    /// Asks to validate what is stored for the key, if it has a tag: writes the forwarded request,
+    /// which `out` holds, anew with that tag, and returns a copy of what is stored (RFC 7252,
+    /// 5.6.2). If it has none, or the request doesn't fit a datagram with it, the request is as it
+    /// was, and nothing is returned.
     fn put_validating(
         &self,
         request: &MessageRef<'_>,
@@ -243,8 +236,8 @@ impl<S: Store + Drop> State<S> {
         put_forwarded(&token, form, out, room)
     }
 
-    /// Replies 5.03, because there is no room for the client: its Max-Age says when to try again
-    /// (RFC 7252, 5.9.3.4).
+    /// Replies 5.03, because a table is full, the client has its share of it, or Message IDs are
+    /// short. The Max-Age of the reply says in how many seconds to try again (RFC 7252, 5.9.3.4).
     fn overload(
         &mut self,
         arrival: Arrival<'_, '_>,
@@ -290,27 +283,34 @@ impl<S: Store + Drop> State<S> {
         exchange: NewExchange<'_>,
         out: &mut Datagram,
     ) -> Result<Report, OutOfMemory>
-        requires can { CanSend (of_arrival (opening_step self.old) arrival exchange.key)
+        requires can { CanSend (of_arrival (opening_step self.old) arrival exchange.key.now)
             arrival self.old out.old }
+        requires client { exchange.client ≡ arrival.from }
         requires room { has_room_to_open self.old arrival.now arrival.from ≡ true }
         requires tags { exchange.tags ≡ tags_of arrival.message.now }
         requires copy { exchange.copy
-            ≡ copy_of self.old.setting.limits.datagram exchange.key.target arrival.message.now
-            (held_for self.old arrival.message.now exchange.key) }
+            ≡ copy_of self.old.setting.limits.datagram exchange.key.now.target arrival.message.now
+            (held_for self.old arrival.message.now exchange.key.now) }
         requires form { out.old.bytes
             ≡ spelling
-            (forwarded (next_token self.old) exchange.key.target
-            (tag_carried self.old.setting.limits.datagram exchange.key.target arrival.message.now
-            (held_for self.old arrival.message.now exchange.key))
+            (forwarded (next_token self.old) exchange.key.now.target
+            (tag_carried self.old.setting.limits.datagram exchange.key.now.target
+            arrival.message.now
+            (held_for self.old arrival.message.now exchange.key.now))
             arrival.message.now 0) }
         ensures { IsDoneFor arrival.entry
-            (of_arrival (opening_step self.old) arrival.entry exchange.entry.key)
+            (of_arrival (opening_step self.old) arrival.entry exchange.entry.key.now)
             result out.old out.new self.old self.new }
     {
-        let NewExchange { key, tags, copy } = exchange;
+        let NewExchange {
+            client,
+            key,
+            tags,
+            copy,
+        } = exchange;
         let form = Seq::from_slice(self.alloc, out.bytes())?;
         let opening = Opening {
-            client: arrival.from,
+            client,
             key,
             is_get: is_get(arrival.message.code()),
             form,
@@ -318,7 +318,8 @@ impl<S: Store + Drop> State<S> {
             now: arrival.now,
         };
         let number = self.under_way.open(opening)?;
-        if let Err(refused) = self.under_way.join(joining_of(arrival, tags, number)) {
+        let joining = joining_of(arrival, tags, number);
+        if let Err(refused) = self.under_way.join(joining, client) {
             self.under_way.withdraw_exchange();
             return Err(refused);
         }
@@ -334,19 +335,22 @@ impl<S: Store + Drop> State<S> {
     fn join(
         &mut self,
         arrival: Arrival<'_, '_>,
+        client: Peer,
         exchange: ExchangeNumber,
         tags: Pieces,
         out: &mut Datagram,
     ) -> Result<Report, OutOfMemory>
         requires can { CanSend (of_arrival (joins self.old) arrival exchange)
             arrival self.old out.old }
+        requires client { client ≡ arrival.from }
         requires room { has_room_to_join self.old arrival.now arrival.from ≡ true }
         requires tags { tags ≡ tags_of arrival.message.now }
         ensures { IsDoneFor arrival.entry
             (of_arrival (joins self.old) arrival.entry exchange)
             result out.old out.new self.old self.new }
     {
-        self.under_way.join(joining_of(arrival, tags, exchange))?;
+        let joining = joining_of(arrival, tags, exchange);
+        self.under_way.join(joining, client)?;
         let done = self.accept_request(arrival, Outcome::Joined, out);
         if done.is_err() {
             self.under_way.withdraw_waiter();

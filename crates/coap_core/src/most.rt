@@ -1,4 +1,4 @@
-//! Which address has most of what is listed by endpoint.
+//! Which address has more than any other of what is listed by endpoint.
 ghost use Rattle.std.specs.Prelude.{◌≡◌, ℕ, ◌<◌, ◌+◌, ◌^◌, [], true, IfNone, IfSome};
 ghost use Rattle.coap_endpoint.specs.declared.endpoint.Ip.{Ip};
 ghost use Rattle.coap_endpoint.specs.Endpoint.{same_ip};
@@ -55,7 +55,7 @@ fn greater_of(most: Option<Sum>, sum: Sum) -> Option<Sum>
     }
 }
 
-/// The address that has most, and of several the lowest.
+/// The address that has more than any other; of equal ones, the lowest.
 pub(crate) fn most_of(parts: &[Part]) -> Option<Sum>
     requires grouped { AreGrouped parts.now }
     requires some { AreSome parts.now }

@@ -72,7 +72,7 @@ impl<S: Store> Model for Core<S> {
 }
 
 impl<S: Store + Drop> Core<S> {
-    /// A core that has done nothing yet. Room for exchanges, clients and records is allocated here.
+    /// A core that has done nothing yet. Room for exchanges, waiters and records is allocated here.
     ///
     /// `first_id` is the first Message ID that it gives (RFC 7252, 4.4). `salt` makes its tokens
     /// differ from those of earlier runs (RFC 7252, 5.3.1).
@@ -196,9 +196,9 @@ impl<S: Store + Drop> Core<S> {
         done
     }
 
-    /// Whether `step` may be called with these: the moment isn't before the last one, and is at most
-    /// 2^62, the draw is at most 1,000, the datagram has room for `datagram()` bytes, and fewer than
-    /// 2^63 steps were done.
+    /// Whether `step` may be called with these: the moment isn't before the last one, and is at
+    /// most 2^62, the draw is at most 1,000, the datagram has room for `datagram()` bytes, and
+    /// fewer than 2^63 steps were done.
     pub fn can_step(&self, now: Moment, draw: u16, out: &Datagram) -> bool
         ensures moment { IsTrue result → now ≤ 2 ^ 62 }
         ensures onward { IsTrue result → self.now.last ≤ now }
@@ -249,8 +249,8 @@ impl<S: Store + Drop> Core<S> {
     }
 
     /// How much of that is an endpoint's: the live records of its messages, the exchanges that it
-    /// opened, and its pending requests. A client that joins an exchange has a pending request, and
-    /// a response counts for the origin server that sent it. Doesn't allocate.
+    /// opened, and its waiters. A client that joins an exchange has a waiter, and a record of a
+    /// response counts for the origin that sent it. Doesn't allocate.
     pub fn client_counts(&self, client: Endpoint) -> ClientCounts
         ensures exact { result ≡ client_counts self.now client }
     {

@@ -68,10 +68,10 @@ impl KeySource for Keyed<'_, '_, '_> {
 pub(crate) struct CacheQuery {
     pub(crate) key: SharedKey,
     pub(crate) tags: Pieces,
-    /// What the options of the request told.
+    /// What one pass over the options of the request told.
     pub(crate) survey: Survey,
-    /// A key with a host while the other has none, and without one while it has: so that the room
-    /// of a host is kept.
+    /// The key that isn't in use: one of the two keys has a host, and the other has none. So the
+    /// memory of a host isn't freed when a request without one follows.
     spare: SharedKey,
 }
 
@@ -113,7 +113,7 @@ fn roomy_key(
         query: Pieces::with_room(alloc, datagram)?,
     };
     let options = OptionList::with_room(alloc, datagram)?;
-    SharedKey::new(alloc, CacheKey { target, options })
+    SharedKey::new(alloc, CacheKey { target, options }, 0)
 }
 
 impl CacheQuery {
@@ -146,7 +146,8 @@ impl CacheQuery {
         })
     }
 
-    /// Reads what a request for a target asks for, after the survey of its options.
+    /// Reads what a request for a target asks for, after the survey of its options. Its key is
+    /// hashed with this secret.
     ///
     /// # Errors
     /// Out of memory. Then it holds parts of what this request and the last one ask for.
@@ -155,6 +156,7 @@ impl CacheQuery {
         target: &RequestTarget<'_, '_>,
         request: &MessageRef<'_>,
         survey: Survey,
+        secret: u64,
     ) -> Result<(), OutOfMemory>
         requires { IsSurvey request.now survey }
         ensures key { OnOk result (self.new.key ≡ request_key (seen target.now) request.now) }
@@ -165,11 +167,12 @@ impl CacheQuery {
         if target.has_host() != self.key.key().target.host.is_some() {
             mem::swap(&mut self.key, &mut self.spare);
         }
-        self.key.overwrite(&Keyed {
+        let keyed = Keyed {
             target,
             request,
             survey,
-        })?;
+        };
+        self.key.overwrite(&keyed, secret)?;
         survey.tags_into(&mut self.tags, request)
     }
 }

@@ -20,14 +20,14 @@ ghost use Rattle.coap_core.specs.declared.requests.Verdict.TheVariants as verdic
 
 use crate::arrival::Arrival;
 use crate::known::reply_kind;
-use crate::misses::{Miss, Missed};
+use crate::misses::Miss;
 use crate::request_target::{CacheQuery, RequestTarget};
 use crate::state::{State, silent};
 use coap_forward::{put_bare, put_stored};
 use coap_message::{Code, Datagram, MessageRef, OutOfMemory, Token};
 use coap_model::{Outcome, Report};
 use coap_option::{Survey, survey_request};
-use coap_store::{Reply, Store};
+use coap_store::{Envelope, Store};
 use coap_target::{TargetError, laws};
 
 /// The verdict on a request, apart from its length, the room, and what is stored.
@@ -54,8 +54,9 @@ fn is_method(code: Code) -> bool
 }
 
 impl<S: Store + Drop> State<S> {
-    /// Handles a request: a duplicate gets the same reply again; a new one is remembered, with the
-    /// reply that it gets. What it asks for is read into `asked`.
+    /// Handles a request. A duplicate gets the kept reply again if it is Confirmable, and otherwise
+    /// nothing (RFC 7252, 4.5). A new request is remembered, and its reply only if it is
+    /// Confirmable. What it asks for is read into `asked`.
     pub(crate) fn on_request(
         &mut self,
         arrival: Arrival<'_, '_>,
@@ -126,7 +127,7 @@ impl<S: Store + Drop> State<S> {
         };
         match self.target_of(request, survey) {
             Ok(target) => {
-                asked.read(&target, request, survey)?;
+                asked.read(&target, request, survey, self.store.secret())?;
                 Ok(Verdict::MayAsk)
             }
             Err(TargetError::BadUri) => Ok(Verdict::RefusedWith(Code::BAD_REQUEST)),
@@ -153,8 +154,7 @@ impl<S: Store + Drop> State<S> {
             result out.old out.new self.old self.new }
     {
         if !is_get(arrival.message.code()) {
-            let missed = self.missed(asked, Miss::Nothing);
-            return self.on_exchange_needed(arrival, asked, missed, out);
+            return self.on_exchange_needed(arrival, asked, Miss::Nothing, out);
         }
         match self.put_usable(arrival, asked, out) {
             Ok(()) => {
@@ -162,18 +162,8 @@ impl<S: Store + Drop> State<S> {
                 self.store.touch(&asked.key);
                 Ok(report)
             }
-            Err(stored) => {
-                let missed = self.missed(asked, stored);
-                self.on_miss(arrival, asked, missed, out)
-            }
+            Err(miss) => self.on_miss(arrival, asked, miss, out),
         }
-    }
-
-    /// That this is stored for the key of a request, which is hashed here, once for the request.
-    fn missed<'k>(&self, asked: &'k CacheQuery, stored: Miss) -> Missed<'k>
-        ensures { result ≡ record { stored = stored; key = asked.now.key } }
-    {
-        Missed::new(self.under_way.exchanges().hashed(asked.key.key()), stored)
     }
 
     /// Writes to `out` what the client is sent for a usable response that is stored for the key.
@@ -205,16 +195,16 @@ impl<S: Store + Drop> State<S> {
                 let id = self.reply_id(arrival.message);
                 let kind = reply_kind(arrival.message.kind());
                 let token = Token::new(arrival.message.token());
-                let reply = Reply {
+                let envelope = Envelope {
                     kind,
                     id,
                     token: &token,
                     tags: &asked.tags,
                 };
-                put_stored(arrival.now, stored, reply, out);
+                put_stored(arrival.now, stored, envelope, out);
                 Ok(())
             }
-            Some(_) => Err(Miss::Stale),
+            Some(_) => Err(Miss::Unusable),
             None => Err(Miss::Nothing),
         }
     }

@@ -10,7 +10,7 @@ ghost use Rattle.coap_pending.specs.Exchanges.{is_in_flight};
 ghost use Rattle.coap_model.specs.Responses.{has_id, awaiting, on_response};
 ghost use Rattle.coap_model.specs.History.{grown_of};
 ghost use Rattle.coap_core.specs.Arrivals.{of_arrival, of_grown};
-ghost use Rattle.coap_core.specs.Storing.{IsKept, answering_at, awaited_step, confirmable_step, separate_step, if_storable, targets_in, accepted, accepted_bytes, accepted_to};
+ghost use Rattle.coap_core.specs.Storing.{IsKept, answering_at, not_confirmable_step, confirmable_step, separate_step, if_storable, targets_in, accepted, accepted_bytes, accepted_to};
 ghost use Rattle.coap_core.specs.Done.{Does, IsDoneBy, wants_memory};
 ghost use Rattle.coap_core.specs.Needs.{CanDo, CanGoOn, CanRemember, IsNew, IsOpenAt};
 
@@ -106,12 +106,12 @@ impl<S: Store + Drop> State<S> {
     {
         match arrival.message.kind() {
             Kind::Con => self.on_confirmable(arrival, out),
-            Kind::Non | Kind::Ack | Kind::Rst => self.on_awaited(arrival, out),
+            Kind::Non | Kind::Ack | Kind::Rst => self.on_not_confirmable(arrival, out),
         }
     }
 
     /// Handles a response that isn't Confirmable.
-    fn on_awaited(
+    fn on_not_confirmable(
         &mut self,
         arrival: Arrival<'_, '_>,
         out: &mut Datagram,
@@ -119,10 +119,10 @@ impl<S: Store + Drop> State<S> {
         requires can { CanGoOn self.old }
         requires other { is_con arrival.message.now.kind ≡ false }
         requires room { self.old.setting.limits.datagram ≤ out.old.room }
-        ensures done { IsDoneBy (of_grown (awaited_step self.old) arrival.entry)
+        ensures done { IsDoneBy (of_grown (not_confirmable_step self.old) arrival.entry)
             result out.old out.new self.old self.new }
         ensures memory { OnErr result
-            (wants_memory (of_grown (awaited_step self.old) arrival.entry true) ≡ true) }
+            (wants_memory (of_grown (not_confirmable_step self.old) arrival.entry true) ≡ true) }
     {
         match self.awaiting(arrival.from, arrival.message) {
             Some(number) => self.answer(arrival, number, out),

@@ -14,6 +14,7 @@ use coap_exchange::{Exchanges, Ids, UnderWay, Waiters};
 use coap_message::{Moment, OutOfMemory};
 use coap_model::{ClientCounts, Counts, Limits, Outcome, Report};
 use coap_store::Store;
+use endpoint_counts::Peer;
 use std::alloc::Global;
 use std::marker::Model;
 
@@ -21,7 +22,7 @@ use std::marker::Model;
 pub(crate) struct State<S: Store> {
     pub(crate) alloc: Global,
     pub(crate) setting: Setting,
-    /// Exchanges, and the clients that wait for them.
+    /// Exchanges, and their waiters.
     pub(crate) under_way: UnderWay,
     pub(crate) store: S,
     pub(crate) con_records: Records,
@@ -136,7 +137,7 @@ impl<S: Store + Drop> State<S> {
         }
     }
 
-    /// The number of Message IDs reserved for requests that are still to be sent, and for clients
+    /// The number of Message IDs reserved for requests that are still to be sent, and for waiters
     /// that are still to be served.
     fn reserved(&self) -> u64
         requires { CanGoOn self.now }
@@ -155,33 +156,34 @@ impl<S: Store + Drop> State<S> {
     }
 
     /// Whether there is room for one more exchange that this client opens.
-    fn has_exchange_room(&self, client: Endpoint) -> bool
+    fn has_exchange_room(&self, client: Peer) -> bool
         ensures { result ≡ has_exchange_room self.now client }
     {
         (self.under_way.exchanges().len() as u64) < self.setting.limits.values().exchanges
-            && (self.under_way.exchanges().count_of(client) as u64)
+            && (self.under_way.exchanges().count_of_peer(client) as u64)
                 < self.setting.limits.values().client_exchanges
     }
 
     /// Whether there is room for one more request of this client to wait.
-    fn has_waiter_room(&self, client: Endpoint) -> bool
+    fn has_waiter_room(&self, client: Peer) -> bool
         ensures { result ≡ has_waiter_room self.now client }
     {
         (self.under_way.waiters().len() as u64) < self.setting.limits.values().waiters
-            && (self.under_way.waiters().count_of(client) as u64)
+            && (self.under_way.waiters().count_of_peer(client) as u64)
                 < self.setting.limits.values().client_waiters
     }
 
-    /// Whether this client may wait for an exchange that is in progress.
-    pub(crate) fn has_room_to_join(&self, now: Moment, client: Endpoint) -> bool
+    /// Whether there is room for one more waiter, of this client, for an exchange in progress.
+    pub(crate) fn has_room_to_join(&self, now: Moment, client: Peer) -> bool
         requires ready { CanStep now self.now }
         ensures { result ≡ has_room_to_join self.now now client }
     {
         self.has_waiter_room(client) && self.has_ids(1, now)
     }
 
-    /// Whether there is room for an exchange and this client, which opens it.
-    pub(crate) fn has_room_to_open(&self, now: Moment, client: Endpoint) -> bool
+    /// Whether there is room for one more exchange, and for a waiter of this client, which opens
+    /// it.
+    pub(crate) fn has_room_to_open(&self, now: Moment, client: Peer) -> bool
         requires ready { CanStep now self.now }
         ensures { result ≡ has_room_to_open self.now now client }
     {

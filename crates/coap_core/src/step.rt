@@ -24,8 +24,9 @@ use coap_model::{DueItem, Outcome, Report};
 use coap_store::Store;
 
 impl<S: Store + Drop> State<S> {
-    /// One step. `due` is what is due first; what a request asks for is read into `asked`. If it
-    /// runs out of memory, nothing has happened, and `out` is empty.
+    /// One step. `due` is the item that is due first, as `first_due` returns it; what a request
+    /// asks for is read into `asked`. If it runs out of memory, nothing has happened, and `out` is
+    /// empty.
     pub(crate) fn step(
         &mut self,
         timing: Timing,
@@ -160,7 +161,8 @@ impl<S: Store + Drop> State<S> {
         }
     }
 
-    /// Rejects a message that can't be processed with a Reset, which has its id (RFC 7252, 4.2).
+    /// Rejects a message that can't be processed with a Reset, which has its Message ID (RFC 7252,
+    /// 4.2).
     pub(crate) fn reject(
         &mut self,
         now: Moment,

@@ -9,7 +9,7 @@ ghost use Rattle.coap_model.specs.Ticks.{abandons, item_due, moment_of, gives_up
 ghost use Rattle.coap_pending.specs.Waiters as waiters;
 ghost use Rattle.coap_pending.specs.Waiters.{is_waiting};
 ghost use Rattle.coap_core.specs.Done.{Does, GivesConfirmable, IsDone};
-ghost use Rattle.coap_core.specs.Dues.{HasAnswer, IsClientDue, IsExchangeDue, IsServed, answer_at, delivery_at, exchange_at, request_timeout_at, form_at, given_at, sending_at, told_in, delivery_timeout_at, waiter_at};
+ghost use Rattle.coap_core.specs.Dues.{HasAnswer, IsWaiterDue, IsExchangeDue, IsServed, answer_at, delivery_at, exchange_at, request_timeout_at, form_at, given_at, sending_at, waiters_after, delivery_timeout_at, waiter_at};
 ghost use Rattle.coap_core.specs.Needs.{CanDo, CanGoOn, CanStep, IsFound};
 
 use crate::laws;
@@ -23,7 +23,7 @@ use coap_exchange::{
 use coap_forward::{gateway_timeout, put_shown};
 use coap_message::{Datagram, Kind, Moment, OutOfMemory, Seq};
 use coap_model::{DueItem, Outcome, Report};
-use coap_store::{Reply, Store};
+use coap_store::{Envelope, Store};
 
 /// The moment from which on this is due, if it is something.
 pub(crate) fn moment_of(due: Option<DueItem>) -> Option<Moment>
@@ -46,7 +46,7 @@ pub(crate) struct Due {
 /// this type.
 #[derive(Clone, Copy)]
 pub(crate) struct Delivery {
-    client: Due,
+    waiter: Due,
     kind: Kind,
     exchange: ExchangeNumber,
 }
@@ -86,13 +86,13 @@ impl<S: Store + Drop> State<S> {
             .exchanges()
             .due(limits.nstart as usize, limits.exchange_ms);
         match (exchange, self.under_way.waiter_due()) {
-            (Some((at, number)), Some((other, client))) => {
+            (Some((at, number)), Some((other, waiter))) => {
                 if at <= other {
                     Some(DueItem::OfExchange { at, number })
                 } else {
                     Some(DueItem::OfWaiter {
                         at: other,
-                        number: client,
+                        number: waiter,
                     })
                 }
             }
@@ -223,7 +223,7 @@ impl<S: Store + Drop> State<S> {
         number: WaiterNumber,
         out: &mut Datagram,
     ) -> Result<Report, OutOfMemory>
-        requires due { IsFound (IsClientDue self.old timing.now) number self.old.waiters }
+        requires due { IsFound (IsWaiterDue self.old timing.now) number self.old.waiters }
         requires can { CanDo (waiter_at self.old timing number) timing.now self.old out.old }
         ensures done { IsDone (waiter_at self.old timing number)
             result out.old out.new self.old self.new }
@@ -232,7 +232,7 @@ impl<S: Store + Drop> State<S> {
         let Some(waiter) = self.under_way.waiter(number) else {
             unreachable!()
         };
-        let client = Due {
+        let due = Due {
             number,
             to: waiter.client,
         };
@@ -241,19 +241,17 @@ impl<S: Store + Drop> State<S> {
                 let (kind, exchange) = (waiter.kind, *exchange);
                 self.put_delivery(timing.now, waiter, exchange, out);
                 let delivery = Delivery {
-                    client,
+                    waiter: due,
                     kind,
                     exchange,
                 };
                 self.deliver(timing, delivery, out)
             }
-            WaiterState::Delivering { .. } => {
-                Ok(self.on_delivery_timeout(timing.now, client, out))
-            }
+            WaiterState::Delivering { .. } => { Ok(self.on_delivery_timeout(timing.now, due, out)) }
         }
     }
 
-    /// Writes what a client is sent for the answer of this exchange, with the next Message ID, in a
+    /// Writes what a waiter is sent for the answer of this exchange, with the next Message ID, in a
     /// message of the type of its request.
     fn put_delivery(
         &self,
@@ -274,16 +272,16 @@ impl<S: Store + Drop> State<S> {
             unreachable!()
         };
         laws::tokens_are_short(&waiter.token);
-        let reply = Reply {
+        let envelope = Envelope {
             kind: waiter.kind,
             id: self.next_id(),
             token: &waiter.token,
             tags: &waiter.tags,
         };
-        put_shown(now, answer, awaited.is_get, reply, out);
+        put_shown(now, answer, awaited.is_get, envelope, out);
     }
 
-    /// Sends a client its answer, which `out` holds, with the next Message ID. If no other client
+    /// Sends a waiter its answer, which `out` holds, with the next Message ID. If no other waiter
     /// waits for the exchange, it is closed.
     fn deliver(
         &mut self,
@@ -292,7 +290,7 @@ impl<S: Store + Drop> State<S> {
         out: &Datagram,
     ) -> Result<Report, OutOfMemory>
         requires ready { CanStep timing.now self.old }
-        requires waits { IsFound (IsServed delivery) delivery.client.number self.old.waiters }
+        requires waits { IsFound (IsServed delivery) delivery.waiter.number self.old.waiters }
         requires answered { HasAnswer delivery.exchange self.old.exchanges }
         requires written { out.now.bytes ≡ (delivery_at self.old timing delivery).bytes }
         ensures done { IsDone (delivery_at self.old timing delivery)
@@ -304,12 +302,12 @@ impl<S: Store + Drop> State<S> {
         self.close_if_unused(delivery.exchange);
         self.advance(timing.now);
         Ok(Report {
-            send: Some(delivery.client.to),
+            send: Some(delivery.waiter.to),
             outcome: Outcome::Delivered,
         })
     }
 
-    /// Records that a client is sent what `out` holds, with the next Message ID. A Confirmable
+    /// Notes that a waiter is sent what `out` holds, with the next Message ID. A Confirmable
     /// message is kept, to be sent again until it is acknowledged (RFC 7252, 4.2).
     fn record_delivery(
         &mut self,
@@ -317,15 +315,15 @@ impl<S: Store + Drop> State<S> {
         delivery: Delivery,
         out: &Datagram,
     ) -> Result<(), OutOfMemory>
-        requires waits { IfSome (item_at delivery.client.number self.old.waiters)
+        requires waits { IfSome (item_at delivery.waiter.number self.old.waiters)
             (λ v. is_waiting v ≡ true) }
         ensures ok { OnOk result
             (self.new
-            ≡ record self.old { waiters = told_in self.old timing delivery out.now.bytes }) }
+            ≡ record self.old { waiters = waiters_after self.old timing delivery out.now.bytes }) }
         ensures err { OnErr result (self.new ≡ self.old) }
         ensures memory { OnErr result (is_con delivery.kind ≡ true) }
     {
-        let number = delivery.client.number;
+        let number = delivery.waiter.number;
         match delivery.kind {
             Kind::Con => {
                 let bytes = Seq::from_slice(self.alloc, out.bytes())?;
@@ -337,7 +335,7 @@ impl<S: Store + Drop> State<S> {
         Ok(())
     }
 
-    /// Closes an exchange if no client waits for it any more.
+    /// Closes an exchange if no waiter waits for it any more.
     fn close_if_unused(&mut self, exchange: ExchangeNumber)
         ensures { self.new
             ≡ record self.old {
@@ -347,7 +345,7 @@ impl<S: Store + Drop> State<S> {
         self.under_way.close_if_unused(exchange);
     }
 
-    /// Handles the end of the current timeout of a client that was sent its answer: the answer is
+    /// Handles the end of the current timeout of a waiter that was sent its answer: the answer is
     /// retransmitted, with the same bytes, or abandoned (RFC 7252, 4.2).
     fn on_delivery_timeout(&mut self, now: Moment, due: Due, out: &mut Datagram) -> Report
         requires ended { IsFound (λ v. waiters.IsDue now v × (due.to ≡ v.client)) due.number

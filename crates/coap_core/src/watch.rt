@@ -15,7 +15,7 @@ use coap_store::Store;
 
 /// A turn that was done, or was lost: what it was, and what was done in it.
 #[derive(Clone, Copy)]
-pub struct Seen<'a> {
+pub struct WatchedTurn<'a> {
     /// Its moment, in milliseconds.
     pub now: Moment,
     /// Its random number of milliseconds.
@@ -41,11 +41,11 @@ fn event_of(from: Option<Endpoint>, bytes: &[u8]) -> Event<'_>
     }
 }
 
-impl<'a> Seen<'a> {
-    /// A turn that has begun: its moment and its draw, in milliseconds, and the bytes that came from
-    /// a source, or a tick if there is none. Its step isn't done yet: told like this, it is a lost
-    /// one.
-    pub fn begun(now: Moment, draw: u16, from: Option<Endpoint>, bytes: &'a [u8]) -> Seen<'a>
+impl<'a> WatchedTurn<'a> {
+    /// A turn that has begun: its moment and its draw, in milliseconds, and the bytes that came
+    /// from a source, or a tick if there is none. Its step isn't done yet: told like this, it is a
+    /// lost one.
+    pub fn begun(now: Moment, draw: u16, from: Option<Endpoint>, bytes: &'a [u8]) -> WatchedTurn<'a>
         ensures now { result.now ≡ now }
         ensures draw { result.draw ≡ draw }
         ensures event { seen result.event ≡ event_given from bytes.entry.now }
@@ -59,7 +59,7 @@ impl<'a> Seen<'a> {
         } }
     {
         laws::bytes_are_small(bytes);
-        Seen {
+        WatchedTurn {
             now,
             draw,
             event: event_of(from, bytes),
@@ -71,7 +71,7 @@ impl<'a> Seen<'a> {
 
     /// The same turn, whose step was done: with what it did, the bytes that it sends, and whether
     /// they were taken.
-    pub fn done(self, report: Report, sent: &'a [u8], went: bool) -> Seen<'a>
+    pub fn done(self, report: Report, sent: &'a [u8], went: bool) -> WatchedTurn<'a>
         ensures { (w : State) → told result w ≡ record {
           turn = (told self.entry w).turn;
           report = Some report;
@@ -80,7 +80,7 @@ impl<'a> Seen<'a> {
           state = w;
         } }
     {
-        Seen {
+        WatchedTurn {
             report: Some(report),
             sent,
             went,
@@ -101,9 +101,9 @@ impl<'a> Seen<'a> {
 /// impl Watch for LastLost {
 ///     ghost sees = { λ before told after. Unit {0} }; // nothing is said of what it does
 ///
-///     fn foresee<S: Store + Drop>(&mut self, _turn: Seen<'_>, _core: &Core<S>) {}
+///     fn foresee<S: Store + Drop>(&mut self, _turn: WatchedTurn<'_>, _core: &Core<S>) {}
 ///
-///     fn see<S: Store + Drop>(&mut self, turn: Seen<'_>, _core: &Core<S>) {
+///     fn see<S: Store + Drop>(&mut self, turn: WatchedTurn<'_>, _core: &Core<S>) {
 ///         if turn.report.is_none() {
 ///             self.0 = turn.now;
 ///         }
@@ -117,15 +117,15 @@ pub trait Watch {
     ghost sees: { Self → Told → Self → Type 0 };
 
     /// Is told of a turn that begins, with the core as it is before its step. So what the turn is
-    /// about can be noted that the core doesn't hold any more after it. What can be seen of the turn
-    /// afterwards stays what it was.
-    fn foresee<S: Store + Drop>(&mut self, turn: Seen<'_>, core: &Core<S>)
+    /// about can be noted that the core doesn't hold any more after it. What can be seen of the
+    /// turn afterwards stays what it was.
+    fn foresee<S: Store + Drop>(&mut self, turn: WatchedTurn<'_>, core: &Core<S>)
         ensures foreseen { (t : Told) (after : Self)
             → sees self.new t after
             → sees self.old t after };
 
     /// Is told of a turn, with the core as it is after it.
-    fn see<S: Store + Drop>(&mut self, turn: Seen<'_>, core: &Core<S>)
+    fn see<S: Store + Drop>(&mut self, turn: WatchedTurn<'_>, core: &Core<S>)
         ensures { sees self.old (told turn.entry core.now) self.new };
 }
 
@@ -138,7 +138,7 @@ impl Watch for Unwatched {
 
     ghost sees = { λ before told after. after ≡ before };
 
-    fn foresee<S: Store + Drop>(&mut self, _turn: Seen<'_>, _core: &Core<S>) {}
+    fn foresee<S: Store + Drop>(&mut self, _turn: WatchedTurn<'_>, _core: &Core<S>) {}
 
-    fn see<S: Store + Drop>(&mut self, _turn: Seen<'_>, _core: &Core<S>) {}
+    fn see<S: Store + Drop>(&mut self, _turn: WatchedTurn<'_>, _core: &Core<S>) {}
 }

@@ -46,15 +46,15 @@ impl<S: Store + Drop> Core<S> {
     }
 
     /// The exchange that the next tick is about, if one is due then: its request is to be sent, or
-    /// sent again, or given up, or its answer is to be sent to a client. None if nothing is due, or
-    /// if a client is due that was sent its answer.
+    /// sent again, or given up, or its answer is to be sent to a waiter. None if nothing is due, or
+    /// if a waiter is due that was sent its answer.
     pub fn due_exchange(&self) -> Option<&Exchange>
         ensures exact { option_copied result ≡ spec.due_exchange self.now }
     {
         self.state.under_way.exchange(self.due_number()?)
     }
 
-    /// How many clients wait for that exchange.
+    /// How many waiters wait for that exchange.
     pub fn due_waiting(&self) -> usize
         ensures exact { result ≡ spec.due_waiting self.now }
     {
@@ -64,7 +64,7 @@ impl<S: Store + Drop> Core<S> {
         }
     }
 
-    /// The client that the next tick is about, if one is due then: it is to be sent its answer, or
+    /// The waiter that the next tick is about, if one is due then: it is to be sent its answer, or
     /// sent it again, or given up.
     pub fn due_waiter(&self) -> Option<&Waiter>
         ensures exact { option_copied result ≡ spec.due_waiter self.now }
@@ -83,7 +83,7 @@ impl<S: Store + Drop> Core<S> {
         self.state.under_way.exchange(number)
     }
 
-    /// The exchange that was opened last, if it is still in progress.
+    /// The exchange that was opened last, if it isn't closed yet.
     pub fn newest_exchange(&self) -> Option<&Exchange>
         ensures exact { option_copied result ≡ item_at self.now.opened self.now.exchanges }
     {
@@ -99,8 +99,8 @@ impl<S: Store + Drop> Core<S> {
         self.state.under_way.exchanges().joinable(key).is_some()
     }
 
-    /// The key that the last request asked for of those that had one. It is what that step left
-    /// behind, of which no clause speaks.
+    /// The cache key of the last new request that wasn't refused for its method, its options or its
+    /// target. The step of that request left it behind, and no clause speaks of it.
     pub fn last_key(&self) -> &SharedKey {
         &self.query.key
     }
@@ -152,7 +152,7 @@ impl<S: Store + Drop> Core<S> {
     }
 
     /// The number of Message IDs that are free at the moment of the last step: neither given nor
-    /// reserved for requests that are still to be sent, or for clients that are still to be served.
+    /// reserved for requests that are still to be sent, or for waiters that are still to be served.
     pub fn free_ids(&self) -> u64
         ensures exact { result ≡ spec.free_ids self.now }
     {

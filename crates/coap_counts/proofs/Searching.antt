@@ -35,9 +35,9 @@ module _ (maps : List Map) (path : List (List ℕ)) (i : ℕ) (m : Map) (within 
   more = drop_more maps i m within ∙ ap (λ (x : Map). x ∷ drop (i + 1) maps) (sym item)
 
   -- if it begins the path, the better of it and of the best so far is the best
-  pub search_takes : (best : Option Map) → begins m.prefix path ≡ true → best_of best (map_of (drop i maps) path) ≡ best_of (better best m) (map_of (drop (i + 1) maps) path)
-  search_takes best holds = rw (more, holds) (better-is best m (map_of (drop (i + 1) maps) path))
+  pub takes : (best : Option Map) → begins m.prefix path ≡ true → best_of best (map_of (drop i maps) path) ≡ best_of (better best m) (map_of (drop (i + 1) maps) path)
+  takes best holds = rw (more, holds) (better-is best m (map_of (drop (i + 1) maps) path))
 
   -- if it doesn't, it is passed over
-  pub search_passes : (best : Option Map) → begins m.prefix path ≡ false → best_of best (map_of (drop i maps) path) ≡ best_of best (map_of (drop (i + 1) maps) path)
-  search_passes best fails = rw (more, fails) refl
+  pub passes : (best : Option Map) → begins m.prefix path ≡ false → best_of best (map_of (drop i maps) path) ≡ best_of best (map_of (drop (i + 1) maps) path)
+  passes best fails = rw (more, fails) refl

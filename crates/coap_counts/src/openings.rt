@@ -43,10 +43,11 @@ impl OpeningCounts {
         }
     }
 
-    /// Counts an exchange that was opened, for a GET or another method, while this is stored for its
-    /// key.
+    /// Counts an exchange that was opened, for a GET or another method, while this is stored for
+    /// its key.
     pub fn count(&mut self, is_get: bool, stored: Option<&Stored>)
-        ensures { self.new ≡ spec.with_opening is_get (option_map (λ s. s.now) stored.entry) self.old }
+        ensures { self.new
+            ≡ spec.with_opening is_get (option_map (λ s. s.now) stored.entry) self.old }
     {
         if is_get {
             self.count_get(stored);

@@ -67,7 +67,7 @@ fn longer<'m>(best: Option<&'m Map>, map: &'m Map) -> Option<&'m Map>
 
 /// The map for the path of a request: among those whose prefix begins it, the one with the longest
 /// prefix, and the earliest of several.
-#[tactic(auto, using(crate::proofs::Searching::search_takes, crate::proofs::Searching::search_passes))]
+#[tactic(auto, using(crate::proofs::Searching::takes, crate::proofs::Searching::passes))]
 pub(crate) fn map_for<'m>(maps: &'m [Map], request: &MessageRef<'_>) -> Option<&'m Map>
     ensures { option_copied result ≡ routes.map_of maps.entry.now (routes.path_of request.now) }
 {

@@ -6,7 +6,7 @@ use Rattle.coap_endpoint.proofs.Equality.{Tells-endpoint}
 use Rattle.coap_pending.specs.declared.exchange.Exchange.{Exchange}
 use Rattle.coap_pending.specs.declared.exchange.Change.{Change}
 use Rattle.coap_pending.specs.declared.exchange.Change.TheVariants as change
-use Rattle.coap_pending.specs.Exchanges.{changed_by, is_queued, is_sent, is_sent_to, tainted_by, is_changed_with, is_queued_to, is_with, sends}
+use Rattle.coap_pending.specs.Exchanges.{changed_by, is_queued, is_sent, is_sent_to, tainted_by, is_changed_with, is_queued_to, is_with, is_sent_after}
 use Rattle.coap_pending.specs.Table.{Numbered, Table, IsTable, item_at, without, all_changed, count, passes}
 use Rattle.coap_exchange.specs.Updates.{updated, Allows}
 use Rattle.coap_exchange.specs.Counted.{AreCounted}
@@ -132,7 +132,7 @@ pub at-sent-of : (x : Exchange) → (e : Endpoint) → one_if_at (is_sent x) x.k
 at-sent-of = at-sent
 
 -- what a change makes of whether it is sent
-pub sends-is : (ch : Change) (x : Exchange) → is_sent (changed_by ch x) ≡ sends ch (is_sent x)
+pub sends-is : (ch : Change) (x : Exchange) → is_sent (changed_by ch x) ≡ is_sent_after ch (is_sent x)
 sends-is (change.Send s) x = refl
 sends-is (change.Fire now) x = refl
 sends-is change.Acknowledge x = refl
@@ -146,9 +146,9 @@ same-with change.Acknowledge e x = refl
 same-with (change.Answer a) e x = refl
 
 -- what is counted after a change
-pub sent-after : (ch : Change) (e : Endpoint) (x : Exchange) → one_if_at (sends ch (is_sent x)) x.key.target.at e ≡ one_if (is_sent_to e (changed_by ch x))
+pub sent-after : (ch : Change) (e : Endpoint) (x : Exchange) → one_if_at (is_sent_after ch (is_sent x)) x.key.target.at e ≡ one_if (is_sent_to e (changed_by ch x))
 sent-after ch e x =
-    ap (λ (b : Bool). one_if (sends ch (is_sent x) && b)) (one-same x.key.target.at e)
+    ap (λ (b : Bool). one_if (is_sent_after ch (is_sent x) && b)) (one-same x.key.target.at e)
     ∙ ap (λ (b : Bool). one_if (b && same_endpoint x.key.target.at e)) (sym (sends-is ch x))
     ∙ ap (λ (b : Bool). one_if (is_sent (changed_by ch x) && b)) (sym (same-with ch e x))
 
@@ -192,7 +192,7 @@ counted-tainted target xs endpoints are = record {
 
 -- what is counted of the exchange that changes
 pub recounted : (n : ℕ) (ch : Change) (t : Table Exchange) (endpoints : Endpoints) (x : Exchange) (new : Endpoint → ℕ) → IsTable t → AreCounted t.items endpoints → item_at n t.items ≡ Some x
-    → ((e : Endpoint) → new e ≡ (sent_in endpoints e - one_if_at (is_sent x) x.key.target.at e) + one_if_at (sends ch (is_sent x)) x.key.target.at e)
+    → ((e : Endpoint) → new e ≡ (sent_in endpoints e - one_if_at (is_sent x) x.key.target.at e) + one_if_at (is_sent_after ch (is_sent x)) x.key.target.at e)
     → (e : Endpoint) → new e + one_if (passes (is_sent_to e) (item_at n t.items)) ≡ sent_in endpoints e + one_if (passes (λ y. is_sent_to e (changed_by ch y)) (item_at n t.items))
 recounted n ch t endpoints x new is are there moves e =
     let some = counted-some is_sent_to n t (sent_in endpoints) is are.sent e in

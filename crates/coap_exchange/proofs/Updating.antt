@@ -4,7 +4,7 @@ use Rattle.coap_endpoint.specs.declared.endpoint.Endpoint.{Endpoint}
 use Rattle.coap_pending.specs.declared.exchange.Exchange.{Exchange}
 use Rattle.coap_pending.specs.declared.exchange.Change.{Change}
 use Rattle.endpoint_counts.specs.Clients.{AreOfClients, AreWithin, Clients, count_of, one_of}
-use Rattle.coap_pending.specs.Exchanges.{is_queued_to, is_with, changed_by, is_queued, is_sent_to, AreExchanges, CanChange, CanUpdate, is_sent, sends}
+use Rattle.coap_pending.specs.Exchanges.{is_queued_to, is_with, changed_by, is_queued, is_sent_to, AreExchanges, CanChange, CanUpdate, is_sent, is_sent_after}
 use Rattle.endpoint_counts.specs.Endpoints.{open_in, queued_in, sent_in, Endpoints}
 use Rattle.coap_exchange.specs.Counted.{AreCounted, IsRecounted}
 use Rattle.coap_exchange.specs.SendQueue.{is_moved, mover}
@@ -93,7 +93,7 @@ mover-stays None (Some x) off = λ e other. (
   elsewhere x.key.target.at e (is_moved None x) (is_queued x) false (unmoved-queued (is_queued x) _) other,
 )
 mover-stays (Some c) (Some x) off = λ e other. (
-  ap (λ (b : Bool). b && same_endpoint (changed_by c x).key.target.at e) (sends-is c x) ∙ ap (λ (d : Endpoint). sends c (is_sent x) && same_endpoint d e) (endpoint-after c x) ∙ elsewhere x.key.target.at e (is_moved (Some c) x) (is_sent x) (sends c (is_sent x)) (unmoved-sent (is_queued x) (is_sent x) (sends c (is_sent x))) other,
+  ap (λ (b : Bool). b && same_endpoint (changed_by c x).key.target.at e) (sends-is c x) ∙ ap (λ (d : Endpoint). is_sent_after c (is_sent x) && same_endpoint d e) (endpoint-after c x) ∙ elsewhere x.key.target.at e (is_moved (Some c) x) (is_sent x) (is_sent_after c (is_sent x)) (unmoved-sent (is_queued x) (is_sent x) (is_sent_after c (is_sent x))) other,
   ap (λ (b : Bool). b && same_endpoint (changed_by c x).key.target.at e) off ∙ elsewhere x.key.target.at e (is_moved (Some c) x) (is_queued x) false (unmoved-queued (is_queued x) _) other,
 )
 

@@ -42,7 +42,8 @@ queue_of x = if is_queued x then Some (digest_of_endpoint x.key.target.at) else 
 -- the digest of the cache key of a GET, until it is tainted or its answer has come
 abbrev pub cache_key_of : ℕ → Exchange → Option ℕ
 cache_key_of secret x =
-    if x.is_get && (not x.tainted && is_missing (answer_at x)) then Some (digest_of_key secret x.key)
+    if x.is_get && (not x.tainted && is_missing (answer_at x))
+    then Some (digest_of_key secret x.key)
     else None
 
 -- the digest of its target, from when it is sent until it is tainted or its answer has come

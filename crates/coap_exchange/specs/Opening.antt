@@ -9,7 +9,7 @@ abbrev pub opened : Opening → Exchange
 opened opening =
     record {
       client = opening.client;
-      key = opening.key;
+      key = opening.key.now;
       is_get = opening.is_get;
       form = opening.form;
       copy = opening.copy;

@@ -6,7 +6,7 @@ use Rattle.coap_endpoint.specs.declared.endpoint.Endpoint.{Endpoint}
 use Rattle.coap_pending.specs.declared.exchange.Change.{Change}
 use Rattle.coap_pending.specs.declared.exchange.Exchange.{Exchange}
 use Rattle.coap_exchange.specs.declared.send_queue.SendQueue.{SendQueue}
-use Rattle.coap_pending.specs.Exchanges.{is_queued, is_queued_to, is_sent, is_sent_to, sends}
+use Rattle.coap_pending.specs.Exchanges.{is_queued, is_queued_to, is_sent, is_sent_to, is_sent_after}
 use Rattle.ordered_index.specs.Ordered.{Pair, OrderedIndex, is_in}
 use Rattle.coap_pending.specs.Table.{Numbered, count, first_that, item_at}
 
@@ -26,15 +26,17 @@ head_with None sent number = Some (sent, number)
 head_with (Some head) sent number = Some head
 
 -- whether an exchange is in the sent state after a change, or, without a change, once it is removed
-abbrev pub sends_after : Option Change → Bool → Bool
-sends_after None was = false
-sends_after (Some c) was = sends c was
+abbrev pub is_sent_then : Option Change → Bool → Bool
+is_sent_then None was = false
+is_sent_then (Some c) was = is_sent_after c was
 
 -- it waits for its turn, or a change turns whether it is in the sent state
 abbrev pub is_moved : Option Change → Exchange → Bool
 is_moved change x =
     is_queued x
-    || (if is_sent x then not (sends_after change (is_sent x)) else sends_after change (is_sent x))
+    || (if is_sent x
+    then not (is_sent_then change (is_sent x))
+    else is_sent_then change (is_sent x))
 
 -- the endpoint of which the head may be another after a change
 abbrev pub mover : Option Change → Option Exchange → Option Endpoint

@@ -14,7 +14,7 @@ use crate::exchanges::Exchanges;
 use crate::index::{ExchangeKeys, Index, keys_at, keys_in, keys_of};
 use crate::indexed_exchange::{IndexedExchange, client_of};
 use crate::send_queue::{head_of, mover_of};
-use crate::table::{Items, Table};
+use crate::table::{Items, Table, place_in};
 use coap_endpoint::Target;
 use coap_pending::{Change, ExchangeNumber};
 use coap_store::digest_of_target;
@@ -79,7 +79,7 @@ impl Table<IndexedExchange> {
         ensures keys { result
             ≡ keys_at secret (option_map (changed_by change) (item_at number self.old.items)) }
     {
-        change_under(&mut self.items, number, change, secret)
+        change_under(&mut self.items, self.place, number, change, secret)
     }
 
     fn taint(&mut self, number: ExchangeNumber, target: &Target)
@@ -88,12 +88,13 @@ impl Table<IndexedExchange> {
               items = changed_at number (tainted_by target.now) self.old.items;
             } }
     {
-        taint_under(&mut self.items, number, target);
+        taint_under(&mut self.items, self.place, number, target);
     }
 }
 
 fn change_under(
     exchanges: &mut Items<IndexedExchange>,
+    place: usize,
     number: ExchangeNumber,
     change: Change,
     secret: u64,
@@ -107,24 +108,36 @@ fn change_under(
     ensures keys { result
         ≡ keys_at secret (option_map (changed_by change) (get nat_eq exchanges.old number)) }
 {
-    match exchanges.get_mut(&number) {
+    let Some(place) = place_in(exchanges, place, number) else {
+        return keys_in(None, secret);
+    };
+    match exchanges.get_index_mut(place) {
         Some(exchange) => {
             exchange.change(change);
             keys_of(exchange, secret)
         }
-        None => keys_in(None, secret),
+        None => unreachable!(),
     }
 }
 
-fn taint_under(exchanges: &mut Items<IndexedExchange>, number: ExchangeNumber, target: &Target)
+fn taint_under(
+    exchanges: &mut Items<IndexedExchange>,
+    place: usize,
+    number: ExchangeNumber,
+    target: &Target,
+)
     ensures found { IfSome (get nat_eq exchanges.old number) (λ x.
         exchanges.new.entries
         ≡ set_value (nat_eq number) exchanges.old.entries (tainted_by target.now x)) }
     ensures missing { IfNone (get nat_eq exchanges.old number)
         (exchanges.new.entries ≡ exchanges.old.entries) }
 {
-    if let Some(exchange) = exchanges.get_mut(&number) {
-        exchange.taint(target);
+    let Some(place) = place_in(exchanges, place, number) else {
+        return;
+    };
+    match exchanges.get_index_mut(place) {
+        Some(exchange) => exchange.taint(target),
+        None => unreachable!(),
     }
 }
 
@@ -188,8 +201,8 @@ fn queued_without(
 }
 
 /// Counts the exchange numbered `number` for its endpoint as it is after a change, in which it no
-/// longer waits for its turn, or no longer counts it if it is removed. Returns how many were and are
-/// sent to that endpoint.
+/// longer waits for its turn, or no longer counts it if it is removed. Returns how many were and
+/// are sent to that endpoint.
 fn recount(
     endpoints: &mut EndpointMap,
     exchanges: &Table<IndexedExchange>,
@@ -224,7 +237,7 @@ fn recount(
     match change {
         Some(change) => {
             let is = Stage {
-                sent: change.sends(was.sent),
+                sent: change.is_sent_after(was.sent),
                 queued: false,
             };
             move_one(endpoints, listed.peer(), was, is)

@@ -13,7 +13,6 @@ ghost use Rattle.coap_exchange.specs.Counted.{AreCounted};
 ghost use Rattle.coap_pending.specs.Table.{empty_table, item_at, admitted_to, without, withdrawn, changed_at, all_changed, count, first_that, IsTable};
 ghost use Rattle.coap_exchange.specs.SendQueue.{IsSendQueue};
 
-use crate::digests::HashedKey;
 use crate::exchange_changes::taint_all;
 use crate::index::{Index, Sought, first_sought, keys_in, keys_of};
 use crate::indexed_exchange::IndexedExchange;
@@ -25,7 +24,7 @@ use coap_endpoint::{Endpoint, Target};
 use coap_message::{Moment, OutOfMemory};
 use coap_pending::due::{later, sooner};
 use coap_pending::{Change, Exchange, ExchangeNumber, Fire, Sending};
-use coap_store::{Answer, CacheKey};
+use coap_store::{Answer, CacheKey, SharedKey, digests_of};
 use endpoint_counts::by_client::{count_of, depart, enter};
 use endpoint_counts::{EndpointMap, Peer, Stage, close_one, open_one};
 use std::alloc::Global;
@@ -97,7 +96,8 @@ impl Exchanges {
     }
 
     /// An empty table like that of `new`. Where its maps and indexes put a number, an endpoint or a
-    /// key depends on `seed`, so that whoever doesn't know it can't choose which of them meet there.
+    /// key depends on `seed`, so that whoever doesn't know it can't choose which of them meet
+    /// there.
     ///
     /// # Errors
     /// Out of memory.
@@ -137,7 +137,15 @@ impl Exchanges {
         ensures exact { result ≡ count (is_opened_by client) self.now.items }
         ensures within { AreWithin is_opened_by self.now }
     {
-        count_of(&self.clients, Peer::new(client))
+        self.count_of_peer(Peer::new(client))
+    }
+
+    /// `count_of`, for a client whose digest is made already.
+    pub fn count_of_peer(&self, client: Peer) -> usize
+        ensures exact { result ≡ count (is_opened_by client) self.now.items }
+        ensures within { AreWithin is_opened_by self.now }
+    {
+        count_of(&self.clients, client)
     }
 
     /// The clients that opened exchanges, with how many each has opened.
@@ -193,18 +201,13 @@ impl Exchanges {
     pub fn joinable(&self, key: &CacheKey) -> Option<ExchangeNumber>
         ensures exact { result ≡ first_that (is_joinable key.now) self.now.items }
     {
-        self.joinable_as(&self.hashed(key))
+        let sought = Sought::Joinable(key);
+        let digest = digests_of(self.index.secret, key).key;
+        first_sought(&self.table, &self.index.cache_keys, digest, &sought)
     }
 
-    /// A key, hashed with the secret of this table, which is its seed.
-    pub fn hashed<'k>(&self, key: &'k CacheKey) -> HashedKey<'k>
-        ensures exact { result ≡ key.now }
-    {
-        HashedKey::new(key, self.index.secret)
-    }
-
-    /// `joinable`, for a key that is hashed already.
-    pub fn joinable_as(&self, key: &HashedKey<'_>) -> Option<ExchangeNumber>
+    /// `joinable`, for a key that has its digests, so that it isn't hashed.
+    pub fn joinable_as(&self, key: &SharedKey) -> Option<ExchangeNumber>
         ensures exact { result ≡ first_that (is_joinable key.now) self.now.items }
     {
         let sought = Sought::Joinable(key.key());
@@ -226,7 +229,8 @@ impl Exchanges {
     /// due at the same moment, the one with the least number. An exchange is due
     ///
     /// - while its request waits for its turn, at its admission, or at its deadline if `nstart` or
-    ///   more requests to its endpoint are sent, and neither acknowledged nor answered (RFC 7252, 4.7);
+    ///   more requests to its endpoint are sent, and neither acknowledged nor answered (RFC 7252,
+    ///   4.7);
     /// - once it is sent, at the end of the current timeout, or at its deadline if that is earlier;
     /// - once it is acknowledged, at its deadline.
     ///
@@ -276,26 +280,23 @@ impl Exchanges {
         if self.table.is_full() {
             return Err(AdmitError::Full);
         }
-        let opener = Peer::new(opening.client);
-        if count_of(&self.clients, opener) == self.table.per_client() {
+        if count_of(&self.clients, opening.client) == self.table.per_client() {
             return Err(AdmitError::ClientFull);
         }
-        Ok(self.admit_in_room(opening, opener)?)
+        Ok(self.admit_in_room(opening)?)
     }
 
     /// `admit` without its two tests: there is room for another exchange, and for one more of the
-    /// client, which is `opener`.
+    /// client.
     ///
     /// # Errors
     /// Out of memory. The table is unchanged then.
     pub(crate) fn admit_in_room(
         &mut self,
         opening: Opening<'_>,
-        opener: Peer,
     ) -> Result<ExchangeNumber, OutOfMemory>
         requires numbers { self.old.admitted < 2 ^ 64 - 1 }
         requires now { opening.now ≤ 2 ^ 62 }
-        requires opener { opener ≡ opening.client }
         requires room { length self.old.items < self.old.limit }
         requires client_room { count (is_opened_by opening.client) self.old.items
             < self.old.per_client }
@@ -305,12 +306,12 @@ impl Exchanges {
         ensures sound { IsTable self.old }
     {
         self.table.laws();
-        let listed = IndexedExchange::opened(self.alloc, opening, opener)?;
+        let listed = IndexedExchange::opened(self.alloc, opening)?;
         self.list(listed)
     }
 
-    /// Lists an exchange that was just opened after the others, and returns its number. There is
-    /// room for it, and for one more of its client.
+    /// Adds an exchange that was just opened, after the others, to the table and to all that is
+    /// kept of it, and returns its number. There is room for it, and for one more of its client.
     ///
     /// # Errors
     /// Out of memory. The table is unchanged then.

@@ -71,6 +71,7 @@ pub(crate) enum Sought<'a> {
 }
 
 impl Sought<'_> {
+    /// Whether an exchange is one that is looked for.
     fn is_met(&self, exchange: &Exchange) -> bool
         ensures exact { result ≡ is_met self.now exchange.now }
     {
@@ -83,7 +84,7 @@ impl Sought<'_> {
 }
 
 /// Two empty indexes with room for `limit` pairs. Which keys meet in them depends on `seed`.
-// What is made before has to be dropped wherever memory runs out: with pairs those are fewer places.
+// Made in pairs, since the prover reads each exit with all that is dropped there.
 fn two_indexes(
     alloc: Global,
     limit: usize,
@@ -98,8 +99,8 @@ fn two_indexes(
 }
 
 impl Index {
-    /// An empty index with room for `limit` exchanges. Which keys meet in it depends on `seed`, which
-    /// digests are made with, too.
+    /// An empty index with room for `limit` exchanges. Which keys meet in it depends on `seed`,
+    /// which digests are made with, too.
     ///
     /// # Errors
     /// Out of memory.

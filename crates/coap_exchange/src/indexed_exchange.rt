@@ -1,4 +1,4 @@
-//! Exchanges with the digests that they are looked up by.
+//! Exchanges as a table holds them.
 ghost use Rattle.std.specs.Prelude.{◌≡◌, IfOk};
 ghost use Rattle.std.specs.Option.{option_copied, option_map};
 ghost use Rattle.coap_store.specs.Digests.{digest_of_key, digest_of_target};
@@ -6,7 +6,6 @@ ghost use Rattle.coap_pending.specs.Exchanges.{changed_by, is_queued, is_sent, t
 ghost use Rattle.coap_exchange.specs.Opening.{opened};
 ghost use Rattle.coap_pending.specs.Table.{item_at, IsTable};
 
-use crate::digests::Hashed;
 use crate::opening::Opening;
 use crate::table::Table;
 use coap_endpoint::Target;
@@ -16,51 +15,45 @@ use endpoint_counts::{Peer, Stage};
 use std::alloc::Global;
 use std::marker::Model;
 
-/// An exchange, and the digests that it is looked up by, which it is opened with. A contract sees
-/// the exchange.
+/// An exchange, with the digests of its two endpoints. A contract sees the exchange.
 #[derive(Drop)]
 pub(crate) struct IndexedExchange {
     exchange: Exchange,
+    /// The client that opened it.
     client: Peer,
+    /// The endpoint that its request is sent to.
     peer: Peer,
-    hashed: Hashed,
 }
 
 impl Model for IndexedExchange {
     ghost use Rattle.std.specs.Prelude.{◌≡◌};
     ghost use Rattle.coap_pending.specs.declared.exchange.Exchange.{Exchange};
-    ghost use Rattle.coap_exchange.specs.Hashed.{hashed_with};
 
     ghost Value = { Exchange };
 
     ghost view = { λ l. l.exchange };
 
     ghost invariant = { λ l.
-        (l.client ≡ l.exchange.client)
-        × (l.peer ≡ l.exchange.key.target.at)
-        × (l.hashed ≡ hashed_with l.hashed.secret l.exchange.key) };
+        (l.client ≡ l.exchange.client) × (l.peer ≡ l.exchange.key.target.at) };
 }
 
 impl IndexedExchange {
-    /// The exchange that this client opens.
+    /// The exchange that is opened so.
     ///
     /// # Errors
     /// Out of memory.
     pub(crate) fn opened(
         alloc: Global,
         opening: Opening<'_>,
-        client: Peer,
     ) -> Result<IndexedExchange, OutOfMemory>
-        requires { client ≡ opening.client }
         ensures exact { IfOk result (λ exchange. exchange ≡ opened opening.entry) }
     {
-        let hashed = opening.key.hashed();
+        let client = opening.client;
         let peer = Peer::new(opening.key.key().target.at);
         Ok(IndexedExchange {
             exchange: opening.opened(alloc)?,
             client,
             peer,
-            hashed,
         })
     }
 
@@ -100,14 +93,14 @@ impl IndexedExchange {
     pub(crate) fn key_digest(&self, secret: u64) -> u64
         ensures exact { result ≡ digest_of_key secret self.now.key }
     {
-        self.hashed.digests(self.exchange.key.key(), secret).key
+        self.exchange.key.digests(secret).key
     }
 
     /// The digest of its target with a secret.
     pub(crate) fn target_digest(&self, secret: u64) -> u64
         ensures exact { result ≡ digest_of_target secret self.now.key.target }
     {
-        self.hashed.digests(self.exchange.key.key(), secret).target
+        self.exchange.key.digests(secret).target
     }
 
     /// Applies a change to the exchange.

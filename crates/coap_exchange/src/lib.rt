@@ -1,13 +1,13 @@
-//! What is in progress: exchanges with origins, and the clients that wait for them (RFC 7252, 4 and
-//! 5.2).
+//! What is in progress: the tables of exchanges with origins, and of the waiters that wait for them
+//! (RFC 7252, 4 and 5.2).
 //!
 //! # First use
 //!
 //! ```rust
 //! let mut exchanges = Exchanges::new(alloc, 256, 16)?;
 //! let opening = Opening {
-//!     client,
-//!     key: exchanges.hashed(&key),
+//!     client: Peer::new(client),
+//!     key: &key,
 //!     is_get: true,
 //!     form,
 //!     copy: None,
@@ -27,7 +27,6 @@
 //! ```
 #![tactic(auto)]
 
-mod digests;
 mod exchange_changes;
 mod exchanges;
 mod index;
@@ -46,7 +45,6 @@ pub use coap_pending::{
     WaiterNumber, WaiterState,
 };
 pub use coap_store::Answer;
-pub use digests::HashedKey;
 pub use endpoint_counts::EndpointMap;
 pub use exchanges::Exchanges;
 pub use opening::Opening;

@@ -2,19 +2,18 @@
 ghost use Rattle.std.specs.Prelude.{◌≡◌, IfOk};
 ghost use Rattle.coap_exchange.specs.Opening.{opened};
 
-use crate::digests::HashedKey;
-use coap_endpoint::Endpoint;
 use coap_message::{Moment, OutOfMemory, Seq};
 use coap_pending::{Exchange, ExchangeState};
 use coap_store::{SharedKey, Stored};
+use endpoint_counts::Peer;
 use std::alloc::Global;
 
 /// A request that is to be sent, as an exchange is opened with it.
 pub struct Opening<'k> {
     /// The client that sent it.
-    pub client: Endpoint,
+    pub client: Peer,
     /// What its response is cached under. It is copied.
-    pub key: HashedKey<'k>,
+    pub key: &'k SharedKey,
     /// Whether the method is GET.
     pub is_get: bool,
     /// The encoded request that is forwarded, with Message ID 0.
@@ -46,8 +45,7 @@ impl Opening<'_> {
     pub(crate) fn opened(self, alloc: Global) -> Result<Exchange, OutOfMemory>
         ensures exact { IfOk result (λ exchange. exchange ≡ opened self.entry) }
     {
-        let copied = self.key.key().copied()?;
-        let shared = SharedKey::new(alloc, copied)?;
+        let copy_of_key = self.key.copied(alloc)?;
         let Opening {
             client,
             key: _,
@@ -57,8 +55,8 @@ impl Opening<'_> {
             now,
         } = self;
         Ok(Exchange {
-            client,
-            key: shared,
+            client: client.endpoint(),
+            key: copy_of_key,
             is_get,
             form,
             copy,

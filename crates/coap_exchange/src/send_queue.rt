@@ -87,7 +87,7 @@ pub(crate) fn mover_of(found: Option<&IndexedExchange>, change: &Option<Change>)
     let listed = found?;
     let was = listed.stage();
     let sent = match change {
-        Some(change) => change.sends(was.sent),
+        Some(change) => change.is_sent_after(was.sent),
         None => false,
     };
     if was.queued || was.sent != sent {

@@ -1,4 +1,4 @@
-//! Whose turn it is, in order of admission or not.
+//! Which queued exchange is to be sent next.
 ghost use Rattle.std.specs.Prelude.{◌≡◌, true};
 ghost use Rattle.coap_pending.specs.Due.{due_row, first_due};
 ghost use Rattle.coap_pending.specs.Exchanges.{is_queued};
@@ -54,8 +54,9 @@ fn first_in_order(
     Some((exchange.admitted, number))
 }
 
-/// Which is to be sent first, in whatever order they were admitted. `queued` of them are waiting. A proxy, to which
-/// time never goes back, never comes here: only who admits exchanges at moments that go back does.
+/// Which is to be sent first, in whatever order they were admitted. `queued` of them are waiting. A
+/// proxy, to which time never goes back, never comes here: only who admits exchanges at moments
+/// that go back does.
 fn first_of_all(
     exchanges: &Table<IndexedExchange>,
     endpoints: &EndpointMap,
@@ -75,6 +76,7 @@ fn first_of_all(
 }
 
 impl Table<IndexedExchange> {
+    /// Which is to be sent first. All are scanned.
     fn first_turn(&self, endpoints: &EndpointMap, nstart: usize) -> Option<(Moment, ExchangeNumber)>
         requires counted { AreCounted self.now.items endpoints.now }
         ensures exact { result ≡ first_due (turn_among nstart self.now.items) self.now.items }

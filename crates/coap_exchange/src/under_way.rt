@@ -1,5 +1,5 @@
 //! What is under way: exchanges, and their waiters.
-ghost use Rattle.std.specs.Prelude.{◌≡◌, ◌+◌, ◌-◌, ◌<◌, ◌≤◌, ◌^◌, ◌↔◌, ◌==◌, if◌then◌else◌, [], true, false, length, OnOk, OnErr, IfOk, IfErr, IfSome};
+ghost use Rattle.std.specs.Prelude.{◌≡◌, ◌+◌, ◌-◌, ◌<◌, ◌≤◌, ◌^◌, ◌==◌, if◌then◌else◌, [], true, false, length, OnOk, OnErr, IfOk, IfSome};
 ghost use Rattle.std.specs.Option.{option_copied};
 ghost use Rattle.coap_pending.specs.declared.exchange.Exchange.{Exchange};
 ghost use Rattle.coap_pending.specs.declared.waiter.Waiter.{Waiter};
@@ -29,12 +29,12 @@ use std::alloc::Global;
 use std::marker::Model;
 
 /// Exchanges, and their waiters. Its calls are those of the two tables; it also keeps which waiter
-/// is to be served first, so that none is scanned. A contract sees the two tables.
+/// is to be served first, so that waiters aren't scanned for it. A contract sees the two tables.
 pub struct UnderWay {
     exchanges: Exchanges,
     waiters: Waiters,
-    /// For each exchange whose answer has come, and that a waiter waits for: the moment when it came,
-    /// and the first of those waiters.
+    /// For each exchange whose answer has come, and that a waiter waits for: the moment when it
+    /// came, and the first of those waiters.
     ready: OrderedIndex,
 }
 
@@ -60,7 +60,7 @@ impl Model for UnderWay {
 }
 
 impl UnderWay {
-    /// Two empty tables. Room for all clients that may wait is allocated here.
+    /// Two empty tables. Room to keep who is to be served first is allocated here.
     ///
     /// # Errors
     /// Out of memory.
@@ -141,8 +141,7 @@ impl UnderWay {
         ensures err { OnErr result (self.new ≡ self.old) }
         ensures sound { IsTable self.old.exchanges }
     {
-        let opener = Peer::new(opening.client);
-        self.exchanges.admit_in_room(opening, opener)
+        self.exchanges.admit_in_room(opening)
     }
 
     /// Undoes an `open`: `Exchanges::withdraw`.
@@ -225,7 +224,8 @@ impl UnderWay {
         self.waiters.seek(number);
     }
 
-    /// Notes an answer: `Exchanges::answered`. The first waiter of its exchange is then to be served.
+    /// Notes an answer: `Exchanges::answered`. The first waiter of its exchange is then to be
+    /// served.
     pub fn answered(&mut self, number: ExchangeNumber, answer: Answer)
         requires open { IfSome (item_at number self.old.exchanges.items)
             (λ x. is_done x ≡ false) }
@@ -241,7 +241,7 @@ impl UnderWay {
         self.note_answer(number, answer);
     }
 
-    /// Notes an answer. The first waiter of its exchange is then to be served.
+    /// `answered`, once the exchange was looked for.
     fn note_answer(&mut self, number: ExchangeNumber, answer: Answer)
         requires open { IfSome (item_at number self.old.exchanges.items)
             (λ x. is_done x ≡ false) }
@@ -272,7 +272,7 @@ impl UnderWay {
         self.exchanges.taint(target);
     }
 
-    /// Removes an exchange for which no client waits any more: `Exchanges::close`. Nothing happens
+    /// Removes an exchange for which no waiter waits any more: `Exchanges::close`. Nothing happens
     /// while one does.
     pub fn close_if_unused(&mut self, number: ExchangeNumber)
         ensures closed { self.new
@@ -292,12 +292,13 @@ impl UnderWay {
         }
     }
 
-    /// Has a client wait for an exchange: `Waiters::admit`, where there is room for it, and for one
-    /// more of the client.
+    /// Adds a waiter for an exchange: `Waiters::admit`, where there is room for it, and for one
+    /// more of its client, whose digest is made already.
     ///
     /// # Errors
     /// Out of memory. Nothing is changed then.
-    pub fn join(&mut self, joining: Joining) -> Result<WaiterNumber, OutOfMemory>
+    pub fn join(&mut self, joining: Joining, client: Peer) -> Result<WaiterNumber, OutOfMemory>
+        requires client { client ≡ joining.client }
         requires numbers { self.old.waiters.admitted < 2 ^ 64 - 1 }
         requires room { length self.old.waiters.items < self.old.waiters.limit }
         requires client_room { count (is_of joining.client) self.old.waiters.items
@@ -310,7 +311,6 @@ impl UnderWay {
         ensures sound { IsTable self.old.waiters }
     {
         let exchange = Some(joining.exchange);
-        let client = Peer::new(joining.client);
         self.ready.laws();
         let got = got_in(&self.exchanges, exchange);
         let was = ready_since(got, &self.waiters, exchange);
@@ -384,7 +384,7 @@ impl UnderWay {
         self.waiters.fire(number, now)
     }
 
-    /// `Waiters::update`. Who of its exchange is to be served first is brought up to date.
+    /// `Waiters::update`. Which waiter of its exchange is to be served first follows.
     fn update_waiter(&mut self, number: WaiterNumber, change: Option<WaiterChange>)
         requires { waiters.CanUpdate change (item_at number self.old.waiters.items) }
         ensures { self.new
@@ -405,8 +405,8 @@ impl UnderWay {
     }
 }
 
-/// The moment when the answer of an exchange came, and the first client that waits for it, if there
-/// is an exchange, an answer and a client.
+/// The moment when the answer of an exchange came, and the first waiter that waits for it, if there
+/// is an exchange, an answer and a waiter.
 fn ready_in(
     exchanges: &Exchanges,
     waiters: &Waiters,

@@ -8,7 +8,7 @@ ghost use Rattle.coap_pending.specs.Table.{item_at, changed_at, count, passes, I
 ghost use Rattle.coap_pending.specs.Waiters.{changed_by, is_waiting, CanChange, CanUpdate};
 ghost use Rattle.coap_exchange.specs.Updates.{leaver, updated, updated_at, Allows};
 
-use crate::table::{Items, Table};
+use crate::table::{Items, Table, place_in};
 use crate::waiter_index::{WaiterKeys, waiter_keys_in, waiter_keys_of};
 use crate::waiters::Waiters;
 use coap_pending::{Waiter, WaiterChange, WaiterNumber};
@@ -67,12 +67,13 @@ impl Table<Waiter> {
         ensures keys { result
             ≡ waiter_keys_at (option_map (changed_by change) (item_at number self.old.items)) }
     {
-        change_under(&mut self.items, number, change, alloc)
+        change_under(&mut self.items, self.place, number, change, alloc)
     }
 }
 
 fn change_under(
     waiters: &mut Items<Waiter>,
+    place: usize,
     number: WaiterNumber,
     change: WaiterChange,
     alloc: Global,
@@ -86,12 +87,15 @@ fn change_under(
     ensures keys { result
         ≡ waiter_keys_at (option_map (changed_by change) (get nat_eq waiters.old number)) }
 {
-    match waiters.get_mut(&number) {
+    let Some(place) = place_in(waiters, place, number) else {
+        return waiter_keys_in(None);
+    };
+    match waiters.get_index_mut(place) {
         Some(waiter) => {
             waiter.change(change, alloc);
             waiter_keys_of(waiter)
         }
-        None => waiter_keys_in(None),
+        None => unreachable!(),
     }
 }
 

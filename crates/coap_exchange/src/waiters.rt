@@ -1,4 +1,4 @@
-//! Tables of waiters: who waits for which exchange, which are being sent a response, and which is
+//! Tables of waiters: which wait for which exchange, which were sent their answer, and which is
 //! due.
 ghost use Rattle.std.specs.Prelude.{◌≡◌, ◌+◌, ◌-◌, ◌<◌, ◌≤◌, ◌^◌, ◌==◌, ◌↔◌, length, true, false, OnOk, OnErr, IfOk, IfErr, IfSome};
 ghost use Rattle.std.specs.Option.{option_copied};
@@ -82,8 +82,8 @@ impl Waiters {
         Waiters::seeded(alloc, limit, per_client, 0)
     }
 
-    /// An empty table like that of `new`. Where its maps put a number or a client depends on `seed`,
-    /// so that whoever doesn't know it can't choose which of them meet there.
+    /// An empty table like that of `new`. Where its maps put a number or a client depends on
+    /// `seed`, so that whoever doesn't know it can't choose which of them meet there.
     ///
     /// # Errors
     /// Out of memory.
@@ -104,7 +104,7 @@ impl Waiters {
         })
     }
 
-    /// The number of waiters: those that wait, and those that are being sent a response.
+    /// The number of waiters: those that wait, and those whose answer isn't acknowledged.
     pub fn len(&self) -> usize
         ensures exact { result ≡ length self.now.items }
     {
@@ -117,7 +117,15 @@ impl Waiters {
         ensures exact { result ≡ count (is_of client) self.now.items }
         ensures within { AreWithin is_of self.now }
     {
-        count_of(&self.clients, Peer::new(client))
+        self.count_of_peer(Peer::new(client))
+    }
+
+    /// `count_of`, for a client whose digest is made already.
+    pub fn count_of_peer(&self, client: Peer) -> usize
+        ensures exact { result ≡ count (is_of client) self.now.items }
+        ensures within { AreWithin is_of self.now }
+    {
+        count_of(&self.clients, client)
     }
 
     /// The clients that waiters are of, with how many each has.
@@ -148,7 +156,7 @@ impl Waiters {
         self.index.awaited.count_of(exchange)
     }
 
-    /// The waiter numbered `number`.
+    /// The waiter numbered `number`, if it is in the table.
     pub fn get(&self, number: WaiterNumber) -> Option<&Waiter>
         ensures exact { option_copied result ≡ item_at number self.now.items }
         ensures sound { IsTable self.now }
@@ -156,7 +164,8 @@ impl Waiters {
         self.table.get(number)
     }
 
-    /// Looks for the waiter numbered `number`, so that the calls about it that follow find it at once.
+    /// Looks for the waiter numbered `number`, so that the calls about it that follow find it at
+    /// once.
     pub(crate) fn seek(&mut self, number: WaiterNumber)
         ensures { self.new ≡ self.old }
     {
@@ -179,6 +188,7 @@ impl Waiters {
         None
     }
 
+    /// Whether that is so of the waiter numbered `number`, if there is one.
     fn was_sent_as(&self, number: WaiterNumber, at: Endpoint, id: u16, now: Moment) -> bool
         ensures exact { result ≡ passes (was_sent_as at id now) (item_at number self.now.items) }
     {

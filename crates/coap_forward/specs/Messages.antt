@@ -1,5 +1,6 @@
 -- What messages mean to a proxy: definitions shared by the step and the history, like those of
--- `Forms` and `Answers`, and `Verdicts` of coap_model. They are about messages alone, not about tables.
+-- `Forms` and `Answers`, and `Verdicts` of coap_model. They are about messages alone, not about
+-- tables.
 use Rattle.std.specs.Prelude.{ℕ, ◌+◌, ◌%◌, ◌^◌, ◌&&◌, ◌||◌, Bool, true, false, if◌then◌else◌, List, [], ◌∷◌, Option, Some, None}
 use Rattle.std.specs.Int.{w64, to_be_bytes}
 use Rattle.coap_message.specs.declared.kind.Kind.{Kind}
@@ -112,8 +113,8 @@ at_once request reply =
 
 -- what a duplicate gets (RFC 7252, 4.5): for a Confirmable message what was sent at once, and for a
 -- Non-confirmable one nothing
-abbrev pub told_again : Kind → List ℕ → Option (List ℕ)
-told_again kind sent = if is_con kind then Some sent else None
+abbrev pub kept_reply : Kind → List ℕ → Option (List ℕ)
+kept_reply kind sent = if is_con kind then Some sent else None
 
 -- ---- tokens
 

@@ -5,13 +5,13 @@ ghost use Rattle.coap_message.specs.declared.code.Code.{Code};
 ghost use Rattle.coap_message.specs.declared.kind.Kind.{Kind};
 ghost use Rattle.coap_message.specs.declared.kind.Kind.TheVariants.{Non};
 ghost use Rattle.coap_option.specs.declared.numbers.TheConstants.{OBSERVE};
-ghost use Rattle.coap_forward.specs.Answers.{is_storable, without_observe, taken_of, validates, fits, answer_if_fits, answer_of, copy_in, validated, left_of, left_told, bad_gateway, gateway_timeout, origin_answer, own_answer};
+ghost use Rattle.coap_forward.specs.Answers.{is_storable, without_observe, taken_of, validates, fits, answer_if_fits, answer_of, copy_in, validated, left_of, left_to_show, bad_gateway, gateway_timeout, origin_answer, own_answer};
 
 use coap_message::{
     Code, Kind, Message, MessageRef, Moment, OptionList, Options, OutOfMemory, Seq, Token,
 };
 use coap_option::{max_age, numbers, screen_response_ref};
-use coap_store::{Answer, RenewError, Stored, aged_fits, left_at, renewed, tells_age};
+use coap_store::{Answer, RenewError, Stored, aged_fits, left_at, renewed, shows_max_age};
 use std::alloc::Global;
 
 /// The greatest Max-Age, in seconds: it takes four bytes (RFC 7252, 5.10.5).
@@ -172,9 +172,10 @@ pub struct SentRequest<'c> {
     pub copy: Option<&'c Stored>,
 }
 
-/// The answer for a message that came for a request (RFC 7252, 5.7.1). What may be passed
-/// on is copied. A 2.03 to a GET renews the stored response whose tag the request had (RFC
-/// 7252, 5.6.2). Everything else gives 5.02; for a Reset it doesn't allocate.
+/// The answer that a message which came for a request makes (RFC 7252, 5.7.1). A response that may
+/// be passed on is copied. A 2.03 to a GET renews the stored response whose tag the request had
+/// (RFC 7252, 5.6.2). A Reset, a response that may not be passed on or wouldn't fit a datagram of
+/// `most` bytes, and a 2.03 that renews nothing give 5.02; a Reset doesn't allocate.
 ///
 /// # Errors
 /// Out of memory.
@@ -208,16 +209,17 @@ pub fn answer_of(
     }
 }
 
-/// How many seconds an answer stays fresh (RFC 7252, 5.7.1).
+/// For how many seconds an answer stays fresh (RFC 7252, 5.7.1).
 fn left_of(now: Moment, answer: &Answer) -> u32
     ensures { result ≡ left_of now answer.now }
 {
     left_at(&answer.message, now.saturating_sub(answer.got))
 }
 
-/// How many seconds an origin's answer to a GET stays fresh; `None` for every other answer.
-pub(crate) fn left_told(to_get: bool, now: Moment, answer: &Answer) -> Option<u32>
-    ensures { result ≡ left_told to_get now answer.now }
+/// For how many seconds an origin's answer to a GET stays fresh, which a client is shown; `None`
+/// for every other answer.
+pub(crate) fn left_to_show(to_get: bool, now: Moment, answer: &Answer) -> Option<u32>
+    ensures { result ≡ left_to_show to_get now answer.now }
 {
     if to_get && !answer.own {
         Some(left_of(now, answer))
@@ -231,5 +233,5 @@ pub(crate) fn left_told(to_get: bool, now: Moment, answer: &Answer) -> Option<u3
 pub fn is_storable(answer: &Answer) -> bool
     ensures { result ≡ is_storable answer.now }
 {
-    !answer.own && tells_age(answer.message.code) && max_age(&answer.message) > 0
+    !answer.own && shows_max_age(answer.message.code) && max_age(&answer.message) > 0
 }

@@ -54,7 +54,8 @@ impl Gap {
         }
     }
 
-    /// The greatest number of the options before the gap.
+    /// The greatest number of the options that are written before the gap: behind the Uri-Host also
+    /// the tag of `Form`.
     fn floor(self) -> u16
         ensures { result ≡ floor_of self }
     {
@@ -78,8 +79,8 @@ impl Gap {
         }
     }
 
-    /// The option number of the target's options that follow the gap, or 65,535 for the last one, which
-    /// none follow.
+    /// The option number of the target's options that follow the gap, or 65,535 for the last one,
+    /// which none follow.
     fn end(self) -> u16
         ensures { result ≡ end_of self }
     {
@@ -106,8 +107,8 @@ struct Part<'a> {
 pub struct Form<'f, 'a, 't> {
     /// The request of the client.
     pub request: &'f MessageRef<'a>,
-    /// What its options told. Only in the gaps that it says is an option looked for that is
-    /// forwarded: for most requests in none.
+    /// The survey of its options. It says in which gaps there may be options that are forwarded:
+    /// for most requests in none, so that their options aren't looked at again.
     pub survey: Survey,
     /// Its target.
     pub target: &'f Target,
@@ -118,7 +119,7 @@ pub struct Form<'f, 'a, 't> {
 
 // ---- options, after one with the number `before`; these return the number of the last option
 
-/// Adds the request's options in a gap that are forwarded.
+/// Adds those of the request's forwarded options that go in a gap.
 fn put_others(
     out: &mut Datagram,
     room: usize,

@@ -7,11 +7,11 @@ ghost use Rattle.coap_message.specs.Spelling.{spelling};
 ghost use Rattle.coap_store.specs.Renewing.{max_age_option};
 ghost use Rattle.coap_forward.specs.Answers.{shown_in, stored_answer};
 
-use crate::answers::left_told;
+use crate::answers::left_to_show;
 use coap_message::{
     Content, Datagram, Full, Head, Moment, Token, put_head, put_message, put_payload,
 };
-use coap_store::{Answer, Reply, Stored, put_max_age, put_reply};
+use coap_store::{Answer, Envelope, Stored, put_max_age, put_response};
 
 // ---- the proxy's own messages
 
@@ -60,27 +60,33 @@ fn try_with_max_age(
 // ---- what clients are sent
 
 /// Writes the message in which a client is sent an answer; `to_get` says whether that is to a GET.
-pub fn put_shown(now: Moment, answer: &Answer, to_get: bool, reply: Reply<'_>, out: &mut Datagram)
-    requires fits { length (spelling (shown_in reply to_get now answer.now)) ≤ out.old.room }
-    ensures { out.new ≡ holding out.old (spelling (shown_in reply.entry to_get now answer.now)) }
+pub fn put_shown(
+    now: Moment,
+    answer: &Answer,
+    to_get: bool,
+    envelope: Envelope<'_>,
+    out: &mut Datagram,
+)
+    requires fits { length (spelling (shown_in envelope to_get now answer.now)) ≤ out.old.room }
+    ensures { out.new ≡ holding out.old (spelling (shown_in envelope.entry to_get now answer.now)) }
 {
-    let left = left_told(to_get, now, answer);
+    let left = left_to_show(to_get, now, answer);
     let room = out.room();
-    if put_reply(&answer.message, reply, left, out, room).is_err() {
+    if put_response(&answer.message, envelope, left, out, room).is_err() {
         unreachable!();
     }
 }
 
 /// Writes the reply that a client is sent for a stored response, the answer to a GET.
-pub fn put_stored(now: Moment, stored: &Stored, reply: Reply<'_>, out: &mut Datagram)
-    requires fits { length (spelling (shown_in reply true now (stored_answer stored.now)))
+pub fn put_stored(now: Moment, stored: &Stored, envelope: Envelope<'_>, out: &mut Datagram)
+    requires fits { length (spelling (shown_in envelope true now (stored_answer stored.now)))
         ≤ out.old.room }
     ensures { out.new
-        ≡ holding out.old (spelling (shown_in reply.entry true now (stored_answer stored.now))) }
+        ≡ holding out.old (spelling (shown_in envelope.entry true now (stored_answer stored.now))) }
 {
     let left = Some(stored.left(now));
     let room = out.room();
-    if put_reply(&stored.response, reply, left, out, room).is_err() {
+    if put_response(&stored.response, envelope, left, out, room).is_err() {
         unreachable!();
     }
 }

@@ -29,7 +29,7 @@ use Rattle.coap_pending.specs.declared.waiter.WaiterState.{WaiterState}
 use Rattle.coap_pending.specs.declared.waiter.WaiterState.TheVariants.{Waiting, Delivering}
 use Rattle.coap_pending.specs.Waiters as waiters
 use Rattle.coap_pending.specs.Waiters.{is_delivered_as}
-use Rattle.coap_pending.specs.Exchanges.{is_sent_state, is_acked, is_acked_state, is_as, is_some_as, was_sent_as, is_in_flight, was_sent_with}
+use Rattle.coap_pending.specs.Exchanges.{is_sent_state, is_acked, is_acked_state, is_meant_by, is_some_as, was_sent_as, is_in_flight, was_sent_with}
 use Rattle.coap_pending.specs.Table.{Numbered, IsRising, first_that, item_at}
 use Rattle.coap_model.specs.Setting.{Setting}
 use Rattle.coap_model.specs.Events.{arrival}
@@ -167,7 +167,7 @@ module _ (w : State) (history : List Action) (c : Bears history w) (now : ℕ) (
       let flight : IsInFlight w.setting history x = subst (IsState w.setting history x) state exchange.state in
       let test = first-passes (was_sent_as source m.id now) w.exchanges 0 x c.whole.rising a.first there in
       let parts = and_parts (same_endpoint x.1.key.target.at source) (is_some_as m.id now x.1.sending) test in
-      let same_as : is_as m.id now flight.sending ≡ true = ap (is_some_as m.id now) (sym flight.sending_is) ∙ parts.1 in
+      let same_as : is_meant_by m.id now flight.sending ≡ true = ap (is_some_as m.id now) (sym flight.sending_is) ∙ parts.1 in
       let both = and_parts (flight.sending.id == m.id) (nat_lt (now - flight.sending.timer.started) 247000) same_as in
       record {
         here = record {

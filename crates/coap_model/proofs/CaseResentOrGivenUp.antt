@@ -61,7 +61,7 @@ timer-again e before es t h on = rw on (let sends = h.0 in omega arith, h.1, dou
 may-go_on : (now : ℕ) (es : List Observation) (t : Timer) → IsTimer t es → goes_on now t ≡ true → MayGoOn now es
 may-go_on now [] t h on = absurd h
 may-go_on now (e ∷ es) t h on =
-    let parts = and_parts (ltb t.sends 5) (ltb (now - t.started) 93000) on in
+    let parts = and_parts (ltb t.transmissions 5) (ltb (now - t.started) 93000) on in
     let few = ltb-true _ _ parts.0 in
     let soon = ltb-true _ _ parts.1 in
     let sends = h.0 in
@@ -76,7 +76,7 @@ may-not now (e ∷ es) t h off m =
     let started = h.1 in
     let few = m.few in
     let soon = m.soon in
-    let first = lt-ltb t.sends 5 (omega arith) in
+    let first = lt-ltb t.transmissions 5 (omega arith) in
     let second = lt-ltb (now - t.started) 93000 (omega arith) in
     absurd (let both : goes_on now t ≡ true = and_from _ _ first second in let f = sym off ∙ both in cc)
 

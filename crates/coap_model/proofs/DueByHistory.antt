@@ -28,7 +28,7 @@ use Rattle.coap_model.specs.Ticks as ticks
 use Rattle.coap_model.specs.Ticks.{exchange_due, waiter_due, first_item, item_due, if_due, next_due}
 use Rattle.coap_model.specs.Standing.{Stage, Open, queued, sent, stage_of, Standing, Service, told, service_of}
 use Rattle.coap_model.specs.Schedules.{sends_by, next_send}
-use Rattle.coap_model.specs.Due.{IsToSend, IsToRepeat, IsToEnd, IsExchangeDue, to_send, to_repeat, to_end, IsToServe, IsToServeAgain, IsClientDue, to_serve, to_serve_again, IsDueAt, ComesBefore, IsSooner, IsNextDue}
+use Rattle.coap_model.specs.Due.{IsToSend, IsToRepeat, IsToEnd, IsExchangeDue, to_send, to_repeat, to_end, IsToServe, IsToServeAgain, IsWaiterDue, to_serve, to_serve_again, IsDueAt, ComesBefore, IsSooner, IsNextDue}
 use Rattle.coap_model.specs.Justified.{IsActing, verdict_on}
 use Rattle.coap_model.specs.History.{Observation, Act, no_item, admits, moves, serves, Action, Position, Never, Ends, Serves}
 use Rattle.coap_model.specs.Carries.{HasNumber, HasExchange, stage_at, service_in, IsTimer, IsState, IsExchangeOf, IsWaiterIn, IsWaiterOf, Bears}
@@ -155,7 +155,7 @@ client-due w history c v there f at due = go v.1.state refl f due
           at_is = sym (same_Some a.got at e) ∙ state.got;
         }
 
-    go : (s : WaiterState) → v.1.state ≡ s → IsWaiterIn w.setting history v s → waiters.due_in s w.exchanges ≡ Some at → IsClientDue w.setting history v.0 at
+    go : (s : WaiterState) → v.1.state ≡ s → IsWaiterIn w.setting history v s → waiters.due_in s w.exchanges ≡ Some at → IsWaiterDue w.setting history v.0 at
     go (Waiting exchange) is g e = to_serve (moment exchange g (answer_in exchange w.exchanges) refl e)
     go (Delivering bytes id timer) is g e = to_serve_again (record { service = service-is w history c v there ∙ ap (λ (s : WaiterState). Some (service_in s)) is; at_is = sym (same_Some timer.due at e) ∙ timer-due timer _ g.timer_is })
 

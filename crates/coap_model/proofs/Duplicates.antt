@@ -16,7 +16,7 @@ use Rattle.coap_dedup.specs.Lists.{is_living, is_of, record_of}
 use Rattle.coap_dedup.proofs.Apart.{is_of-key}
 use Rattle.coap_dedup.proofs.Orders.{same_key-itself}
 use Rattle.coap_model.specs.Events.{Event, arrival, tick}
-use Rattle.coap_forward.specs.Messages.{brings_requests, told_again}
+use Rattle.coap_forward.specs.Messages.{brings_requests, kept_reply}
 use Rattle.coap_model.specs.History.{Observation, Action, Position, IsPositionOf, Somewhere}
 use Rattle.coap_model.specs.Remembered.{goes_with, is_remembered, kept_of, kept_at, kept_by, kept_in, remembered_at, remembered_for}
 use Rattle.coap_model.specs.Duplicates.{Repeats, IsRememberedAt}
@@ -36,7 +36,7 @@ record WasLeft (kind : Kind) (history : List Action) (r : Record) : Type 0 where
   pub goes : goes_with kind former.kind ≡ true
   pub id : former.id ≡ r.id
   pub at : r.at ≡ position.action.observation.now
-  pub reply : r.reply ≡ told_again former.kind position.action.observation.bytes
+  pub reply : r.reply ≡ kept_reply former.kind position.action.observation.bytes
   pub remembered : is_remembered position.action.observation.report.outcome former.kind ≡ true
 
 -- the record that an observation adds was added there
@@ -47,7 +47,7 @@ left-by kind past d = brought d.observation.event refl
     headed source bytes came None is = tt
     headed source bytes came (Some former) is = test (goes_with kind former.kind && is_remembered d.observation.report.outcome former.kind) refl
       where
-        test : (b : Bool) → (goes_with kind former.kind && is_remembered d.observation.report.outcome former.kind) ≡ b → AllByRecursion (WasLeft kind (d ∷ past)) (if b then record { from = source; id = former.id; at = d.observation.now; reply = told_again former.kind d.observation.bytes } ∷ [] else [])
+        test : (b : Bool) → (goes_with kind former.kind && is_remembered d.observation.report.outcome former.kind) ≡ b → AllByRecursion (WasLeft kind (d ∷ past)) (if b then record { from = source; id = former.id; at = d.observation.now; reply = kept_reply former.kind d.observation.bytes } ∷ [] else [])
         test true kept =
             let parts = and_parts (goes_with kind former.kind) (is_remembered d.observation.report.outcome former.kind) kept in
             (record { position = record { before = past; action = d }; there = inl refl; bytes = bytes; former = former; came = came; head = is; goes = parts.0; id = refl; at = refl; reply = refl; remembered = parts.1 }, tt)
@@ -104,7 +104,7 @@ known-position past now source m known found =
           remembered = l.remembered;
           alive = subst (λ (n : ℕ). now < n + lifetime) l.at (ltb-true _ _ h.0.1);
         };
-        reply = l.reply ∙ ap (λ (k : Kind). told_again k l.position.action.observation.bytes) same;
+        reply = l.reply ∙ ap (λ (k : Kind). kept_reply k l.position.action.observation.bytes) same;
       };
     }
 
@@ -132,7 +132,7 @@ goes-itself Ack e = absurd cc
 goes-itself Rst e = absurd cc
 
 -- the record that an observation adds for a message that it brought
-left-is : (kind : Kind) (e : Observation) (source : Endpoint) (bytes : List ℕ) (former : Head) → is_remembered e.report.outcome former.kind ≡ true → e.event ≡ arrival source bytes → head_at bytes ≡ Some former → goes_with kind former.kind ≡ true → kept_by kind e ≡ record { from = source; id = former.id; at = e.now; reply = told_again former.kind e.bytes } ∷ []
+left-is : (kind : Kind) (e : Observation) (source : Endpoint) (bytes : List ℕ) (former : Head) → is_remembered e.report.outcome former.kind ≡ true → e.event ≡ arrival source bytes → head_at bytes ≡ Some former → goes_with kind former.kind ≡ true → kept_by kind e ≡ record { from = source; id = former.id; at = e.now; reply = kept_reply former.kind e.bytes } ∷ []
 left-is kind e source bytes former kept came head goes = rw (came, head, goes, kept) refl
 
 -- so a message that repeats a position is known
@@ -152,7 +152,7 @@ position-known past now source m p brings at r none = go past at (unfilter (λ x
         ⊎_elim
         (λ (same : record { before = before; action = d } ≡ p).
         let e = p.action.observation in
-        let made : Record = record { from = source; id = r.former.id; at = e.now; reply = told_again r.former.kind e.bytes } in
+        let made : Record = record { from = source; id = r.former.id; at = e.now; reply = kept_reply r.former.kind e.bytes } in
         let goes : goes_with m.kind r.former.kind ≡ true = subst (λ (k : Kind). goes_with m.kind k ≡ true) (sym r.kind) (goes-itself m.kind brings) in
         let left : kept_by m.kind d.observation ≡ made ∷ [] = ap (λ (q : Position). kept_by m.kind q.action.observation) same ∙ left-is m.kind e source r.bytes r.former r.remembered r.came r.head goes in
         let one = subst (λ (rs : List Record). AllByRecursion (λ x. is_living (remembered_for m.kind) now x ≡ true → is_of source m.id x ≡ false) rs) left parts.1 in

@@ -19,7 +19,7 @@ use Rattle.coap_dedup.proofs.Kept.{AreRecords-kept}
 use Rattle.coap_dedup.proofs.Passing.{living-kept, AreUpTo-kept}
 use Rattle.coap_model.specs.Setting.{Setting}
 use Rattle.coap_model.specs.Events.{Event, arrival, tick}
-use Rattle.coap_forward.specs.Messages.{is_con, brings_requests, told_again}
+use Rattle.coap_forward.specs.Messages.{is_con, brings_requests, kept_reply}
 use Rattle.coap_model.specs.Remembered.{is_remembered, goes_with, kept_at, kept_by, kept_in, kept_of, most_of_client, most_remembered, remembered_at, remembered_for, remembered_of}
 use Rattle.coap_model.specs.State.{State, Step, records_of, record_made, known_of, has_record_room}
 use Rattle.coap_model.specs.Step.{message_in}
@@ -155,7 +155,7 @@ module _ (w : State) (history : List Action) (c : Bears history w) (now : ℕ) (
       e = doing act (observation_of now draw (arrival client bytes) s)
 
       made : Kind → Record
-      made k = record { from = client; id = m.id; at = now; reply = told_again k s.bytes }
+      made k = record { from = client; id = m.id; at = now; reply = kept_reply k s.bytes }
 
       head : Kind → Head
       head k = record { kind = k; code = m.code; id = m.id }

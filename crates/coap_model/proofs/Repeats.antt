@@ -16,7 +16,7 @@ use Rattle.coap_model.specs.declared.report.Outcome.{Outcome}
 use Rattle.coap_model.specs.declared.report.Outcome.TheVariants.{Ignored, Rejected, Again, NoRecordRoom, Refused, Hit, Joined, Opened, Overloaded, NoId, Answered, Acked, SentRequest, Resent, Delivered, GaveUp, Idle}
 use Rattle.coap_model.specs.Setting.{Setting}
 use Rattle.coap_model.specs.Events.{arrival}
-use Rattle.coap_forward.specs.Messages.{is_con, brings_requests, told_again}
+use Rattle.coap_forward.specs.Messages.{is_con, brings_requests, kept_reply}
 use Rattle.coap_model.specs.History.{Action, Position, IsPositionOf, last_of, IsInOrder, Brings}
 use Rattle.coap_model.specs.Remembered.{is_remembered, remembered_at}
 use Rattle.coap_model.specs.Duplicates.{Repeats}
@@ -136,8 +136,8 @@ module _ (setting : Setting) (past : List Action) (now : ℕ) (source : Endpoint
       (in-order past p q at_p at_q)
 
   -- and its record is what was sent there
-  pub told-there : IsInOrder past → last_of past ≤ now → (p : Position) (known : Record) → IsPositionOf past p → Repeats now source m p → record_of source m.id (remembered_at m.kind now past) ≡ Some known → known.reply ≡ told_again m.kind p.action.observation.bytes
+  pub told-there : IsInOrder past → last_of past ≤ now → (p : Position) (known : Record) → IsPositionOf past p → Repeats now source m p → record_of source m.id (remembered_at m.kind now past) ≡ Some known → known.reply ≡ kept_reply m.kind p.action.observation.bytes
   told-there ordered onward p known at repeats found =
       let left = known-position past now source m known found in
       let same = one-position ordered onward left.position p left.is_there at left.holds.repeats repeats in
-      left.holds.reply ∙ ap (λ (q : Position). told_again m.kind q.action.observation.bytes) same
+      left.holds.reply ∙ ap (λ (q : Position). kept_reply m.kind q.action.observation.bytes) same

@@ -23,9 +23,9 @@ use Rattle.coap_dedup.specs.declared.record.Record.{Record}
 use Rattle.coap_pending.specs.Exchanges.{is_sent, was_sent_as}
 use Rattle.coap_forward.specs.Messages.{brings_requests, brings_responses, is_con, is_ack, is_bare, acknowledgement}
 use Rattle.coap_model.specs.Answers.{Arrived, with_changed, entry_made, answers_so, keeps_if, may_store, answer_for, answers}
-use Rattle.coap_model.specs.Empties.{on_client, acknowledges, settles, on_exchange, on_sent, on_empty}
+use Rattle.coap_model.specs.Empties.{on_delivery, acknowledges, settles, on_exchange, on_sent, on_empty}
 use Rattle.coap_model.specs.Requests.{on_request}
-use Rattle.coap_model.specs.Responses.{awaiting, on_awaited, on_separate, on_unknown, on_response_in, on_response}
+use Rattle.coap_model.specs.Responses.{awaiting, on_not_confirmable, on_separate, on_unknown, on_response_in, on_response}
 use Rattle.coap_model.specs.Step.{on_no_response, on_no_request, message_in, on_read, step_of}
 use Rattle.coap_model.specs.State.{State, Step, known_of, has_record_room, remembers, drops, unprocessed, says, silent}
 use Rattle.coap_model.proofs.Rules.{answered_state}
@@ -70,7 +70,7 @@ answers-told w now source m x =
 -- ---- responses
 
 -- a response with an exchange that may await it
-awaited-told : (w : State) (now : ℕ) (source : Endpoint) (m : Message) (o : Option (Numbered Exchange)) → IsTold (λ grown. on_awaited w now grown source m o)
+awaited-told : (w : State) (now : ℕ) (source : Endpoint) (m : Message) (o : Option (Numbered Exchange)) → IsTold (λ grown. on_not_confirmable w now grown source m o)
 awaited-told w now source m None = λ grown. refl
 awaited-told w now source m (Some x) = answers-told w now source m x
 
@@ -99,7 +99,7 @@ response-told w now source m Rst = awaited-told w now source m (awaiting w sourc
 found-told : (w : State) (now : ℕ) (source : Endpoint) (m : Message) (n : ℕ) (o : Option Exchange) → IsTold (λ grown. on_exchange w now grown source m n o)
 found-told w now source m n None = λ grown. refl
 found-told w now source m n (Some x) =
-    either (is_sent x) (λ grown. settles w now grown source m n x) (λ grown. on_client w now source m)
+    either (is_sent x) (λ grown. settles w now grown source m n x) (λ grown. on_delivery w now source m)
     (either (is_ack m.kind) (λ grown. acknowledges w now n) (λ grown. answers w now grown source m (n, x)) (λ grown. refl) (answers-told w now source m (n, x)))
     (λ grown. refl)
 

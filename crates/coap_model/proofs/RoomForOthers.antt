@@ -12,7 +12,7 @@ use Rattle.coap_endpoint.proofs.Lists.{All-append, All-weaken}
 use Rattle.coap_target.specs.Routes.{AreRoutes}
 use Rattle.coap_dedup.specs.declared.record.Record.{Record}
 use Rattle.coap_dedup.specs.Lists.{is_living}
-use Rattle.coap_forward.specs.Messages.{is_con, told_again}
+use Rattle.coap_forward.specs.Messages.{is_con, kept_reply}
 use Rattle.coap_limits.specs.Limits.{Limits}
 use Rattle.coap_model.specs.declared.report.Outcome.{Outcome}
 use Rattle.coap_model.specs.declared.report.Outcome.TheVariants.{NoRecordRoom, Overloaded}
@@ -118,7 +118,7 @@ module _ (endpoints : List Endpoint) where
       headed source is None = tt
       headed source is (Some head) = test (goes_with kind head.kind && is_remembered e.report.outcome head.kind)
         where
-          test : (b : Bool) → AllByRecursion (λ (r : Record). is_among endpoints r.from ≡ true) (if b then record { from = source; id = head.id; at = e.now; reply = told_again head.kind e.bytes } ∷ [] else [])
+          test : (b : Bool) → AllByRecursion (λ (r : Record). is_among endpoints r.from ≡ true) (if b then record { from = source; id = head.id; at = e.now; reply = kept_reply head.kind e.bytes } ∷ [] else [])
           test true = (is, tt)
           test false = tt
 

@@ -39,8 +39,8 @@ use Rattle.coap_dedup.specs.declared.record.Record.{Record}
 use Rattle.coap_model.specs.State.{State, Step, has_record_room, has_room_to_join, has_room_to_open, can_reply, known_of, remembers, repeats, drops, ignores, rejects, unprocessed, silent, says, later}
 use Rattle.coap_model.specs.Requests.{lacks_id, refuses, overloads, new_exchange, new_waiter, joins, opens, turns_down, turns_away, hits, on_exchange_needed, on_joinable, on_miss, on_entry, on_key, on_verdict, on_new, on_known, on_request}
 use Rattle.coap_model.specs.Answers.{Arrived, with_changed, may_store, answer_for, entry_made, answers_so, keeps_if, stores, answers_with, answers}
-use Rattle.coap_model.specs.Responses.{awaiting, on_awaited, on_separate, on_unknown, on_response_in, on_response}
-use Rattle.coap_model.specs.Empties.{acknowledges, closes, on_told, on_client, settles, on_sent, on_empty}
+use Rattle.coap_model.specs.Responses.{awaiting, on_not_confirmable, on_separate, on_unknown, on_response_in, on_response}
+use Rattle.coap_model.specs.Empties.{acknowledges, closes, on_delivered, on_delivery, settles, on_sent, on_empty}
 use Rattle.coap_model.specs.Empties as empties
 use Rattle.coap_pending.specs.declared.exchange.ExchangeState.{ExchangeState}
 use Rattle.coap_pending.specs.declared.exchange.ExchangeState.TheVariants.{Queued, Sent, Acked, Done}
@@ -513,7 +513,7 @@ module _ (w : State) (now draw : ℕ) (grown : Bool) (source : Endpoint) (bytes 
         )
 
     -- one that isn't Confirmable is a case by the exchange that awaits it
-    rule_awaited : is_con m.kind ≡ false → (o : Option (Numbered Exchange)) → awaiting w source m ≡ o → Rule w now draw grown (arrival source bytes) (on_awaited w now grown source m o)
+    rule_awaited : is_con m.kind ≡ false → (o : Option (Numbered Exchange)) → awaiting w source m ≡ o → Rule w now draw grown (arrival source bytes) (on_not_confirmable w now grown source m o)
     rule_awaited other None e = ignoring source bytes (one_head bytes own_head (head_of_read w bytes m fits read) other) (unawaited (λ recorded. absurd (unrecorded m request other recorded)) e)
     rule_awaited other (Some x) e = rule_answer x (by_response response e) other
 
@@ -563,11 +563,11 @@ module _ (w : State) (now draw : ℕ) (grown : Bool) (source : Endpoint) (bytes 
         ))
 
     -- one that doesn't refer to a request refers to an answer, or is for nobody
-    rule_told : ((x : Numbered Exchange) → ¬ IsAbout w now source m x) → (o : Option ℕ) → first_that (waiters.was_sent_as source m.id now) w.waiters ≡ o → Rule w now draw grown (arrival source bytes) (on_told w now o)
+    rule_told : ((x : Numbered Exchange) → ¬ IsAbout w now source m x) → (o : Option ℕ) → first_that (waiters.was_sent_as source m.id now) w.waiters ≡ o → Rule w now draw grown (arrival source bytes) (on_delivered w now o)
     rule_told none None e = unmatched none (λ n about. absurd (let g = sym e ∙ about.first in cc))
     rule_told none (Some n) e = closing source bytes m n fits read (record { bare = bare; first = e })
 
-    of_no_request : ((x : Numbered Exchange) → ¬ IsAbout w now source m x) → Rule w now draw grown (arrival source bytes) (on_client w now source m)
+    of_no_request : ((x : Numbered Exchange) → ¬ IsAbout w now source m x) → Rule w now draw grown (arrival source bytes) (on_delivery w now source m)
     of_no_request none = rule_told none (first_that (waiters.was_sent_as source m.id now) w.waiters) refl
 
     rule_settled : (x : Numbered Exchange) → IsAbout w now source m x → (b : Bool) → is_ack m.kind ≡ b → Rule w now draw grown (arrival source bytes) (cond b (acknowledges w now x.0) (answers w now grown source m x))
@@ -578,7 +578,7 @@ module _ (w : State) (now draw : ℕ) (grown : Bool) (source : Endpoint) (bytes 
     rule_found n first None e = of_no_request (λ x about. let same = same_Some n x.0 (sym first ∙ about.first) in let g : None ≡ Some x.1 = sym e ∙ ap (λ (k : ℕ). item_at k w.exchanges) same ∙ about.found in absurd cc)
     rule_found n first (Some x) e = go (is_sent x) refl
       where
-        go : (b : Bool) → is_sent x ≡ b → Rule w now draw grown (arrival source bytes) (cond b (settles w now grown source m n x) (on_client w now source m))
+        go : (b : Bool) → is_sent x ≡ b → Rule w now draw grown (arrival source bytes) (cond b (settles w now grown source m n x) (on_delivery w now source m))
         go true sent = rule_settled (n, x) (record { bare = bare; first = first; found = e; sent = sent }) (is_ack m.kind) refl
         go false other =
             of_no_request (λ y about.

@@ -18,7 +18,7 @@ use Rattle.coap_pending.specs.declared.exchange.ExchangeState.{ExchangeState}
 use Rattle.coap_pending.specs.declared.exchange.ExchangeState.TheVariants.{Queued, Sent, Acked, Done}
 use Rattle.coap_pending.specs.declared.exchange.Sending.{Sending}
 use Rattle.coap_pending.specs.declared.timer.Timer.{Timer}
-use Rattle.coap_pending.specs.Exchanges.{is_as, is_some_as, was_sent_as}
+use Rattle.coap_pending.specs.Exchanges.{is_meant_by, is_some_as, was_sent_as}
 use Rattle.coap_pending.specs.Table.{Numbered, first_that}
 use Rattle.coap_model.specs.declared.report.Outcome.{Outcome}
 use Rattle.coap_model.specs.declared.report.Outcome.TheVariants.{SentRequest, Resent, Delivered}
@@ -182,13 +182,13 @@ pub record IsAs (id now : ℕ) (s : Sending) : Type 0 where
   pub soon : now < s.timer.started + 247000
 
 -- it passes the test exactly then
-pub as-is : (id now : ℕ) (s : Sending) → is_as id now s ≡ true → IsAs id now s
+pub as-is : (id now : ℕ) (s : Sending) → is_meant_by id now s ≡ true → IsAs id now s
 as-is id now s e =
     let parts = and_parts (s.id == id) (ltb (now - s.timer.started) 247000) e in
     let less = ltb-true _ _ parts.1 in
     record { id_is = eqb-true s.id id parts.0; soon = omega (arith, less) }
 
-pub is-as : (id now : ℕ) (s : Sending) → IsAs id now s → is_as id now s ≡ true
+pub is-as : (id now : ℕ) (s : Sending) → IsAs id now s → is_meant_by id now s ≡ true
 is-as id now s a = let soon = a.soon in and_from _ _ (eq-eqb s.id id a.id_is) (lt-ltb (now - s.timer.started) 247000 (omega (arith, soon)))
 
 -- the request of an exchange was sent to this endpoint with this id, less than 247,000 ms ago

@@ -26,7 +26,7 @@ use Rattle.coap_option.specs.Selection.{is_of, max_age_of}
 use Rattle.coap_option.proofs.MaxAges.{length-first_max_age}
 use Rattle.coap_store.specs.Renewing.{tag_of, of_number, has_number, below, above, updated, with_max_age, safe_options, news_of, is_validated, renewed}
 use Rattle.coap_store.specs.Showing as showing
-use Rattle.coap_store.specs.Showing.{is_content, tells_age, among, held_tag, valid, aged, told}
+use Rattle.coap_store.specs.Showing.{is_content, shows_max_age, among, held_tag, valid, aged, aged_or_valid}
 use Rattle.coap_store.proofs.Updates.{of_number-updated, AreOptions-updated}
 use Rattle.coap_option.specs.Classes.{is_unsafe}
 use Rattle.std.specs.Int.{w64, to_be_bytes}
@@ -35,7 +35,7 @@ use Rattle.coap_store.proofs.Picked.{AreOptions-above, AreOptions-filter, above-
 use Rattle.coap_store.proofs.Tags.{first_tag, tag_of-first, tag-short}
 use Rattle.coap_endpoint.specs.Equality.{same_bytes}
 use Rattle.coap_store.specs.declared.answer.Answer.{Answer}
-use Rattle.coap_forward.specs.Answers.{is_screened, without_observe, greatest_max_age, widest, fits, validates, taken_of, is_passed_on, bad_gateway, gateway_timeout, own_answer, origin_answer, answer_if_fits, validated, answer_taken, answer_of, left_of, left_told, shown_as}
+use Rattle.coap_forward.specs.Answers.{is_screened, without_observe, greatest_max_age, widest, fits, validates, taken_of, is_passed_on, bad_gateway, gateway_timeout, own_answer, origin_answer, answer_if_fits, validated, answer_taken, answer_of, left_of, left_to_show, shown_as}
 use Rattle.coap_forward.specs.Messages.{is_rst}
 use Rattle.coap_model.specs.History.{Matches, in_acknowledgement, separate, by_reset}
 use Rattle.coap_model.proofs.OptionLengths.{lower-length}
@@ -103,13 +103,13 @@ data IsShownAs (m : Message) : Option ℕ → Message → Type 0 where
 -- what is sent is one of the three
 shown-as : (m : Message) (left : Option ℕ) (tags : List (List ℕ)) → IsShownAs m left (showing.shown m left tags)
 shown-as m None tags = as_stored None
-shown-as m (Some left) tags = tells (tells_age m.code)
+shown-as m (Some left) tags = tells (shows_max_age m.code)
   where
     holds : (o : Option (List ℕ)) → held_tag m tags ≡ o → IsShownAs m (Some left) (option_map_or (valid m left) o (aged m left))
     holds None e = as_aged left
     holds (Some tag) e = as_valid left tag (held-short m tags tag e)
 
-    tells : (b : Bool) → IsShownAs m (Some left) (cond b (told m left tags) m)
+    tells : (b : Bool) → IsShownAs m (Some left) (cond b (aged_or_valid m left tags) m)
     tells true = holds (held_tag m tags) refl
     tells false = as_stored (Some left)
 
@@ -521,7 +521,7 @@ holdable-short most _ (of_proxy code some other) = omega arith
 -- what is sent of it is a message
 pub shown-is : (most : ℕ) (kind : Kind) (to_get : Bool) (now : ℕ) (a : Answer) (id : ℕ) (token : List ℕ) (tags : List (List ℕ)) → IsHoldable most a.message → length token ≤ 8 → IsMessage (shown_as kind to_get now a id token tags)
 shown-is most kind to_get now a id token tags holdable short =
-    let s = case-sound a.message (holdable-sound most a.message holdable) (shown-as a.message (left_told to_get now a) tags) in
+    let s = case-sound a.message (holdable-sound most a.message holdable) (shown-as a.message (left_to_show to_get now a) tags) in
     record { token = short; options = s.options; bare = record { token = λ e. absurd (s.code e); options = λ e. absurd (s.code e); payload = λ e. absurd (s.code e) } }
 
 -- ---- what is sent fits a datagram
@@ -547,7 +547,7 @@ age-held : (most : ℕ) (m : Message) → IsHoldable most m → max_age_of m < 2
 age-held most _ (received m is) = age-small m is.bytes
 age-held most _ (of_proxy code some other) = omega arith
 
-left-small : (most now : ℕ) (to_get : Bool) (a : Answer) → IsHoldable most a.message → IfSome (left_told to_get now a) (λ l. l < 2 ^ 32)
+left-small : (most now : ℕ) (to_get : Bool) (a : Answer) → IsHoldable most a.message → IfSome (left_to_show to_get now a) (λ l. l < 2 ^ 32)
 left-small most now to_get a holdable = go (to_get && not a.own)
   where
     go : (b : Bool) → IfSome (cond b (Some (left_of now a)) None) (λ l. l < 2 ^ 32)
@@ -557,7 +557,7 @@ left-small most now to_get a holdable = go (to_get && not a.own)
 -- what is sent of an answer fits a datagram, and so a longer one
 pub shown-fits : (most longest : ℕ) (kind : Kind) (to_get : Bool) (now : ℕ) (a : Answer) (id : ℕ) (token : List ℕ) (tags : List (List ℕ)) → 128 ≤ longest → most ≤ longest → IsHoldable most a.message → length token ≤ 8 → length (spelling (shown_as kind to_get now a id token tags)) ≤ longest
 shown-fits most longest kind to_get now a id token tags wide no_shorter holdable short =
-    go a.message (left_told to_get now a) holdable (left-small most now to_get a holdable) (shown-as a.message (left_told to_get now a) tags)
+    go a.message (left_to_show to_get now a) holdable (left-small most now to_get a holdable) (shown-as a.message (left_to_show to_get now a) tags)
   where
     go : {n : Message} (m : Message) (left : Option ℕ) → IsHoldable most m → IfSome left (λ l. l < 2 ^ 32) → IsShownAs m left n → length (spelling (showing.addressed kind id token n)) ≤ longest
     go _ left (received m is) small shown = case-short longest id kind m token wide short (let fit = is.fits in omega (arith, no_shorter, fit)) is.plain small shown

@@ -16,7 +16,7 @@ use Rattle.coap_dedup.specs.declared.record.Record.{Record}
 use Rattle.coap_dedup.specs.Lists.{is_from, is_living, living}
 use Rattle.coap_dedup.proofs.Aging.{length-living}
 use Rattle.coap_dedup.proofs.Passing.{living-again}
-use Rattle.coap_forward.specs.Messages.{told_again}
+use Rattle.coap_forward.specs.Messages.{kept_reply}
 use Rattle.coap_model.specs.declared.report.Outcome.{Outcome}
 use Rattle.coap_model.specs.declared.report.Outcome.TheVariants.{Joined, Opened, Answered, Acked, SentRequest, GaveUp, Delivered}
 use Rattle.coap_model.specs.Setting.{Setting}
@@ -204,7 +204,7 @@ leaves-few setting kind past d j = go d.observation.event refl
     headed source bytes came None is = nothing
     headed source bytes came (Some head) is = test (goes_with kind head.kind && is_remembered d.observation.report.outcome head.kind) refl
       where
-        test : (b : Bool) → (goes_with kind head.kind && is_remembered d.observation.report.outcome head.kind) ≡ b → LeavesFew setting kind past d (if b then record { from = source; id = head.id; at = d.observation.now; reply = told_again head.kind d.observation.bytes } ∷ [] else [])
+        test : (b : Bool) → (goes_with kind head.kind && is_remembered d.observation.report.outcome head.kind) ≡ b → LeavesFew setting kind past d (if b then record { from = source; id = head.id; at = d.observation.now; reply = kept_reply head.kind d.observation.bytes } ∷ [] else [])
         test false none = nothing
         test true kept =
             let parts = and_parts (goes_with kind head.kind) (is_remembered d.observation.report.outcome head.kind) kept in

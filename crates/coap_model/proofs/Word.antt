@@ -4,7 +4,7 @@ use Rattle.coap_message.specs.Message.{Message}
 use Rattle.coap_endpoint.specs.declared.endpoint.Endpoint.{Endpoint}
 use Rattle.coap_target.specs.Routes.{AreRoutes}
 use Rattle.coap_store.proofs.Distinct.{of_key-key}
-use Rattle.coap_forward.specs.Messages.{told_again}
+use Rattle.coap_forward.specs.Messages.{kept_reply}
 use Rattle.coap_model.specs.declared.report.Outcome.{Outcome}
 use Rattle.coap_model.specs.declared.report.Outcome.TheVariants.{Again, Hit}
 use Rattle.coap_model.specs.Setting.{Setting}
@@ -15,7 +15,7 @@ use Rattle.coap_model.specs.Duplicates.{Repeats}
 use Rattle.coap_model.specs.Justified.{known_of, Comes, SaysAgain, IsRepetition, IsHit, JustifiedBy, AllJustified}
 use Rattle.coap_model.specs.Carries.{Carries}
 use Rattle.coap_model.specs.Runs.{Taken, turns_of, AreTurns, new_run, run_of}
-use Rattle.coap_model.specs.Word.{until, IsCacheWithin, IsFromCache, IsToldAgain, KeepsItsWord}
+use Rattle.coap_model.specs.Word.{until, IsCacheWithin, IsFromCache, IsRepliedAgain, KeepsItsWord}
 use Rattle.coap_model.proofs.BySize.{all-owed}
 use Rattle.coap_model.proofs.Cached.{cache-before}
 use Rattle.coap_model.proofs.AllCases.{starts}
@@ -51,7 +51,7 @@ from-cache setting p routes all hit =
 
 -- a message that repeats a position gets what was sent there
 again-at : (setting : Setting) (p former : Position) (source : Endpoint) (m : Message) → AllJustified setting (until p) → IsInOrder (until p) → p.action.observation.report.outcome ≡ Again → IsPositionOf p.before former → Comes setting source m p.action.observation.event → Repeats p.action.observation.now source m former
-    → IsToldAgain source m former p.action.observation
+    → IsRepliedAgain source m former p.action.observation
 again-at setting p former source m all ordered is at comes repeats =
     let j : IsRepetition setting p.before p.action = subst (λ (o : Outcome). JustifiedBy o setting p.before p.action) is all.0 in
     let same = one-brought j.comes.brings comes.brings in
@@ -59,7 +59,7 @@ again-at setting p former source m all ordered is at comes repeats =
     let reply = told-there setting p.before p.action.observation.now source m all.1 ordered.1 ordered.0 former j.known at repeats found in
     record {
       outcome = is;
-      again = subst (λ (e : Endpoint). SaysAgain e (told_again m.kind former.action.observation.bytes) p.action.observation) same.0 (subst (λ (r : Option (List ℕ)). SaysAgain j.source r p.action.observation) reply j.says_again);
+      again = subst (λ (e : Endpoint). SaysAgain e (kept_reply m.kind former.action.observation.bytes) p.action.observation) same.0 (subst (λ (r : Option (List ℕ)). SaysAgain j.source r p.action.observation) reply j.says_again);
     }
 
 -- a history that has a cache had one at each position, which was within its limits

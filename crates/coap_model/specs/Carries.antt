@@ -117,7 +117,7 @@ pub record AreWhole (history : List Action) (w : State) : Type 0 where
 abbrev pub IsTimer : Timer → List Observation → Type 0
 IsTimer t [] = ⊥
 IsTimer t (e ∷ es) =
-    (t.sends ≡ length es + 1)
+    (t.transmissions ≡ length es + 1)
     × (t.started ≡ (oldest e es).now)
     × (t.timeout ≡ (2000 + (oldest e es).draw) * 2 ^ length es)
     × (t.due ≡ e.now + t.timeout)

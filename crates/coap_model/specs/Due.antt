@@ -54,9 +54,9 @@ pub record IsToServeAgain (past : List Action) (v at : ℕ) : Type 0 where
   pub service : service_of v past ≡ Some told
   pub at_is : at ≡ next_send (sends_by (serves v) past)
 
-pub data IsClientDue (setting : Setting) (past : List Action) (v at : ℕ) : Type 0 where
-  to_serve : IsToServe setting past v at → IsClientDue setting past v at
-  to_serve_again : IsToServeAgain past v at → IsClientDue setting past v at
+pub data IsWaiterDue (setting : Setting) (past : List Action) (v at : ℕ) : Type 0 where
+  to_serve : IsToServe setting past v at → IsWaiterDue setting past v at
+  to_serve_again : IsToServeAgain past v at → IsWaiterDue setting past v at
 
 -- ---- both
 
@@ -65,7 +65,7 @@ abbrev pub IsDueAt : Setting → List Action → Act → ℕ → Type 0
 IsDueAt setting past no_item at = ⊥
 IsDueAt setting past (admits v x) at = ⊥
 IsDueAt setting past (moves x) at = IsExchangeDue setting past x at
-IsDueAt setting past (serves v) at = IsClientDue setting past v at
+IsDueAt setting past (serves v) at = IsWaiterDue setting past v at
 
 -- at the same moment, exchanges come before waiters, each in order of number
 abbrev pub ComesBefore : Act → Act → Type 0

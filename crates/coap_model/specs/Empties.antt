@@ -22,13 +22,13 @@ abbrev pub closes : State → ℕ → ℕ → Step
 closes w now number = silent Acked (record (later w now) { waiters = without number w.waiters })
 
 -- an acknowledgement or a Reset of an answer that a client was sent
-abbrev pub on_told : State → ℕ → Option ℕ → Step
-on_told w now None = ignores w now
-on_told w now (Some number) = closes w now number
+abbrev pub on_delivered : State → ℕ → Option ℕ → Step
+on_delivered w now None = ignores w now
+on_delivered w now (Some number) = closes w now number
 
-abbrev pub on_client : State → ℕ → Endpoint → Message → Step
-on_client w now source m =
-    on_told w now (first_that (waiters.was_sent_as source m.id now) w.waiters)
+abbrev pub on_delivery : State → ℕ → Endpoint → Message → Step
+on_delivery w now source m =
+    on_delivered w now (first_that (waiters.was_sent_as source m.id now) w.waiters)
 
 -- an acknowledgement of a request, or a Reset, which is its answer
 abbrev pub settles : State → ℕ → Bool → Endpoint → Message → ℕ → Exchange → Step
@@ -40,12 +40,12 @@ settles w now grown source m number x =
 -- an exchange whose number was found exists, so the first case never occurs; if it was acknowledged
 -- or answered before, the message doesn't refer to a request
 abbrev pub on_exchange : State → ℕ → Bool → Endpoint → Message → ℕ → Option Exchange → Step
-on_exchange w now grown source m number None = on_client w now source m
+on_exchange w now grown source m number None = on_delivery w now source m
 on_exchange w now grown source m number (Some x) =
-    if is_sent x then settles w now grown source m number x else on_client w now source m
+    if is_sent x then settles w now grown source m number x else on_delivery w now source m
 
 abbrev pub on_sent : State → ℕ → Bool → Endpoint → Message → Option ℕ → Step
-on_sent w now grown source m None = on_client w now source m
+on_sent w now grown source m None = on_delivery w now source m
 on_sent w now grown source m (Some number) =
     on_exchange w now grown source m number (item_at number w.exchanges)
 

@@ -1,6 +1,6 @@
 -- What one client leaves to the others: a client below its own limits is turned away only if a
--- limit that all clients share is reached, or if Message IDs are short. This file names no table: of
--- a proxy, only its setting matters.
+-- limit that all clients share is reached, or if Message IDs are short. This file names no table:
+-- of a proxy, only its setting matters.
 use Rattle.std.specs.Prelude.{◌≡◌, ◌≢◌, ℕ, ◌*◌, ◌≤◌, true, List, [], ◌∷◌, length}
 use Rattle.std.specs.List.{list_any}
 use Rattle.coap_message.specs.Message.{Message}

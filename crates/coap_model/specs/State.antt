@@ -24,7 +24,7 @@ use Rattle.coap_model.specs.declared.report.ClientCounts.{ClientCounts}
 use Rattle.coap_model.specs.declared.report.Counts.{Counts}
 use Rattle.coap_limits.specs.Limits.{Limits}
 use Rattle.coap_model.specs.Setting.{Setting}
-use Rattle.coap_forward.specs.Messages.{is_con, reset, acknowledgement, told_again}
+use Rattle.coap_forward.specs.Messages.{is_con, reset, acknowledgement, kept_reply}
 
 pub record State : Type 0 where
   pub setting : Setting
@@ -126,7 +126,7 @@ known_of w now source m = record_of source m.id (living_at now (records_of m.kin
 -- the record of a message, if this datagram is sent immediately in return
 abbrev pub record_made : ℕ → Endpoint → Message → List ℕ → Record
 record_made now source m bytes =
-    record { from = source; id = m.id; at = now; reply = told_again m.kind bytes }
+    record { from = source; id = m.id; at = now; reply = kept_reply m.kind bytes }
 
 -- the message is remembered, with this datagram as what is sent immediately in return
 abbrev pub with_record : ℕ → Endpoint → Message → List ℕ → State → State

@@ -133,8 +133,8 @@ given_to w now v to_get a = shown_as v.kind to_get now a (next_id w) v.token v.t
 
 -- the clients, after one was sent this message: a Confirmable one will be retransmitted until it is
 -- acknowledged
-abbrev pub told : State → ℕ → ℕ → ℕ → Message → List (Numbered Waiter)
-told w now draw number m =
+abbrev pub waiters_after : State → ℕ → ℕ → ℕ → Message → List (Numbered Waiter)
+waiters_after w now draw number m =
     if is_con m.kind
     then changed_at number (delivered (spelling m) m.id (started now draw)) w.waiters
     else without number w.waiters
@@ -152,7 +152,7 @@ tells w now v exchange m waiters =
 abbrev pub delivers : State → ℕ → ℕ → ℕ → Waiter → ℕ → Bool → Answer → Step
 delivers w now draw number v exchange to_get a =
     tells w now v exchange (given_to w now v to_get a)
-    (told w now draw number (given_to w now v to_get a))
+    (waiters_after w now draw number (given_to w now v to_get a))
 
 -- a waiting client is due when its exchange has its answer, so the first cases of this and of
 -- `on_awaited` never occur

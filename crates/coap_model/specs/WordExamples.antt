@@ -32,8 +32,8 @@ at before action = record { before = before; action = action }
 -- ---- replies from the cache
 
 -- a reply to the request of `reply`, with these bytes for this endpoint
-abbrev pub replied : ℕ → Endpoint → List ℕ → Observation
-replied now to bytes =
+abbrev pub reply_with : ℕ → Endpoint → List ℕ → Observation
+reply_with now to bytes =
     record (reply now 0).observation {
       report = record (reply now 0).observation.report { send = Some to };
       bytes = bytes;
@@ -42,16 +42,16 @@ replied now to bytes =
 -- the entry is stale by a millisecond, and is sent with a Max-Age of 0
 abbrev pub stale_reply : Observation
 stale_reply =
-    replied 10006 (client 4) (0x50 ∷ 0x45 ∷ 0 ∷ 4 ∷ 0xD0 ∷ 1 ∷ 0xFF ∷ 0x32 ∷ 0x31 ∷ [])
+    reply_with 10006 (client 4) (0x50 ∷ 0x45 ∷ 0 ∷ 4 ∷ 0xD0 ∷ 1 ∷ 0xFF ∷ 0x32 ∷ 0x31 ∷ [])
 
 -- a token of one byte in place of none
 abbrev pub with_a_token : Observation
 with_a_token =
-    replied 25 (client 4) (0x51 ∷ 0x45 ∷ 0 ∷ 4 ∷ 0xAA ∷ 0xD1 ∷ 1 ∷ 9 ∷ 0xFF ∷ 0x32 ∷ 0x31 ∷ [])
+    reply_with 25 (client 4) (0x51 ∷ 0x45 ∷ 0 ∷ 4 ∷ 0xAA ∷ 0xD1 ∷ 1 ∷ 9 ∷ 0xFF ∷ 0x32 ∷ 0x31 ∷ [])
 
 -- the right bytes for another client
 abbrev pub to_another : Observation
-to_another = replied 25 (client 5) (reply 25 9).observation.bytes
+to_another = reply_with 25 (client 5) (reply 25 9).observation.bytes
 
 -- ---- validations
 

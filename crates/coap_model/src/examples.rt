@@ -20,7 +20,7 @@ ghost use Rattle.coap_target.specs.declared.error.TargetError.TheVariants.{OutOf
 ghost use Rattle.coap_model.specs.Memory.{takes_memory};
 ghost use Rattle.coap_model.specs.Ticks.{next_due};
 ghost use Rattle.coap_model.specs.History.{comes_con};
-ghost use Rattle.coap_forward.specs.Messages.{eight_zeros, own_reply, reply_kind, told_again};
+ghost use Rattle.coap_forward.specs.Messages.{eight_zeros, own_reply, reply_kind, kept_reply};
 ghost use Rattle.coap_model.specs.Justified.{HaveOneMemory};
 ghost use Rattle.coap_model.specs.Runs.{turns_of, AreTurns};
 ghost use Rattle.coap_model.specs.Examples.{to, get_t, bare_get, origin, from, tick_at, client, play, proxy, small_proxy, narrow_proxy, first_answer, first_answer_sent, late_answer, late_answer_sent, error, error_sent, fault, fault_sent, changed, changed_sent, valid, replaced_sent, block_in_response, long_max_age, impostor, impostor_sent, refusals, refusals_sent, long_paths, long_paths_sent, long_segments, long_segments_sent, payload_in_get, payload_in_get_sent, full, full_sent, unprocessed_messages, unprocessed_messages_sent, too_long, too_long_sent, payload_of, payload_of_109_sent, spent_proxy, last_id, last_id_sent, wrapping_proxy, wrapping, wrapping_sent, content_for_client};
@@ -153,7 +153,7 @@ pub fn forms_and_tables()
     ensures own { spelling (own_reply NOT_FOUND [] 7 (0xAA ∷ []))
         ≡ 0x51 ∷ 0x84 ∷ 0 ∷ 7 ∷ 0xAA ∷ [] }
     ensures to_no_request { reply_kind Ack ≡ Non }
-    ensures of_no_request { told_again Ack (9 ∷ []) ≡ None }
+    ensures of_no_request { kept_reply Ack (9 ∷ []) ≡ None }
     ensures gateway { spelling bad_gateway ≡ 0x50 ∷ 0xA2 ∷ 0 ∷ 0 ∷ [] }
     ensures greatest { uint_spelling greatest_max_age ≡ 0xFF ∷ 0xFF ∷ 0xFF ∷ 0xFF ∷ [] }
     ensures short_of_one { with_id 0x0102 (9 ∷ []) ≡ 9 ∷ [] }

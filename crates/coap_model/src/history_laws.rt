@@ -9,7 +9,7 @@ ghost use Rattle.coap_model.specs.Verdicts.{may_ask};
 ghost use Rattle.coap_model.specs.Events.{tick, arrival, IsEvent};
 ghost use Rattle.coap_model.specs.State.{client_counts, counts, State};
 ghost use Rattle.coap_model.specs.History.{Act, serves, takes, opened_in, Action, Position, IsPositionOf, Somewhere, Sends, Ends, Serves, LetsGo, Never, last_of, IsInOrder, IsRequestOf, Observation, gives_id, ids_in, Gives};
-ghost use Rattle.coap_forward.specs.Messages.{told_again, brings_requests};
+ghost use Rattle.coap_forward.specs.Messages.{kept_reply, brings_requests};
 ghost use Rattle.coap_model.specs.Justified.{HaveOneMemory, Comes, known_of, HasRecordRoom, Acknowledges, Closes, IsNew, IsUnprocessable, verdict_on, fits_on, IsMiss, IsJoinable, IsUnanswered, IsAwaited, IsActing, JustifiedBy, AllJustified, IsOwed, MayFollow, AreOfOneTurn, IsGet, IsUsable, HasIdFor, IsObtainedHere, size_here};
 ghost use Rattle.coap_model.specs.Runs.{answer_at};
 ghost use Rattle.coap_model.specs.Examples.{to, from, client};
@@ -315,7 +315,7 @@ pub fn duplicates_repeat_a_position()
         → IsPositionOf past p
         → Repeats now source message p
         → known_of past now source message ≡ Some known
-        → known.reply ≡ told_again message.kind p.action.observation.bytes }
+        → known.reply ≡ kept_reply message.kind p.action.observation.bytes }
     ensures sent { (setting : Setting) (past : List Action) (now : ℕ) (source : Endpoint)
         (message : Message) (p : Position)
         → AllJustified setting past

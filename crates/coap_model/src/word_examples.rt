@@ -20,7 +20,7 @@ ghost use Rattle.coap_model.specs.Held.{bytes_held};
 ghost use Rattle.coap_model.specs.History.{IsPositionOf, LetsGo};
 ghost use Rattle.coap_model.specs.OptionExamples.{key_of_temp};
 ghost use Rattle.coap_model.specs.Schedules.{AreSpaced, IsSchedule, MayGoOn};
-ghost use Rattle.coap_model.specs.Word.{IsFromCache, IsToldAgain, IsWithin, KeepsItsWord};
+ghost use Rattle.coap_model.specs.Word.{IsFromCache, IsRepliedAgain, IsWithin, KeepsItsWord};
 ghost use Rattle.coap_model.specs.State.{State};
 ghost use Rattle.coap_model.specs.WordExamples as words;
 ghost use Rattle.coap_model.specs.WordExamples.{at};
@@ -67,15 +67,15 @@ pub fn forged_validations_are_refused()
 /// A duplicate of a Confirmable request gets what was sent for it: not another datagram, nor none,
 /// nor at another endpoint, nor with another outcome.
 pub fn forged_repeats_are_refused()
-    ensures as_before { IsToldAgain (client 1) words.con_read (at [] opened_con)
+    ensures as_before { IsRepliedAgain (client 1) words.con_read (at [] opened_con)
         (words.again (Some (client 1)) (0x60 ∷ 0 ∷ 0 ∷ 7 ∷ [])) }
-    ensures another { ¬ IsToldAgain (client 1) words.con_read (at [] opened_con)
+    ensures another { ¬ IsRepliedAgain (client 1) words.con_read (at [] opened_con)
         (words.again (Some (client 1)) (0x60 ∷ 0 ∷ 0 ∷ 8 ∷ [])) }
-    ensures nothing { ¬ IsToldAgain (client 1) words.con_read (at [] opened_con)
+    ensures nothing { ¬ IsRepliedAgain (client 1) words.con_read (at [] opened_con)
         (words.again None []) }
-    ensures to_another { ¬ IsToldAgain (client 1) words.con_read (at [] opened_con)
+    ensures to_another { ¬ IsRepliedAgain (client 1) words.con_read (at [] opened_con)
         (words.again (Some (client 2)) (0x60 ∷ 0 ∷ 0 ∷ 7 ∷ [])) }
-    ensures in_another_word { ¬ IsToldAgain (client 1) words.con_read (at [] opened_con)
+    ensures in_another_word { ¬ IsRepliedAgain (client 1) words.con_read (at [] opened_con)
         (words.ignored (words.again (Some (client 1)) (0x60 ∷ 0 ∷ 0 ∷ 7 ∷ []))) }
 {}
 

@@ -12,7 +12,7 @@ use Rattle.coap_option.specs.declared.survey.Survey.{Survey}
 use Rattle.coap_option.specs.Passing.{before_of, places_after}
 use Rattle.coap_option.specs.Places.{PlacedOption, places}
 use Rattle.coap_option.specs.Screening.{is_refused, first_refused}
-use Rattle.coap_option.specs.Selection.{goes_on, is_key, is_of, key_of, stays}
+use Rattle.coap_option.specs.Selection.{goes_on, is_key, is_of, key_of, is_withheld}
 use Rattle.coap_option.specs.Side.{side_of}
 use Rattle.coap_option.specs.Survey.{IsSurvey, are_any, is_of_uri, of_none, widened, widened_by, with_all, with_one}
 use Rattle.coap_option.proofs.Clean.{all-alone, goes-on, in_key, key-screened, of-places, screened-clean}
@@ -65,12 +65,12 @@ all-same test alone [] same = tt
 all-same test alone (p ∷ ps) same = (same p, all-same test alone ps same)
 
 -- and of the options that are forwarded
-told-others : (code : Code) (s : Survey) (ps : List PlacedOption) → (with_all code s ps).others ≡ widened_by s.others (map (λ p. p.option) (filter (λ p. not (stays code p)) ps))
+told-others : (code : Code) (s : Survey) (ps : List PlacedOption) → (with_all code s ps).others ≡ widened_by s.others (map (λ p. p.option) (filter (λ p. not (is_withheld code p)) ps))
 told-others code s [] = refl
-told-others code s (p ∷ ps) = go (stays code p) (told-others code (with_one code s p) ps)
+told-others code s (p ∷ ps) = go (is_withheld code p) (told-others code (with_one code s p) ps)
   where
     more : List PlacedOption
-    more = filter (λ q. not (stays code q)) ps
+    more = filter (λ q. not (is_withheld code q)) ps
 
     go : (b : Bool) → (with_all code (with_one code s p) ps).others ≡ widened_by (cond b s.others (widened s.others p.option.number)) (map (λ q. q.option) more)
         → (with_all code (with_one code s p) ps).others ≡ widened_by s.others (map (λ q. q.option) (cond (not b) (p ∷ more) more))
@@ -84,7 +84,7 @@ surveyed-all m survey is screened =
     record {
       screened = screened;
       uri = sym (ap (λ (s : Survey). s.says_uri) is) ∙ told m.code (λ s. s.says_uri) (λ p. is_of_uri p.option.number) (λ s p. refl) of_none ps ∙ any-alone (λ p. is_of_uri p.option.number) (λ o. is_of_uri o.number) ps (all-same _ _ ps (λ p. refl)) ∙ ap (list_any (λ (o : Opt). is_of_uri o.number)) (of-places [] m.options);
-      key = sym (ap (λ (s : Survey). s.has_key) is) ∙ told m.code (λ s. s.has_key) (is_key m.code) (λ s p. refl) of_none ps ∙ any-picked (is_key m.code) (λ p. p.option) ps;
+      key = sym (ap (λ (s : Survey). s.has_key_options) is) ∙ told m.code (λ s. s.has_key_options) (is_key m.code) (λ s p. refl) of_none ps ∙ any-picked (is_key m.code) (λ p. p.option) ps;
       tags = sym (ap (λ (s : Survey). s.has_tags) is) ∙ told m.code (λ s. s.has_tags) (is_of (side_of m.code) 4) (λ s p. refl) of_none ps ∙ any-picked (is_of (side_of m.code) 4) (λ p. p.option.value) ps;
       others = sym (ap (λ (s : Survey). s.others) is) ∙ told-others m.code of_none ps;
     }

@@ -40,12 +40,12 @@ abbrev pub is_for_proxy : Code → ℕ → Bool
 is_for_proxy code number = is_used_up number || is_tag_of_get code number
 
 -- the option of a request isn't forwarded: it is recognised, and one of those
-abbrev pub stays : Code → PlacedOption → Bool
-stays code p = is_recognised_at Request p && is_for_proxy code p.option.number
+abbrev pub is_withheld : Code → PlacedOption → Bool
+is_withheld code p = is_recognised_at Request p && is_for_proxy code p.option.number
 
 -- the options of a request that are forwarded
 abbrev pub sent_on : Message → List Opt
-sent_on m = selected (λ p. not (stays m.code p)) m.options
+sent_on m = selected (λ p. not (is_withheld m.code p)) m.options
 
 -- If no option is refused, an option alone, apart from its place, determines whether it is
 -- forwarded (`laws::what_goes_on_shows_by_itself` of `coap_model`): it isn't consumed, and isn't a
@@ -59,7 +59,7 @@ goes_on code o =
 
 -- the option of a request is part of the cache key (RFC 7252, 5.4.2)
 abbrev pub is_key : Code → PlacedOption → Bool
-is_key code p = not (stays code p) && not (is_no_cache_key p.option.number)
+is_key code p = not (is_withheld code p) && not (is_no_cache_key p.option.number)
 
 -- the options of a request that are part of the cache key (RFC 7252, 5.6)
 abbrev pub key_of : Message → List Opt

@@ -10,7 +10,7 @@ use Rattle.coap_option.specs.declared.survey.Span.{Span}
 use Rattle.coap_option.specs.declared.survey.Survey.{Survey}
 use Rattle.coap_option.specs.Places.{PlacedOption}
 use Rattle.coap_option.specs.Screening.{first_refused}
-use Rattle.coap_option.specs.Selection.{is_key, is_of, key_of, sent_on, stays, tags_of}
+use Rattle.coap_option.specs.Selection.{is_key, is_of, key_of, sent_on, is_withheld, tags_of}
 use Rattle.coap_option.specs.Side.{side_of}
 
 -- an option with this number gives a URI, or its scheme (RFC 7252, 5.10.2)
@@ -50,7 +50,7 @@ are_any (x ∷ xs) = true
 pub record IsSurvey (m : Message) (survey : Survey) : Type 0 where
   pub screened : first_refused Request m.options ≡ None
   pub uri : survey.says_uri ≡ says_uri m
-  pub key : survey.has_key ≡ are_any (key_of m)
+  pub key : survey.has_key_options ≡ are_any (key_of m)
   pub tags : survey.has_tags ≡ are_any (tags_of m)
   pub others : survey.others ≡ span_of (sent_on m)
 
@@ -59,9 +59,9 @@ abbrev pub with_one : Code → Survey → PlacedOption → Survey
 with_one code survey p =
     record {
       says_uri = survey.says_uri || is_of_uri p.option.number;
-      has_key = survey.has_key || is_key code p;
+      has_key_options = survey.has_key_options || is_key code p;
       has_tags = survey.has_tags || is_of (side_of code) ETAG p;
-      others = if stays code p then survey.others else widened survey.others p.option.number;
+      others = if is_withheld code p then survey.others else widened survey.others p.option.number;
     }
 
 -- and of all of a list
@@ -71,4 +71,4 @@ with_all code survey (p ∷ ps) = with_all code (with_one code survey p) ps
 
 -- a survey of no options
 abbrev pub of_none : Survey
-of_none = record { says_uri = false; has_key = false; has_tags = false; others = None }
+of_none = record { says_uri = false; has_key_options = false; has_tags = false; others = None }

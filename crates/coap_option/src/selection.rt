@@ -2,7 +2,7 @@
 //! cached (RFC 7252, 5.4.2, 5.6, 5.7 and 5.10).
 ghost use Rattle.std.specs.Prelude.{◌≡◌, ◌≢◌, [], IfOk, OnOk, OnErr, not};
 ghost use Rattle.coap_message.specs.OptRef.{seen};
-ghost use Rattle.coap_option.specs.Selection.{goes_on, is_for_proxy, is_key, is_of, is_tag_of_get, is_used_up, key_of, max_age_of, sent_on, stays, tags_of};
+ghost use Rattle.coap_option.specs.Selection.{goes_on, is_for_proxy, is_key, is_of, is_tag_of_get, is_used_up, key_of, max_age_of, sent_on, is_withheld, tags_of};
 
 use crate::classes::is_no_cache_key;
 use crate::numbers;
@@ -67,7 +67,7 @@ pub fn goes_on(code: Code, option: OptRef<'_>) -> bool
 struct Forwarded(Code);
 
 impl Test for Forwarded {
-    ghost holds = { λ t p. not (stays t.0 p) };
+    ghost holds = { λ t p. not (is_withheld t.0 p) };
 
     fn holds_of(&self, option: OptRef<'_>, before: usize, row: Option<Row>) -> bool {
         !(is_for_proxy(self.0, option.number)

@@ -45,7 +45,7 @@ pub struct Survey {
     /// The target is given as a URI, by a Proxy-Uri or a Proxy-Scheme (RFC 7252, 5.10.2).
     pub says_uri: bool,
     /// Some options are part of the cache key (RFC 7252, 5.4.2 and 5.6).
-    pub has_key: bool,
+    pub has_key_options: bool,
     /// Some ETags are recognised (RFC 7252, 5.10.6).
     pub has_tags: bool,
     /// The options that are forwarded beside those of the target, if there are any, have numbers
@@ -60,7 +60,7 @@ impl Survey {
     {
         Survey {
             says_uri: false,
-            has_key: false,
+            has_key_options: false,
             has_tags: false,
             others: None,
         }
@@ -84,15 +84,15 @@ impl Survey {
             ≡ with_one code self (record { option = seen option.entry; before = before }) }
     {
         let number = option.number;
-        let stays = known && is_for_proxy(code, number);
+        let withheld = known && is_for_proxy(code, number);
         let is_uri = number == numbers::PROXY_URI || number == numbers::PROXY_SCHEME;
         let is_tag = number == numbers::ETAG
             && option_recognised(Side::of(code), option, before, row);
         Survey {
             says_uri: self.says_uri || is_uri,
-            has_key: self.has_key || (!stays && !is_no_cache_key(number)),
+            has_key_options: self.has_key_options || (!withheld && !is_no_cache_key(number)),
             has_tags: self.has_tags || is_tag,
-            others: if stays {
+            others: if withheld {
                 self.others
             } else {
                 widened(self.others, number)
@@ -116,7 +116,7 @@ impl Survey {
         ensures emptied { OnErr result (list.new ≡ []) }
     {
         list.clear();
-        if !self.has_key {
+        if !self.has_key_options {
             return Ok(());
         }
         let added = push_key_options(list, request);

@@ -10,7 +10,7 @@ use Rattle.coap_pending.specs.Timers.{goes_on, fire_of, sent_again, fired, IsSho
 
 -- what a timer knows of the sendings
 record Tells (draw now : ℕ) (moments : List ℕ) (t : Timer) : Type 0 where
-  sends : t.sends ≡ length moments + 1
+  transmissions : t.transmissions ≡ length moments + 1
   began : t.started ≡ oldest now moments
   timeout : t.timeout ≡ (2000 + draw) * 2 ^ length moments
   due : t.due ≡ now + (2000 + draw) * 2 ^ length moments
@@ -40,24 +40,24 @@ twice a n = mul_assoc a (2 ^ n) 2 ∙ ap (λ (k : ℕ). a * k) (sym (pow-suc 2 n
 
 -- a timer tells its schedule
 tells-schedule : (draw now : ℕ) (moments : List ℕ) (t : Timer) → IsTimerOf draw (now ∷ moments) t → Tells draw now moments t × AreSpaced draw (now ∷ moments)
-tells-schedule draw now [] t is = (rw is (record { sends = refl; began = refl; timeout = omega arith; due = omega arith; few = omega arith }), tt)
+tells-schedule draw now [] t is = (rw is (record { transmissions = refl; began = refl; timeout = omega arith; due = omega arith; few = omega arith }), tt)
 tells-schedule draw now (before ∷ moments) t is =
     let u = is.0 in
     let rest = tells-schedule draw before moments u is.1 in
     let told = rest.0 in
     let on = again-goes_on now u is.3 in
-    let tests = and-true (nat_lt u.sends 5) (nat_lt (now - u.started) 93000) on in
-    let few = ltb-true u.sends 5 tests.0 in
+    let tests = and-true (nat_lt u.transmissions 5) (nat_lt (now - u.started) 93000) on in
+    let few = ltb-true u.transmissions 5 tests.0 in
     let soon = ltb-true (now - u.started) 93000 tests.1 in
     let doubled : u.timeout * 2 ≡ (2000 + draw) * 2 ^ length (before ∷ moments) = ap (λ (k : ℕ). k * 2) told.timeout ∙ twice (2000 + draw) (length moments) in
     let due : before + (2000 + draw) * 2 ^ length moments ≤ now = subst (λ (d : ℕ). d ≤ now) told.due is.2 in
     let began = told.began in
-    let sends = told.sends in
-    let more : u.sends ≡ length (before ∷ moments) = omega arith in
+    let transmissions = told.transmissions in
+    let more : u.transmissions ≡ length (before ∷ moments) = omega arith in
     let near : now < oldest before moments + 93000 = subst (λ (m : ℕ). now < m + 93000) began (omega arith) in (
       subst (Tells draw now (before ∷ moments)) (sym (is.4 ∙ one_more now u on))
           (record {
-            sends = omega arith;
+            transmissions = omega arith;
             began = began;
             timeout = doubled;
             due = ap (λ (k : ℕ). now + k) doubled;
@@ -76,7 +76,7 @@ schedule-kept draw (now ∷ moments) t is =
 -- ---- how long timeouts are
 
 -- one more sending is counted, and the timeout doubled
-doubled-short : (timeout sends : ℕ) → sends < 5 → timeout ≤ 3000 * 2 ^ min sends 5 → timeout * 2 ≤ 3000 * 2 ^ min (sends + 1) 5
+doubled-short : (timeout transmissions : ℕ) → transmissions < 5 → timeout ≤ 3000 * 2 ^ min transmissions 5 → timeout * 2 ≤ 3000 * 2 ^ min (transmissions + 1) 5
 doubled-short timeout zero few s = omega arith
 doubled-short timeout (suc zero) few s = omega arith
 doubled-short timeout (suc (suc zero)) few s = omega arith
@@ -89,7 +89,7 @@ pub fired-short : (now : ℕ) (t : Timer) → IsShort t → IsShort (fired now t
 fired-short now t s = go (goes_on now t) refl
   where
     go : (b : Bool) → goes_on now t ≡ b → IsShort (if b then sent_again now t else t)
-    go true e = doubled-short t.timeout t.sends (ltb-true t.sends 5 (and-true (nat_lt t.sends 5) (nat_lt (now - t.started) 93000) e).0) s
+    go true e = doubled-short t.timeout t.transmissions (ltb-true t.transmissions 5 (and-true (nat_lt t.transmissions 5) (nat_lt (now - t.started) 93000) e).0) s
     go false e = s
 
 -- it is doubled five times at most
@@ -98,8 +98,8 @@ most-times n = pow-le-pow_right {n = 2} (omega arith) (min-le_right n 5)
 
 -- a first timeout is short
 pub first-short : (t : Timer) → t.timeout ≤ 3000 → IsShort t
-first-short t le = let times = pow_pos (min t.sends 5) in omega arith
+first-short t le = let times = pow_pos (min t.transmissions 5) in omega arith
 
 -- what is short can be doubled
 pub short-bound : (t : Timer) → IsShort t → t.timeout ≤ 2 ^ 32
-short-bound t s = let times = most-times t.sends in omega arith
+short-bound t s = let times = most-times t.transmissions in omega arith

@@ -96,12 +96,12 @@ abbrev pub is_joinable : CacheKey → Exchange → Bool
 is_joinable key x = x.is_get && (not x.tainted && (is_missing (answer_at x) && same_key x.key key))
 
 -- the sending has this id and started less than 247,000 ms ago
-abbrev pub is_as : ℕ → ℕ → Sending → Bool
-is_as id now s = (s.id == id) && nat_lt (now - s.timer.started) 247000
+abbrev pub is_meant_by : ℕ → ℕ → Sending → Bool
+is_meant_by id now s = (s.id == id) && nat_lt (now - s.timer.started) 247000
 
 abbrev pub is_some_as : ℕ → ℕ → Option Sending → Bool
 is_some_as id now None = false
-is_some_as id now (Some s) = is_as id now s
+is_some_as id now (Some s) = is_meant_by id now s
 
 -- its request was sent with this id
 abbrev pub was_sent_with : ℕ → Option Sending → Bool
@@ -175,11 +175,11 @@ changed_by change.Acknowledge = acked
 changed_by (change.Answer a) = answered a
 
 -- whether an exchange is in the sent state after a change, given whether it was before
-abbrev pub sends : Change → Bool → Bool
-sends (change.Send s) was = true
-sends (change.Fire now) was = was
-sends change.Acknowledge was = false
-sends (change.Answer a) was = false
+abbrev pub is_sent_after : Change → Bool → Bool
+is_sent_after (change.Send s) was = true
+is_sent_after (change.Fire now) was = was
+is_sent_after change.Acknowledge was = false
+is_sent_after (change.Answer a) was = false
 
 -- the moment of a change is within the allowed range, and a first timeout is at most 3,000 ms
 abbrev pub is_timely : Change → Bool
@@ -247,8 +247,8 @@ IsFireDue (change.Fire now) found = IfSome found (IsDue now)
 IsFireDue change.Acknowledge found = Unit {0}
 IsFireDue (change.Answer a) found = Unit {0}
 
--- An update is possible: a change comes at a moment in range, fires only a timer that has ended, and
--- leaves no exchange waiting for its turn. Any exchange can be removed.
+-- An update is possible: a change comes at a moment in range, fires only a timer that has ended,
+-- and leaves no exchange waiting for its turn. Any exchange can be removed.
 abbrev pub CanUpdate : Option Change → Option Exchange → Type 0
 CanUpdate None found = Unit {0}
 CanUpdate (Some change) found =

@@ -8,12 +8,12 @@ use Rattle.coap_pending.specs.declared.timer.Timer.{Timer}
 -- the message is sent for the first time, now
 abbrev pub started : ℕ → ℕ → Timer
 started now draw =
-    record { started = now; timeout = 2000 + draw; due = now + (2000 + draw); sends = 1 }
+    record { started = now; timeout = 2000 + draw; due = now + (2000 + draw); transmissions = 1 }
 
 -- it is to be sent once more: it was sent fewer than five times, and less than 93,000 ms have
 -- passed
 abbrev pub goes_on : ℕ → Timer → Bool
-goes_on now t = nat_lt t.sends 5 && nat_lt (now - t.started) 93000
+goes_on now t = nat_lt t.transmissions 5 && nat_lt (now - t.started) 93000
 
 abbrev pub fire_of : ℕ → Timer → Fire
 fire_of now t = if goes_on now t then Again else GiveUp
@@ -25,7 +25,7 @@ sent_again now t =
       started = t.started;
       timeout = t.timeout * 2;
       due = now + t.timeout * 2;
-      sends = t.sends + 1;
+      transmissions = t.transmissions + 1;
     }
 
 -- the timer after it has fired
@@ -36,7 +36,7 @@ fired now t = if goes_on now t then sent_again now t else t
 
 -- the current timeout is at most 3,000 ms doubled with each sending
 abbrev pub IsShort : Timer → Type 0
-IsShort t = t.timeout ≤ 3000 * 2 ^ min t.sends 5
+IsShort t = t.timeout ≤ 3000 * 2 ^ min t.transmissions 5
 
 -- ---- the schedule
 

@@ -1,7 +1,7 @@
 //! Exchanges: requests on their way to an origin.
 ghost use Rattle.std.specs.Prelude.{◌≡◌, ◌≤◌, ◌^◌};
 ghost use Rattle.std.specs.Option.{option_copied};
-ghost use Rattle.coap_pending.specs.Exchanges.{answer_at, changed_by, fire_of_sending, fired_exchange, is_as, is_acked, is_changed_with, is_joinable, is_queued, is_sent, tainted_by, was_sent_as, CanChange, CanFire, is_queued_to, sends, asked_of, is_in_flight, was_sent_with};
+ghost use Rattle.coap_pending.specs.Exchanges.{answer_at, changed_by, fire_of_sending, fired_exchange, is_meant_by, is_acked, is_changed_with, is_joinable, is_queued, is_sent, tainted_by, was_sent_as, CanChange, CanFire, is_queued_to, is_sent_after, asked_of, is_in_flight, was_sent_with};
 
 use crate::timer::{Fire, Timer};
 use coap_endpoint::{Endpoint, Target};
@@ -23,8 +23,8 @@ pub struct Sending {
 
 impl Sending {
     /// Whether it has this id, and started less than 247,000 milliseconds before `now`.
-    pub fn is_as(&self, id: u16, now: Moment) -> bool
-        ensures exact { result ≡ is_as id now self.now }
+    pub fn is_meant_by(&self, id: u16, now: Moment) -> bool
+        ensures exact { result ≡ is_meant_by id now self.now }
     {
         self.id == id && now.saturating_sub(self.timer.started) < EXCHANGE_LIFETIME
     }
@@ -33,9 +33,8 @@ impl Sending {
 /// The state of an exchange.
 ///
 /// ```text
-///           a tick sends          acknowledged           the answer            its last waiter
-/// Queued  -------------->  Sent  -------------->  Acked  --------->  Done     ----------------> closed
-///                                                                  is served
+///          a tick sends        acknowledged         the answer        its last waiter is served
+/// Queued  ------------->  Sent  ------------>  Acked  -------->  Done  ----------------> closed
 /// ```
 ///
 /// An answer may come in each of the first three states: a response, or the proxy's own answer,
@@ -106,8 +105,8 @@ pub enum Change {
 
 impl Change {
     /// Whether an exchange is in the sent state after this change, given whether it was before.
-    pub fn sends(&self, was: bool) -> bool
-        ensures exact { result ≡ sends self.now was }
+    pub fn is_sent_after(&self, was: bool) -> bool
+        ensures exact { result ≡ is_sent_after self.now was }
     {
         match self {
             Change::Send(_) => true,
@@ -206,7 +205,7 @@ impl Exchange {
         ensures exact { result ≡ was_sent_as at id now self.now }
     {
         match &self.sending {
-            Some(sending) => self.key.key().target.at == at && sending.is_as(id, now),
+            Some(sending) => self.key.key().target.at == at && sending.is_meant_by(id, now),
             None => false,
         }
     }

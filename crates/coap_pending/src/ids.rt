@@ -1,4 +1,4 @@
-//! Message ids (RFC 7252, 4.4).
+//! Message IDs (RFC 7252, 4.4).
 ghost use Rattle.std.specs.Prelude.{◌≡◌};
 ghost use Rattle.coap_pending.specs.Ids.{called, left_of, new_ids, next_of};
 

@@ -23,8 +23,8 @@ pub fn ids_differ()
         ≡ 32768 - count_in (window now) (given_by first moments) }
 {}
 
-/// The sendings of a message whose timer is started and fired follow the schedule (RFC 7252, 4.2
-/// and 4.8): there are at most five, and the gaps double.
+/// The transmissions of a message whose timer is started and fired follow the schedule (RFC 7252,
+/// 4.2 and 4.8): there are at most five, and the gaps double.
 pub fn timers_meet_the_schedule()
     ensures { (draw : ℕ) (moments : List ℕ) (t : Timer)
         → IsTimerOf draw moments t

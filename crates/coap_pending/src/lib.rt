@@ -1,4 +1,4 @@
-//! What is pending: Message IDs, timers, exchanges with origins, and the clients that wait for them
+//! What is pending: Message IDs, timers, exchanges with origins, and the waiters that wait for them
 //! (RFC 7252, 4 and 5.2), each as one value. The tables that hold them are above this crate.
 //!
 //! # First use

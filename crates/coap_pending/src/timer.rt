@@ -18,14 +18,14 @@ pub enum Fire {
 /// and timeouts are in milliseconds.
 #[derive(Clone, Copy)]
 pub struct Timer {
-    /// The moment of the first sending.
+    /// The moment when the message was first sent.
     pub started: Moment,
     /// The length of the current timeout.
     pub timeout: u64,
     /// When the current timeout ends.
     pub due: Moment,
     /// How many times the message was sent.
-    pub sends: u8,
+    pub transmissions: u8,
 }
 
 impl Timer {
@@ -41,7 +41,7 @@ impl Timer {
             started: now,
             timeout,
             due: now + timeout,
-            sends: 1,
+            transmissions: 1,
         }
     }
 
@@ -49,9 +49,9 @@ impl Timer {
     /// less than 93,000 milliseconds ago.
     fn goes_on(&self, now: Moment) -> bool
         ensures exact { result ≡ goes_on now self.now }
-        ensures few { result ≡ true → self.now.sends < 5 }
+        ensures few { result ≡ true → self.now.transmissions < 5 }
     {
-        self.sends <= MAX_RETRANSMIT && now.saturating_sub(self.started) < MAX_TRANSMIT_WAIT
+        self.transmissions <= MAX_RETRANSMIT && now.saturating_sub(self.started) < MAX_TRANSMIT_WAIT
     }
 
     /// What is to be done if it is due now.
@@ -80,7 +80,7 @@ impl Timer {
         }
         self.timeout *= 2;
         self.due = now + self.timeout;
-        self.sends += 1;
+        self.transmissions += 1;
         Fire::Again
     }
 }

@@ -18,7 +18,7 @@ pub type WaiterNumber = u64;
 /// Waiting  ------------------------------------------>  closed, if its request was Non-confirmable
 ///    |
 ///    +------>  Delivering  -------------------------->  closed
-///                           acknowledged, or given up
+///                           acknowledged, rejected or given up
 /// ```
 #[derive(Drop)]
 pub enum WaiterState {
@@ -36,6 +36,7 @@ pub enum WaiterState {
 
 /// A request that waits for an exchange, or whose answer isn't acknowledged yet.
 pub struct Waiter {
+    /// The client that sent the request.
     pub client: Endpoint,
     /// The type of the message that carried its request.
     pub kind: Kind,

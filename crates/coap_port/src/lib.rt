@@ -21,7 +21,7 @@ mod port;
 mod stats;
 mod turns;
 
-pub use coap_core::{Seen, Unwatched, Watch};
+pub use coap_core::{Unwatched, Watch, WatchedTurn};
 pub use drives::{drive, drive_watched};
 pub use error::{DriveError, PortFault};
 pub use memory::{Handed, MemoryPort, Scripted};

@@ -6,7 +6,7 @@ ghost use Rattle.coap_port.specs.Stats.{AreWithin, no_stats, with_turn};
 use crate::error::PortFault;
 use crate::port::Port;
 use crate::stats::Stats;
-use coap_core::{Core, Seen, Watch};
+use coap_core::{Core, Watch, WatchedTurn};
 use coap_endpoint::Endpoint;
 use coap_message::{Datagram, Moment, OutOfMemory};
 use coap_store::Store;
@@ -127,7 +127,7 @@ impl Drive {
     {
         let wait = wait_for(self.came, port.last(), core.next_due());
         let turn = port.next(wait, &mut self.input)?;
-        let seen = Seen::begun(turn.now, turn.draw, turn.from, self.input.bytes());
+        let seen = WatchedTurn::begun(turn.now, turn.draw, turn.from, self.input.bytes());
         watcher.foresee(seen, core);
         match core.step(turn.now, turn.draw, seen.event, &mut self.output) {
             Ok(report) => {

@@ -67,8 +67,8 @@ pub fn header_of(
 /// A replay skips it, too.
 ///
 /// # Errors
-/// `TooLong` if it is longer than the 16,384 bytes that a replay reads; `OutOfMemory`. Part of it may
-/// have been added then.
+/// `TooLong` if it is longer than the 16,384 bytes that a replay reads; `OutOfMemory`. Part of it
+/// may have been added then.
 pub fn put_since(header: &mut Vec<u8>, moment: &str) -> Result<(), HeaderError>
     ensures exact { OnOk result (header.new.items
         ≡ header.old.items ++ ended (spec.since_line moment.now ∷ [])) }

@@ -17,7 +17,7 @@ pub mod laws;
 mod replays;
 mod whole;
 
-pub use coap_core::{Seen, Unwatched, Watch};
+pub use coap_core::{Unwatched, Watch, WatchedTurn};
 pub use coap_lines::{Input, Output};
 pub use error::ReplayError;
 pub use replays::{Budget, replay_turns, replay_watched};

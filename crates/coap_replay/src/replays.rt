@@ -9,7 +9,7 @@ ghost use Rattle.coap_lines.specs.Turns.{turn_seen};
 
 use crate::buffers::Buffers;
 use crate::error::ReplayError;
-use coap_core::{Core, MOST_EVENTS, Report, Seen, Unwatched, Watch};
+use coap_core::{Core, MOST_EVENTS, Report, Unwatched, Watch, WatchedTurn};
 use coap_lines::{Input, Next, Output, Turn, is_skipped, put_line, read_turn};
 use coap_message::{Datagram, Moment};
 use coap_store::Store;
@@ -120,7 +120,7 @@ fn do_turn<W: Write, S: Store + Drop, V: Watch>(
     ensures room { HaveRoom core.new.setting.limits.datagram buffers.new }
 {
     let NumberedTurn { turn, number } = line;
-    let seen = Seen::begun(turn.now, turn.draw, turn.from, buffers.input.bytes());
+    let seen = WatchedTurn::begun(turn.now, turn.draw, turn.from, buffers.input.bytes());
     watcher.foresee(seen, core);
     let Ok(report) = core.step(turn.now, turn.draw, seen.event, &mut buffers.output) else {
         watcher.see(seen, core);

@@ -154,7 +154,8 @@ fn put_metric(
     put(out, b"\n")
 }
 
-/// A metric that has several numbers, told apart by a label: of the whole proxy, or of a part of it.
+/// A metric that has several numbers, told apart by a label: of the whole proxy, or of a part of
+/// it.
 #[derive(Clone, Copy)]
 pub(crate) struct Family<'a> {
     pub(crate) metric: Metric,
@@ -389,12 +390,12 @@ fn put_own(out: &mut Vec<u8>, listen: &str, statistics: &Statistics) -> Result<(
     put_cache(out, listen, statistics)
 }
 
-/// Adds the counts as metrics, each with its help and its type: what turns did, by its outcome where
-/// there are several; what became of the requests that went through each map; what each origin was
-/// sent and answered; what the proxy holds, and its limits; then who had most of each table that was
-/// full. The numbers and their keys are
-/// those of `put_line`. Each has the label `listen`, where this proxy listens, such as
-/// `0.0.0.0:5683`: by that it is told from others on its host.
+/// Adds the counts as metrics, each with its help and its type: what turns did, by its outcome
+/// where there are several; what became of the requests that went through each map; what each
+/// origin was sent and answered; what the proxy holds, and its limits; then who had most of each
+/// table that was full. The numbers and their keys are those of `put_line`. Each has the label
+/// `listen`, where this proxy listens, such as `0.0.0.0:5683`: by that it is told from others on
+/// its host.
 ///
 /// # Errors
 /// Out of memory. Part of the text was added then.

@@ -6,7 +6,7 @@ ghost use Rattle.coap_stats.specs.Statistics as spec;
 
 use crate::tally::Tally;
 use crate::turns::{Foreseen, count_opening, count_origin, count_way, is_response};
-use coap_core::{Core, Event, Exchange, Holders, LimitValues, Seen, Watch};
+use coap_core::{Core, Event, Exchange, Holders, LimitValues, Watch, WatchedTurn};
 use coap_counts::{MapTable, OpeningCounts, OriginTable};
 use coap_endpoint::Endpoint;
 use coap_message::{MessageRef, Moment, OutOfMemory};
@@ -133,12 +133,12 @@ impl Watch for Statistics {
     ghost sees = { Sees };
 
     #[inline(always)]
-    fn foresee<S: Store + Drop>(&mut self, turn: Seen<'_>, core: &Core<S>) {
+    fn foresee<S: Store + Drop>(&mut self, turn: WatchedTurn<'_>, core: &Core<S>) {
         self.foreseen = foreseen_in(turn.event, core);
     }
 
     #[inline(always)]
-    fn see<S: Store + Drop>(&mut self, turn: Seen<'_>, core: &Core<S>) {
+    fn see<S: Store + Drop>(&mut self, turn: WatchedTurn<'_>, core: &Core<S>) {
         self.tally.count(turn);
         count_way(&mut self.maps, turn, core.routes());
         count_origin(&mut self.origins, turn, self.foreseen);

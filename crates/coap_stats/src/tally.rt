@@ -4,7 +4,7 @@ ghost use Rattle.coap_model.specs.State.{State};
 ghost use Rattle.coap_stats.specs.Tally as spec;
 ghost use Rattle.coap_core.specs.Told.{told};
 
-use coap_core::{Core, Event, Outcome, Seen, Storing, Watch};
+use coap_core::{Core, Event, Outcome, Storing, Watch, WatchedTurn};
 use coap_counts::{RequestCounts, one_more};
 use coap_message::Moment;
 use coap_store::Store;
@@ -105,7 +105,7 @@ impl Tally {
 
     /// Counts a turn.
     #[inline(always)]
-    pub fn count(&mut self, turn: Seen<'_>)
+    pub fn count(&mut self, turn: WatchedTurn<'_>)
         ensures { (w : State) → self.new ≡ spec.with_told (told turn.entry w) self.old }
     {
         self.last = turn.now;
@@ -129,9 +129,9 @@ impl Watch for Tally {
 
     ghost sees = { λ before told after. after ≡ with_told told before };
 
-    fn foresee<S: Store + Drop>(&mut self, _turn: Seen<'_>, _core: &Core<S>) {}
+    fn foresee<S: Store + Drop>(&mut self, _turn: WatchedTurn<'_>, _core: &Core<S>) {}
 
-    fn see<S: Store + Drop>(&mut self, turn: Seen<'_>, _core: &Core<S>) {
+    fn see<S: Store + Drop>(&mut self, turn: WatchedTurn<'_>, _core: &Core<S>) {
         self.count(turn);
     }
 }

@@ -6,7 +6,7 @@ ghost use Rattle.coap_model.specs.State.{State};
 ghost use Rattle.coap_stats.specs.Turns as spec;
 ghost use Rattle.coap_core.specs.Told.{told};
 
-use coap_core::{Core, Event, Outcome, Report, Seen};
+use coap_core::{Core, Event, Outcome, Report, WatchedTurn};
 use coap_counts::{MapTable, OpeningCounts, OriginAnswer, OriginEvent, OriginTable, way_of};
 use coap_endpoint::Endpoint;
 use coap_message::{MessageRef, Moment, head_of};
@@ -93,7 +93,7 @@ fn sent(report: Report, bytes: &[u8], event: OriginEvent) -> Option<(Endpoint, O
 
 /// What happened in a turn between the proxy and an origin, if anything did.
 #[inline(always)]
-fn event_of(turn: Seen<'_>, foreseen: Foreseen) -> Option<(Endpoint, OriginEvent)>
+fn event_of(turn: WatchedTurn<'_>, foreseen: Foreseen) -> Option<(Endpoint, OriginEvent)>
     ensures { (w : State) → result ≡ spec.event_of (told turn.entry w) foreseen }
 {
     let report = turn.report?;
@@ -120,7 +120,7 @@ fn event_of(turn: Seen<'_>, foreseen: Foreseen) -> Option<(Endpoint, OriginEvent
 
 /// Counts what happened in a turn between the proxy and an origin, if anything did.
 #[inline(always)]
-pub(crate) fn count_origin(origins: &mut OriginTable, turn: Seen<'_>, foreseen: Foreseen)
+pub(crate) fn count_origin(origins: &mut OriginTable, turn: WatchedTurn<'_>, foreseen: Foreseen)
     ensures { (w : State) → origins.new
         ≡ spec.with_origins (told turn.entry w) foreseen origins.old }
 {
@@ -131,7 +131,7 @@ pub(crate) fn count_origin(origins: &mut OriginTable, turn: Seen<'_>, foreseen: 
 
 /// Counts the request that came in a turn, if one did, at a proxy with these routes.
 #[inline(always)]
-pub(crate) fn count_way(maps: &mut MapTable, turn: Seen<'_>, routes: &Routes)
+pub(crate) fn count_way(maps: &mut MapTable, turn: WatchedTurn<'_>, routes: &Routes)
     ensures { (w : State) → w.setting.routes ≡ routes.now
         → maps.new ≡ spec.with_ways (told turn.entry w) maps.old }
 {
@@ -158,7 +158,7 @@ fn count_request(maps: &mut MapTable, bytes: &[u8], outcome: Outcome, routes: &R
 #[inline(always)]
 pub(crate) fn count_opening<S: Store + Drop>(
     openings: &mut OpeningCounts,
-    turn: Seen<'_>,
+    turn: WatchedTurn<'_>,
     core: &Core<S>,
 )
     ensures { openings.new ≡ spec.with_openings (told turn.entry core.now) openings.old }

@@ -1,6 +1,8 @@
 pub mod Alike
 pub mod Keys
 pub mod Digests
+pub mod Digested
+pub mod DigestedAlike
 pub mod Freshness
 pub mod Sizes
 pub mod Lists
@@ -8,6 +10,6 @@ pub mod Entries
 pub mod Evicting
 pub mod Renewing
 pub mod Showing
-pub mod Replies
+pub mod Envelopes
 pub mod Writing
 pub mod Measuring

@@ -17,8 +17,8 @@ abbrev pub is_content : Code → Bool
 is_content code = is_code code CONTENT
 
 -- a 2.05, or an error of class 4 or 5, is sent with a Max-Age
-abbrev pub tells_age : Code → Bool
-tells_age code = is_content code || (code.0 / 32 == 4 || code.0 / 32 == 5)
+abbrev pub shows_max_age : Code → Bool
+shows_max_age code = is_content code || (code.0 / 32 == 4 || code.0 / 32 == 5)
 
 -- a tag, if it is one of the client's
 abbrev pub among : List (List ℕ) → Option (List ℕ) → Option (List ℕ)
@@ -43,14 +43,14 @@ abbrev pub aged : Message → ℕ → Message
 aged m left = record m { options = with_max_age left m.options }
 
 -- as a 2.03 if the client holds it, and otherwise with a Max-Age of the seconds left
-abbrev pub told : Message → ℕ → List (List ℕ) → Message
-told m left tags = option_map_or (valid m left) (held_tag m tags) (aged m left)
+abbrev pub aged_or_valid : Message → ℕ → List (List ℕ) → Message
+aged_or_valid m left tags = option_map_or (valid m left) (held_tag m tags) (aged m left)
 
 -- What is sent to a client with these tags for a response. `left` is for how many seconds it stays
 -- fresh, if it is an origin's answer to a GET; without it the response is sent as it is.
 abbrev pub shown : Message → Option ℕ → List (List ℕ) → Message
 shown m None tags = m
-shown m (Some left) tags = if tells_age m.code then told m left tags else m
+shown m (Some left) tags = if shows_max_age m.code then aged_or_valid m left tags else m
 
 -- as a message of its own, with this type, Message ID and token
 abbrev pub addressed : Kind → ℕ → List ℕ → Message → Message

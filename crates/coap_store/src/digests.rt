@@ -6,17 +6,17 @@ use crate::key::CacheKey;
 use coap_endpoint::Target;
 use std::hash::{DefaultHasher, Hash, Hasher};
 
-/// The digests of a cache key and of its target. Equal ones have equal digests, if these were made
-/// with the same secret.
+/// The digests of a cache key and of its target. Equal keys have equal digests, and so have equal
+/// targets, if these were made with the same secret.
 #[derive(Clone, Copy)]
 pub struct Digests {
     pub key: u64,
     pub target: u64,
 }
 
-/// The digests of a cache key and of its target, in one go: what is hashed of a key begins with its
-/// target. A secret is hashed before it, so that whoever doesn't know it can't look for keys that
-/// have the same digest.
+/// The digests of a cache key and of its target, in one pass over the key, whose target is hashed
+/// first. A secret is hashed before the key, so that whoever doesn't know it can't look for keys
+/// that have the same digest.
 #[tactic(auto, unfolding(crate::specs::Digests::digest_of_target, crate::specs::Digests::digest_of_key))]
 pub fn digests_of(secret: u64, key: &CacheKey) -> Digests
     ensures exact { result ≡ digests_of secret key.now }

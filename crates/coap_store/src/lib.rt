@@ -1,6 +1,6 @@
 //! The cache of a proxy: keys, stored responses, what a store of them has to do, and what clients
-//! are sent; and how a response is renewed that its origin validates (RFC 7252, 5.6, 5.7.1, 5.9.1.3,
-//! 5.10.5 and 5.10.6).
+//! are sent; and how a response is renewed that its origin validates (RFC 7252, 5.6, 5.7.1,
+//! 5.9.1.3, 5.10.5 and 5.10.6).
 //!
 //! # First use
 //!
@@ -26,14 +26,15 @@
 #![tactic(auto)]
 
 mod answer;
+mod digested_key;
 mod digests;
+mod envelope;
 mod evictions;
 mod key;
 pub mod laws;
 mod measure;
 mod renew;
 mod renew_error;
-mod reply;
 mod shared_key;
 mod show;
 mod showing;
@@ -44,15 +45,16 @@ mod tag;
 mod updating;
 
 pub use answer::Answer;
+pub use digested_key::DigestedKey;
 pub use digests::{Digests, digest_of_target, digests_of};
+pub use envelope::Envelope;
 pub use evictions::Evictions;
 pub use key::CacheKey;
 pub use measure::aged_fits;
 pub use renew::renewed;
 pub use renew_error::RenewError;
-pub use reply::Reply;
 pub use shared_key::{KeySource, SharedKey};
-pub use show::{put_max_age, put_reply, show_into, tells_age};
+pub use show::{put_max_age, put_response, show_into, shows_max_age};
 pub use showing::shown;
 pub use size::bytes_of;
 pub use store::{Put, Store};

@@ -1,22 +1,24 @@
 //! Cache keys that are shared.
 ghost use Rattle.std.specs.Prelude.{◌≡◌, IfOk, OnOk};
 ghost use Rattle.std.specs.Cmp.{partial_equiv_from_equiv};
-ghost use Rattle.coap_store.specs.Alike.{fed_key, keys_equiv, keys_fed};
+ghost use Rattle.coap_store.specs.Alike.{keys_equiv};
+ghost use Rattle.coap_store.specs.Digested.{digested};
+ghost use Rattle.coap_store.specs.Digests.{digests_of};
 ghost use Rattle.coap_store.specs.Keys.{same_key};
 
+use crate::digested_key::DigestedKey;
+use crate::digests::{Digests, digests_of};
 use crate::key::CacheKey;
 use coap_message::OutOfMemory;
 use std::alloc::Global;
-use std::hash::{Hash, Hasher};
 use std::marker::Model;
 use std::ops::Deref;
-use std::rc::Rc;
 
-/// A cache key that all who need it share, so that it is copied once: an exchange, the store, and
-/// its index of targets. A contract sees the key.
+/// A cache key that all who need it share, so that it is copied and hashed once: an exchange, the
+/// store, and its index of targets. A contract sees the key.
 #[derive(Drop)]
 pub struct SharedKey {
-    shared: Rc<CacheKey>,
+    digested: DigestedKey,
 }
 
 impl Model for SharedKey {
@@ -24,7 +26,7 @@ impl Model for SharedKey {
 
     ghost Value = { CacheKey };
 
-    ghost view = { λ s. s.shared.value };
+    ghost view = { λ s. s.digested.key };
 }
 
 /// What a key is made from.
@@ -42,15 +44,16 @@ pub trait KeySource {
 }
 
 impl SharedKey {
-    /// A key that nobody shares yet.
+    /// A key that nobody shares yet. It is hashed here, with a secret: a store or a table with
+    /// another one hashes it again.
     ///
     /// # Errors
     /// Out of memory.
-    pub fn new(alloc: Global, key: CacheKey) -> Result<SharedKey, OutOfMemory>
+    pub fn new(alloc: Global, key: CacheKey, secret: u64) -> Result<SharedKey, OutOfMemory>
         ensures { IfOk result (λ shared. shared ≡ key) }
     {
         Ok(SharedKey {
-            shared: Rc::new(alloc, key)?,
+            digested: DigestedKey::new(alloc, key, secret)?,
         })
     }
 
@@ -58,7 +61,34 @@ impl SharedKey {
     pub fn key(&self) -> &CacheKey
         ensures { result.now ≡ self.now }
     {
-        self.shared.as_ref()
+        self.digested.key()
+    }
+
+    /// The key with its digests.
+    pub fn digested(&self) -> &DigestedKey
+        ensures { result.now.key ≡ self.now }
+    {
+        &self.digested
+    }
+
+    /// The key with the digests that this secret gives.
+    pub fn into_digested(self, secret: u64) -> DigestedKey
+        ensures { result ≡ digested secret self }
+    {
+        let SharedKey { digested } = self;
+        digested.with_secret(secret)
+    }
+
+    /// The digests that this secret gives. The key is hashed again only if it was hashed with
+    /// another one.
+    pub fn digests(&self, secret: u64) -> Digests
+        ensures { result ≡ digests_of secret self.now }
+    {
+        if self.digested.secret() == secret {
+            self.digested.digests()
+        } else {
+            digests_of(secret, self.key())
+        }
     }
 
     /// The same key for one more who needs it. Doesn't allocate.
@@ -69,21 +99,31 @@ impl SharedKey {
         ensures { IfOk result (λ shared. shared ≡ self.now) }
     {
         Ok(SharedKey {
-            shared: self.shared.clone()?,
+            digested: self.digested.share()?,
         })
     }
 
-    /// Overwrites the key, which nobody else shares, and reuses its room.
+    /// A copy, with no spare capacity, which nobody shares yet. It isn't hashed again.
+    ///
+    /// # Errors
+    /// Out of memory.
+    pub fn copied(&self, alloc: Global) -> Result<SharedKey, OutOfMemory>
+        ensures { IfOk result (λ copy. copy ≡ self.now) }
+    {
+        Ok(SharedKey {
+            digested: self.digested.copied(alloc)?,
+        })
+    }
+
+    /// Overwrites the key, which nobody else shares, and reuses its room. It is hashed with this
+    /// secret.
     ///
     /// # Errors
     /// Out of memory, or somebody else shares it. It may then hold parts of both keys.
-    pub fn overwrite<S: KeySource>(&mut self, source: &S) -> Result<(), OutOfMemory>
+    pub fn overwrite<S: KeySource>(&mut self, source: &S, secret: u64) -> Result<(), OutOfMemory>
         ensures { OnOk result (self.new ≡ S.made source.now) }
     {
-        match Rc::get_mut(&mut self.shared) {
-            Some(key) => source.write_to(key),
-            None => Err(OutOfMemory),
-        }
+        self.digested.overwrite(source, secret)
     }
 }
 
@@ -111,16 +151,5 @@ impl PartialEq for SharedKey {
 
     fn eq(&self, other: &SharedKey) -> bool {
         *self.key() == *other.key()
-    }
-}
-
-/// Hashes the key.
-impl Hash for SharedKey {
-    ghost hash_input = { fed_key };
-
-    ghost respects_eq = { keys_fed };
-
-    fn hash<H: Hasher>(&self, state: &mut H) {
-        self.key().hash(state);
     }
 }

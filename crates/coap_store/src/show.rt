@@ -7,11 +7,11 @@ ghost use Rattle.coap_message.specs.Options.{last_number, option_of};
 ghost use Rattle.coap_message.specs.Spelling.{options_spelling, spelling};
 ghost use Rattle.coap_option.specs.declared.numbers.TheConstants.{ETAG, MAX_AGE};
 ghost use Rattle.coap_store.specs.Renewing.{max_age_option, with_max_age};
-ghost use Rattle.coap_store.specs.Replies.{carried, replied};
-ghost use Rattle.coap_store.specs.Showing.{addressed, aged, shown, tells_age, told};
+ghost use Rattle.coap_store.specs.Envelopes.{enclosed, shown_to};
+ghost use Rattle.coap_store.specs.Showing.{addressed, aged, shown, shows_max_age, aged_or_valid};
 ghost use Rattle.coap_store.specs.Writing.{floor_of, is_in, part_of};
 
-use crate::reply::Reply;
+use crate::envelope::Envelope;
 use crate::tag::held_tag;
 use coap_message::{
     Code, Datagram, Full, Kind, Message, Options, Pieces, Token, put_head, put_message, put_option,
@@ -19,13 +19,13 @@ use coap_message::{
 };
 use coap_option::numbers;
 
-/// Writes what a client is sent for a response, with this kind, Message ID and token. Doesn't
+/// Writes what a client is sent for a response, with this type, Message ID and token. Doesn't
 /// allocate.
 ///
-/// `left` is for how many seconds an origin's answer to a GET stays fresh. If it is given, a response
-/// with code 2.05 or one of class 4 or 5 is sent with exactly one Max-Age, of that many seconds; and
-/// a 2.05 whose ETag is among the client's `tags` is sent as a 2.03 with just that ETag and the Max-Age. Every
-/// other response, and each one without `left`, is sent as it is.
+/// `left` is for how many seconds an origin's answer to a GET stays fresh. If it is given, a
+/// response with code 2.05 or one of class 4 or 5 is sent with exactly one Max-Age, of that many
+/// seconds; and a 2.05 whose ETag is among the client's `tags` is sent as a 2.03 with just that
+/// ETag and the Max-Age. Every other response, and each one without `left`, is sent as it is.
 ///
 /// # Errors
 /// `Full`, exactly if it is longer than `room` bytes: the datagram is empty then.
@@ -49,34 +49,35 @@ pub fn show_into(
         < length (spelling (addressed kind id token.now (shown message.now left tags.now)))) }
     ensures err { OnErr result (out.new ≡ holding out.old []) }
 {
-    let reply = Reply {
+    let envelope = Envelope {
         kind,
         id,
         token,
         tags,
     };
-    put_reply(message, reply, left, out, room)
+    put_response(message, envelope, left, out, room)
 }
 
-/// Does what `show_into` does: `reply` has the kind, Message ID, token and tags.
+/// Writes what a client is sent for a response, as `show_into` does: `envelope` has the type,
+/// Message ID, token and tags.
 ///
 /// # Errors
 /// `Full`, exactly if it is longer than `room` bytes: the datagram is empty then.
-pub fn put_reply(
+pub fn put_response(
     message: &Message,
-    reply: Reply<'_>,
+    envelope: Envelope<'_>,
     left: Option<u32>,
     out: &mut Datagram,
     room: usize,
 ) -> Result<(), Full>
     requires { room ≤ out.old.room }
     ensures ok { OnOk result
-        (out.new ≡ holding out.old (spelling (replied reply.entry message.now left))) }
+        (out.new ≡ holding out.old (spelling (shown_to envelope.entry message.now left))) }
     ensures full { IsErr result
-        ↔ (room < length (spelling (replied reply.entry message.now left))) }
+        ↔ (room < length (spelling (shown_to envelope.entry message.now left))) }
     ensures err { OnErr result (out.new ≡ holding out.old []) }
 {
-    if let Err(full) = write_shown(message, reply, left, out, room) {
+    if let Err(full) = write_shown(message, envelope, left, out, room) {
         out.clear();
         return Err(full);
     }
@@ -84,8 +85,8 @@ pub fn put_reply(
 }
 
 /// Whether a response with this code is sent with a Max-Age (RFC 7252, 5.10.5).
-pub fn tells_age(code: Code) -> bool
-    ensures { result ≡ tells_age code }
+pub fn shows_max_age(code: Code) -> bool
+    ensures { result ≡ shows_max_age code }
 {
     code == Code::CONTENT || code.class() == 4 || code.class() == 5
 }
@@ -93,48 +94,49 @@ pub fn tells_age(code: Code) -> bool
 /// Writes what the client is sent, if it is at most `room` bytes.
 fn write_shown(
     message: &Message,
-    reply: Reply<'_>,
+    envelope: Envelope<'_>,
     left: Option<u32>,
     out: &mut Datagram,
     room: usize,
 ) -> Result<(), Full>
     requires { room ≤ out.old.room }
     ensures { Appends (holding out.old []) out.new room
-        (spelling (replied reply.entry message.now left)) result }
+        (spelling (shown_to envelope.entry message.now left)) result }
 {
     match left {
-        Some(left) if tells_age(message.code) => {
-            put_told(message, reply, u64::from(left), out, room)
+        Some(left) if shows_max_age(message.code) => {
+            put_aged_or_valid(message, envelope, u64::from(left), out, room)
         }
         _ => {
-            let head = reply.head(message.code);
-            put_message(out, room, head, reply.token, message.content())
+            let head = envelope.head(message.code);
+            put_message(out, room, head, envelope.token, message.content())
         }
     }
 }
 
 /// Writes a response that is sent with a Max-Age.
-fn put_told(
+fn put_aged_or_valid(
     message: &Message,
-    reply: Reply<'_>,
+    envelope: Envelope<'_>,
     left: u64,
     out: &mut Datagram,
     room: usize,
 ) -> Result<(), Full>
     requires { room ≤ out.old.room }
     ensures { Appends (holding out.old []) out.new room
-        (spelling (carried reply.entry (told message.now left reply.entry.tags.now))) result }
+        (spelling
+        (enclosed envelope.entry (aged_or_valid message.now left envelope.entry.tags.now))) result }
 {
-    match held_tag(message, reply.tags) {
-        Some(tag) => put_valid(reply, tag, left, out, room),
-        None => put_aged(message, reply, left, out, room),
+    match held_tag(message, envelope.tags) {
+        Some(tag) => put_valid(envelope, tag, left, out, room),
+        None => put_aged(message, envelope, left, out, room),
     }
 }
 
 /// Writes a 2.03 with a tag and a Max-Age.
 #[tactic(auto, unfolding(coap_message::specs::Spelling::spelling))]
 fn put_valid(
-    reply: Reply<'_>,
+    envelope: Envelope<'_>,
     tag: &[u8],
     left: u64,
     out: &mut Datagram,
@@ -144,10 +146,11 @@ fn put_valid(
     requires short { length tag.now ≤ 8 }
     ensures { Appends (holding out.old []) out.new room
         (spelling
-        (message_of (record { kind = reply.entry.kind; code = Code.VALID; id = reply.entry.id })
-        reply.entry.token.now (option_of ETAG tag.now ∷ max_age_option left ∷ []) [])) result }
+        (message_of
+        (record { kind = envelope.entry.kind; code = Code.VALID; id = envelope.entry.id })
+        envelope.entry.token.now (option_of ETAG tag.now ∷ max_age_option left ∷ []) [])) result }
 {
-    put_head(out, room, reply.head(Code::VALID), reply.token)?;
+    put_head(out, room, envelope.head(Code::VALID), envelope.token)?;
     put_option(out, room, 0, numbers::ETAG, tag)?;
     put_max_age(out, room, numbers::ETAG, left)
 }
@@ -177,16 +180,16 @@ pub fn put_max_age(out: &mut Datagram, room: usize, before: u16, seconds: u64) -
 #[tactic(auto, unfolding(coap_message::specs::Spelling::spelling))]
 fn put_aged(
     message: &Message,
-    reply: Reply<'_>,
+    envelope: Envelope<'_>,
     left: u64,
     out: &mut Datagram,
     room: usize,
 ) -> Result<(), Full>
     requires { room ≤ out.old.room }
     ensures { Appends (holding out.old []) out.new room
-        (spelling (carried reply.entry (aged message.now left))) result }
+        (spelling (enclosed envelope.entry (aged message.now left))) result }
 {
-    put_head(out, room, reply.head(message.code), reply.token)?;
+    put_head(out, room, envelope.head(message.code), envelope.token)?;
     put_aged_options(out, room, &message.options.lent(), left)?;
     put_payload(out, room, message.payload.as_slice())
 }

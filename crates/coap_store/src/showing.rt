@@ -3,16 +3,16 @@ ghost use Rattle.std.specs.Prelude.{◌≡◌, ◌≤◌, ◌∷◌, [], true, l
 ghost use Rattle.coap_message.specs.Options.{option_of};
 ghost use Rattle.coap_option.specs.declared.numbers.TheConstants.{ETAG};
 ghost use Rattle.coap_store.specs.Renewing.{max_age_option};
-ghost use Rattle.coap_store.specs.Showing.{aged, shown, tells_age, told, valid};
+ghost use Rattle.coap_store.specs.Showing.{aged, shown, shows_max_age, aged_or_valid, valid};
 
-use crate::show::tells_age;
+use crate::show::shows_max_age;
 use crate::tag::held_tag;
 use crate::updating::with_max_age;
 use coap_message::{Code, Message, OptionList, OutOfMemory, Pieces, Seq, without_zeros};
 use coap_option::numbers;
 use std::alloc::Global;
 
-/// What a client is sent for a response, as `show_into` writes it, except for kind, Message ID and
+/// What a client is sent for a response, as `show_into` writes it, except for type, Message ID and
 /// token, which are those of the response.
 ///
 /// `left` is the number of seconds left of an origin's answer to a GET. If it is given, a 2.05 or a
@@ -31,15 +31,20 @@ pub fn shown(
     ensures { IfOk result (λ m. m ≡ shown message.now left tags.now) }
 {
     match left {
-        Some(left) if tells_age(message.code) => told(alloc, message, left, tags),
+        Some(left) if shows_max_age(message.code) => aged_or_valid(alloc, message, left, tags),
         _ => message.lent().to_message(alloc),
     }
 }
 
 /// A response that is sent with a Max-Age.
-fn told(alloc: Global, message: &Message, left: u32, tags: &Pieces) -> Result<Message, OutOfMemory>
-    requires { tells_age message.now.code ≡ true }
-    ensures { IfOk result (λ m. m ≡ told message.now left tags.now) }
+fn aged_or_valid(
+    alloc: Global,
+    message: &Message,
+    left: u32,
+    tags: &Pieces,
+) -> Result<Message, OutOfMemory>
+    requires { shows_max_age message.now.code ≡ true }
+    ensures { IfOk result (λ m. m ≡ aged_or_valid message.now left tags.now) }
 {
     match held_tag(message, tags) {
         Some(tag) => valid(alloc, message, left, tag),
@@ -78,7 +83,7 @@ fn tag_and_age(alloc: Global, tag: &[u8], left: u32) -> Result<OptionList, OutOf
 
 /// A response with one Max-Age, of this many seconds.
 fn aged(alloc: Global, message: &Message, left: u32) -> Result<Message, OutOfMemory>
-    requires { tells_age message.now.code ≡ true }
+    requires { shows_max_age message.now.code ≡ true }
     ensures { IfOk result (λ m. m ≡ aged message.now left) }
 {
     Ok(Message {

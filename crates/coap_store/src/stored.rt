@@ -10,7 +10,7 @@ pub type EventNumber = u64;
 
 /// A response in the store.
 pub struct Stored {
-    /// The response. Its kind, Message ID and token are ignored.
+    /// The response. Its type, Message ID and token are ignored.
     pub response: Message,
     /// The number of the event in which its request was first sent.
     pub asked: EventNumber,
@@ -19,7 +19,7 @@ pub struct Stored {
     /// When it came, in milliseconds.
     pub got: Moment,
     /// Whether a change of its target has passed through the proxy since its request was sent (RFC
-    /// 7252, 5.9.1.1, 5.9.1.2 and 5.9.1.4), so that it answers no request.
+    /// 7252, 5.9.1.1, 5.9.1.2 and 5.9.1.4). It answers no request then, but may be validated.
     pub marked: bool,
 }
 
@@ -53,9 +53,9 @@ impl Stored {
         self.age(now) <= 1000 * u64::from(max_age(&self.response))
     }
 
-    /// How many whole seconds it stays fresh, 0 in the last one and once it is no longer fresh: its
-    /// Max-Age less its age, where a second that has begun counts as gone (RFC 7252, 5.7.1). `now`
-    /// is in milliseconds.
+    /// For how many whole seconds it stays fresh: its Max-Age less its age, where a second that has
+    /// begun counts as gone; 0 in the last second, and once it is stale (RFC 7252, 5.7.1). `now` is
+    /// in milliseconds.
     pub fn left(&self, now: Moment) -> u32
         ensures { result ≡ left_of now self.now }
     {
@@ -70,9 +70,9 @@ impl Stored {
     }
 }
 
-/// How many whole seconds a response of this age, in milliseconds, stays fresh, 0 in the last one
-/// and once it is no longer fresh: its Max-Age less its age, where a second that has begun counts
-/// as gone (RFC 7252, 5.7.1).
+/// For how many whole seconds a response of this age, in milliseconds, stays fresh: its Max-Age
+/// less its age, where a second that has begun counts as gone; 0 in the last second, and once it is
+/// stale (RFC 7252, 5.7.1).
 pub fn left_at(response: &Message, age: u64) -> u32
     ensures { result ≡ left_at age response.now }
 {

@@ -5,3 +5,4 @@ pub mod Marks
 pub mod Groups
 pub mod Kept
 pub mod Pushing
+pub mod Shown

@@ -7,14 +7,12 @@ use Rattle.std.specs.Option.{option_map, option_map_or}
 use Rattle.std.proofs.lemmas.Bool.{and_parts}
 use Rattle.std.proofs.lemmas.List.Sums.{sum_by-cons}
 use Rattle.lru.specs.LruCache.{promoted}
-use Rattle.coap_store.specs.contracts.key.CacheKeyPartialEq.TheImpl as keys
 use Rattle.coap_store.specs.declared.key.CacheKey.{CacheKey}
 use Rattle.coap_store.specs.declared.stored.Stored.{Stored}
 use Rattle.coap_store.specs.Entries.{Entry, entry_key, entry_size, stored_for}
 use Rattle.coap_store_lru.specs.Indexing.{is_held}
 use Rattle.coap_store.specs.Keys.{same_key}
 use Rattle.coap_store.specs.Lists.{has_other_key, of_key, others, used, are_distinct, total}
-use Rattle.coap_store_lru.proofs.Alike.{key_eq}
 use Rattle.coap_store.proofs.Distinct.{of_key-key}
 use Rattle.coap_store.proofs.Found.{filter-all}
 use Rattle.coap_store.specs.Alike.{same_key-itself, same_key-only}
@@ -151,24 +149,7 @@ held-used k es q = go (of_key entry_key k es) refl
         let front : is_held (x ∷ others entry_key k es) q ≡ (same_key k q || is_held es q) = subst (λ j. is_held (x ∷ others entry_key j es) q ≡ (same_key j q || is_held es q)) key (held-front x es q) in
         front ∙ again x e (same_key k q) refl
 
--- The map's own definitions, for the comparison that it uses.
 module _ (k : CacheKey) (es : List Entry) where
-  -- what is stored for a key
-  pub peeked : lookup (keys.ghosts.eq k) es ≡ stored_for k es
-  peeked = ap (λ (eq : CacheKey → CacheKey → Bool). lookup (eq k) es) key_eq ∙ lookup-is k es
-
-  -- the entry that is found
-  pub popped : lookup_entry (keys.ghosts.eq k) es ≡ of_key entry_key k es
-  popped = ap (λ (eq : CacheKey → CacheKey → Bool). lookup_entry (eq k) es) key_eq ∙ lookup_entry-is k es
-
-  -- what is left after a removal
-  pub removed : are_distinct entry_key es ≡ true → remove_entry (keys.ghosts.eq k) es ≡ others entry_key k es
-  removed distinct = ap (λ (eq : CacheKey → CacheKey → Bool). remove_entry (eq k) es) key_eq ∙ remove_entry-is k es distinct
-
-  -- what a use leaves
-  pub moved : are_distinct entry_key es ≡ true → promoted (keys.ghosts.eq k) es ≡ used entry_key k es
-  moved distinct = ap (λ (eq : CacheKey → CacheKey → Bool). promoted (eq k) es) key_eq ∙ promoted-is k es distinct
-
   -- nothing is stored for a key without an entry
   pub none_stored : stored_for k es ≡ None → of_key entry_key k es ≡ None
   none_stored = go (of_key entry_key k es)
@@ -184,3 +165,11 @@ module _ (k : CacheKey) (es : List Entry) where
       go : (o : Option Entry) → option_map (λ (x : Entry). x.1) o ≡ Some s → (x : Entry) × (o ≡ Some x) × (x.1 ≡ s)
       go None e = absurd cc
       go (Some x) e = (x, refl, cc)
+
+-- a key that isn't held has no entry
+pub not_held : (k : CacheKey) (es : List Entry) → is_held es k ≡ false → of_key entry_key k es ≡ None
+not_held k es none = go (of_key entry_key k es) refl
+  where
+    go : (o : Option Entry) → of_key entry_key k es ≡ o → of_key entry_key k es ≡ None
+    go None e = e
+    go (Some x) e = absurd (let held : is_held es k ≡ true = found-held k es x e in cc)

@@ -12,6 +12,7 @@
 
 mod group;
 mod lru_store;
+mod recent;
 mod target_index;
 
 pub use lru_store::LruStore;

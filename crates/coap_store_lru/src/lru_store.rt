@@ -3,21 +3,21 @@ ghost use Rattle.std.specs.Prelude.{◌≡◌, min, ◌<◌, ◌≤◌, ◌^◌,
 ghost use Rattle.std.specs.HashSet.{contains};
 ghost use Rattle.std.specs.Hash.{u64};
 ghost use Rattle.std.specs.List.{IsDistinct, fold};
-ghost use Rattle.lru.specs.LruCache.{lru_cache};
 ghost use Rattle.coap_store.specs.declared.key.CacheKey.{CacheKey};
 ghost use Rattle.coap_store.specs.Entries.{entry_key, entry_size};
 ghost use Rattle.coap_store.specs.Evicting.{beyond, evictions_of};
-ghost use Rattle.coap_store_lru.specs.Indexing.{AreThoseOf, has, is_first, is_indexed, is_of, keys_in, marked_by};
-ghost use Rattle.coap_store.specs.Keys.{same_key};
+ghost use Rattle.coap_store_lru.specs.Indexing.{AreThoseOf, has, is_first, is_indexed, is_of, is_own, keys_in, marked_by};
+ghost use Rattle.coap_store_lru.specs.Recent.{recent_of};
+ghost use Rattle.coap_store.specs.Digested.{digested, same_digested};
 ghost use Rattle.coap_store.specs.Lists.{are_distinct, cut, of_key, others, used};
 ghost use Rattle.coap_store.specs.Sizes.{size_of};
 
 use crate::group::Group;
+use crate::recent::Recent;
 use crate::target_index::TargetIndex;
 use coap_endpoint::Target;
 use coap_message::{Moment, OutOfMemory};
-use coap_store::{Evictions, Put, SharedKey, Store, Stored};
-use lru::LruCache;
+use coap_store::{CacheKey, DigestedKey, Evictions, Put, SharedKey, Store, Stored};
 use std::alloc::Global;
 use std::collections::HashSet;
 use std::hash::BuildHasher;
@@ -26,7 +26,7 @@ use std::hash::BuildHasher;
 /// the target. Peers choose both, so the hasher should have keys that are drawn at random, as
 /// `RandomState` does.
 pub struct LruStore<H: BuildHasher> {
-    recent: LruCache<SharedKey, Stored, H>,
+    recent: Recent,
     /// The number of bytes that the entries count for.
     total: u64,
     index: TargetIndex<H>,
@@ -36,7 +36,7 @@ pub struct LruStore<H: BuildHasher> {
     most_entries: usize,
     evicted: Evictions,
     ghost are_those: { AreThoseOf recent.entries total (is_indexed index.secret index.groups) },
-    ghost unlimited: { recent.cap ≡ 2 ^ 64 - 1 },
+    ghost hashed: { recent.secret ≡ index.secret },
     ghost within_bytes: { total ≤ most_bytes },
     ghost within_entries: { length recent.entries ≤ most_entries },
     ghost small: { most_bytes < 2 ^ 63 },
@@ -66,7 +66,8 @@ impl<H: BuildHasher + Copy> Store for LruStore<H> {
 
     ghost secret = { λ s. s.index.secret };
 
-    ghost secret_of = { λ seed. H.Hasher.finish (fold H.Hasher.write (H.build_hasher seed) (u64 0)) };
+    ghost secret_of = { λ seed.
+        H.Hasher.finish (fold H.Hasher.write (H.build_hasher seed) (u64 0)) };
 
     fn with_limits(
         alloc: Global,
@@ -74,10 +75,11 @@ impl<H: BuildHasher + Copy> Store for LruStore<H> {
         most_bytes: u64,
         most_entries: usize,
     ) -> Result<LruStore<H>, OutOfMemory> {
+        let index = TargetIndex::new(alloc, seed);
         Ok(LruStore {
-            recent: LruCache::unbounded_with_hasher(alloc, seed)?,
+            recent: Recent::new(alloc, index.secret)?,
             total: 0,
-            index: TargetIndex::new(alloc, seed),
+            index,
             most_bytes: most_bytes.min(i64::MAX as u64),
             most_entries,
             evicted: Evictions::new(),
@@ -89,17 +91,20 @@ impl<H: BuildHasher + Copy> Store for LruStore<H> {
     }
 
     fn touch(&mut self, key: &SharedKey) {
-        if !is_first(&self.recent, key) {
-            self.recent.promote(key);
+        if is_first(&self.recent, key.key()) {
+            return;
+        }
+        if let Some(own) = self.index.own(key) {
+            self.recent.promote(own);
         }
     }
 
     fn peek(&self, key: &SharedKey) -> Option<&Stored> {
-        self.recent.peek(key)
+        self.recent.peek(self.index.own(key)?)
     }
 
     fn put(&mut self, key: SharedKey, stored: Stored) -> Put {
-        let size = bytes_of(&key, &stored);
+        let size = coap_store::bytes_of(key.key(), &stored);
         if size > self.most_bytes {
             self.forget(&key);
             return Put::TooLarge;
@@ -109,6 +114,7 @@ impl<H: BuildHasher + Copy> Store for LruStore<H> {
             entries: self.most_entries,
             now: stored.got,
         };
+        let key = key.into_digested(self.index.secret);
         let entry = Measured { key, stored, size };
         match put_first(&mut self.recent, &mut self.total, &mut self.index, entry) {
             Ok(()) => {
@@ -156,49 +162,54 @@ struct Room {
 /// An entry, and the number of bytes that it counts for.
 #[derive(Drop)]
 struct Measured {
-    key: SharedKey,
+    key: DigestedKey,
     stored: Stored,
     size: u64,
-    ghost measured: { size ≡ min (size_of key stored) (2 ^ 64 - 1) },
+    ghost measured: { size ≡ min (size_of key.key stored) (2 ^ 64 - 1) },
 }
 
 /// How many bytes an entry counts for.
-fn bytes_of(key: &SharedKey, stored: &Stored) -> u64
-    ensures { result ≡ min (size_of key.now stored.now) (2 ^ 64 - 1) }
+fn bytes_of(key: &DigestedKey, stored: &Stored) -> u64
+    ensures { result ≡ min (size_of key.now.key stored.now) (2 ^ 64 - 1) }
 {
     coap_store::bytes_of(key.key(), stored)
 }
 
 /// Whether the entry with a key is the most recently used one, which is found without hashing the
 /// key.
-fn is_first<H: BuildHasher>(recent: &LruCache<SharedKey, Stored, H>, key: &SharedKey) -> bool
+fn is_first(recent: &Recent, key: &CacheKey) -> bool
     requires { are_distinct entry_key recent.now.entries ≡ true }
     ensures { IsTrue result → used entry_key key.now recent.now.entries ≡ recent.now.entries }
 {
-    match recent.peek_mru() {
-        Some((first, _)) => *first == *key,
+    match recent.first() {
+        Some((first, _)) => *first.key() == *key,
         None => false,
     }
 }
 
 /// Removes the entry with a key and drops it. Returns whether there was one.
 fn take_out<H: BuildHasher + Copy>(
-    recent: &mut LruCache<SharedKey, Stored, H>,
+    recent: &mut Recent,
     total: &mut u64,
     index: &mut TargetIndex<H>,
     key: &SharedKey,
 ) -> bool
-    requires { AreThoseOf recent.old.entries total.old
+    requires those { AreThoseOf recent.old.entries total.old
         (is_indexed index.old.secret index.old.groups) }
+    requires hashed { recent.old.secret ≡ index.old.secret }
+    ensures secret { index.new.secret ≡ index.old.secret }
     ensures found { result ≡ is_some (of_key entry_key key.now recent.old.entries) }
     ensures others { recent.new
-        ≡ lru_cache (others entry_key key.now recent.old.entries) recent.old.cap }
+        ≡ recent_of (others entry_key key.now recent.old.entries) recent.old.secret }
     ensures those { AreThoseOf recent.new.entries total.new
         (is_indexed index.new.secret index.new.groups) }
 {
-    match recent.pop_entry(key) {
+    let Some(own) = index.own(key) else {
+        return false;
+    };
+    match recent.remove(own) {
         Some((of, stored)) => {
-            index.remove(key);
+            index.remove(&of);
             *total -= bytes_of(&of, &stored);
             true
         }
@@ -208,7 +219,7 @@ fn take_out<H: BuildHasher + Copy>(
 
 /// Puts an entry first, replacing the one with its key.
 fn put_first<H: BuildHasher + Copy>(
-    recent: &mut LruCache<SharedKey, Stored, H>,
+    recent: &mut Recent,
     total: &mut u64,
     index: &mut TargetIndex<H>,
     entry: Measured,
@@ -216,15 +227,18 @@ fn put_first<H: BuildHasher + Copy>(
     requires those { AreThoseOf recent.old.entries total.old
         (is_indexed index.old.secret index.old.groups) }
     requires few { total.old < 2 ^ 63 }
-    requires small { size_of entry.key entry.stored < 2 ^ 63 }
-    requires unlimited { recent.old.cap ≡ 2 ^ 64 - 1 }
+    requires small { size_of entry.key.key entry.stored < 2 ^ 63 }
+    requires own { entry.key.secret ≡ recent.old.secret }
+    requires hashed { recent.old.secret ≡ index.old.secret }
+    ensures secret { index.new.secret ≡ index.old.secret }
     ensures ok { OnOk result
         (recent.new
-        ≡ lru_cache ((entry.key, entry.stored) ∷ others entry_key entry.key recent.old.entries)
-        recent.old.cap) }
+        ≡ recent_of
+        ((entry.key.key, entry.stored) ∷ others entry_key entry.key.key recent.old.entries)
+        recent.old.secret) }
     ensures err { OnErr result (recent.new ≡ recent.old) }
     ensures err_total { OnErr result (total.new ≡ total.old) }
-    ensures err_new { OnErr result (of_key entry_key entry.key recent.old.entries ≡ None) }
+    ensures err_new { OnErr result (of_key entry_key entry.key.key recent.old.entries ≡ None) }
     ensures those { AreThoseOf recent.new.entries total.new
         (is_indexed index.new.secret index.new.groups) }
 {
@@ -246,23 +260,25 @@ fn put_first<H: BuildHasher + Copy>(
 /// Adds the key of the first entry to the index. If memory runs out, the first entry is removed
 /// again.
 fn index_first<H: BuildHasher + Copy>(
-    recent: &mut LruCache<SharedKey, Stored, H>,
+    recent: &mut Recent,
     index: &mut TargetIndex<H>,
 ) -> Result<(), OutOfMemory>
+    requires hashed { recent.old.secret ≡ index.old.secret }
+    ensures secret { index.new.secret ≡ index.old.secret }
     ensures ok { OnOk result (recent.new ≡ recent.old) }
     ensures err { OnErr result
-        (recent.new ≡ lru_cache (drop 1 recent.old.entries) recent.old.cap) }
+        (recent.new ≡ recent_of (drop 1 recent.old.entries) recent.old.secret) }
     ensures indexed { (k : CacheKey)
         → is_indexed index.new.secret index.new.groups k
         ≡ ((is_ok result && is_first k recent.old.entries)
         || is_indexed index.old.secret index.old.groups k) }
 {
-    let added = match recent.peek_mru() {
+    let added = match recent.first() {
         Some((key, _)) => index.insert(key),
         None => Ok(()),
     };
     if added.is_err() {
-        recent.pop_mru();
+        recent.remove_first();
     }
     added
 }
@@ -270,15 +286,17 @@ fn index_first<H: BuildHasher + Copy>(
 /// Evicts the least recently used entries until there is room for the rest, and returns how many
 /// these were.
 fn cut_to<H: BuildHasher + Copy>(
-    recent: &mut LruCache<SharedKey, Stored, H>,
+    recent: &mut Recent,
     total: &mut u64,
     index: &mut TargetIndex<H>,
     room: Room,
 ) -> Evictions
-    requires { AreThoseOf recent.old.entries total.old
+    requires those { AreThoseOf recent.old.entries total.old
         (is_indexed index.old.secret index.old.groups) }
+    requires hashed { recent.old.secret ≡ index.old.secret }
+    ensures secret { index.new.secret ≡ index.old.secret }
     ensures kept { recent.new
-        ≡ lru_cache (cut entry_size room.bytes room.entries recent.old.entries) recent.old.cap }
+        ≡ recent_of (cut entry_size room.bytes room.entries recent.old.entries) recent.old.secret }
     ensures counted { result
         ≡ evictions_of room.now
         (beyond entry_size room.bytes room.entries recent.old.entries) }
@@ -294,7 +312,7 @@ fn cut_to<H: BuildHasher + Copy>(
 }
 
 /// Whether there is no room for entries that count for `total` bytes.
-fn is_over<H: BuildHasher>(recent: &LruCache<SharedKey, Stored, H>, total: u64, room: Room) -> bool
+fn is_over(recent: &Recent, total: u64, room: Room) -> bool
     ensures { result
         ≡ (nat_lt room.bytes total || nat_lt room.entries (length recent.now.entries)) }
 {
@@ -304,21 +322,23 @@ fn is_over<H: BuildHasher>(recent: &LruCache<SharedKey, Stored, H>, total: u64, 
 /// Evicts the least recently used entry, if there is one, and counts it, by whether it is fresh at
 /// this moment.
 fn take_last<H: BuildHasher + Copy>(
-    recent: &mut LruCache<SharedKey, Stored, H>,
+    recent: &mut Recent,
     total: &mut u64,
     index: &mut TargetIndex<H>,
     now: Moment,
 ) -> Evictions
-    requires { AreThoseOf recent.old.entries total.old
+    requires those { AreThoseOf recent.old.entries total.old
         (is_indexed index.old.secret index.old.groups) }
+    requires hashed { recent.old.secret ≡ index.old.secret }
+    ensures secret { index.new.secret ≡ index.old.secret }
     ensures left { recent.new
-        ≡ lru_cache (take (length recent.old.entries - 1) recent.old.entries) recent.old.cap }
+        ≡ recent_of (take (length recent.old.entries - 1) recent.old.entries) recent.old.secret }
     ensures counted { result
         ≡ evictions_of now (drop (length recent.old.entries - 1) recent.old.entries) }
     ensures those { AreThoseOf recent.new.entries total.new
         (is_indexed index.new.secret index.new.groups) }
 {
-    match recent.pop_lru() {
+    match recent.remove_last() {
         Some((key, stored)) => {
             index.remove(&key);
             *total -= bytes_of(&key, &stored);
@@ -331,19 +351,18 @@ fn take_last<H: BuildHasher + Copy>(
     }
 }
 
-/// Marks the entries for those keys in a group that have this target, and counts these keys.
-fn mark_group<H: BuildHasher>(
-    recent: &mut LruCache<SharedKey, Stored, H>,
-    group: &Group<H>,
-    target: &Target,
-) -> usize
+/// Marks the entries for those keys in a group that have this target, and counts these keys: those
+/// with digests of the map's secret, as all are.
+fn mark_group<H: BuildHasher>(recent: &mut Recent, group: &Group<H>, target: &Target) -> usize
     requires { are_distinct entry_key recent.old.entries ≡ true }
     ensures marked { recent.new
-        ≡ lru_cache
-        (map (marked_by (λ k. is_of target.now k && has group.now k)) recent.old.entries)
-        recent.old.cap }
-    ensures counted { result ≡ count_by (is_of target.now) (keys_in group.now) }
-    ensures distinct { IsDistinct same_key (keys_in group.now) }
+        ≡ recent_of
+        (map (marked_by (λ k. is_of target.now k && has group.now (digested recent.old.secret k)))
+        recent.old.entries)
+        recent.old.secret }
+    ensures counted { result
+        ≡ count_by (is_own recent.old.secret target.now) (keys_in group.now) }
+    ensures distinct { IsDistinct same_digested (keys_in group.now) }
 {
     match group {
         Group::One(key) => mark_of(recent, key, target),
@@ -353,17 +372,20 @@ fn mark_group<H: BuildHasher>(
 
 /// Marks the entries for those keys of a set that have this target, and counts these keys.
 fn mark_keys<H: BuildHasher>(
-    recent: &mut LruCache<SharedKey, Stored, H>,
-    keys: &HashSet<SharedKey, H>,
+    recent: &mut Recent,
+    keys: &HashSet<DigestedKey, H>,
     target: &Target,
 ) -> usize
     requires { are_distinct entry_key recent.old.entries ≡ true }
     ensures marked { recent.new
-        ≡ lru_cache
-        (map (marked_by (λ k. is_of target.now k && contains same_key keys.now k))
-        recent.old.entries) recent.old.cap }
-    ensures counted { result ≡ count_by (is_of target.now) keys.now.keys }
-    ensures distinct { IsDistinct same_key keys.now.keys }
+        ≡ recent_of
+        (map
+        (marked_by (λ k.
+        is_of target.now k && contains same_digested keys.now (digested recent.old.secret k)))
+        recent.old.entries)
+        recent.old.secret }
+    ensures counted { result ≡ count_by (is_own recent.old.secret target.now) keys.now.keys }
+    ensures distinct { IsDistinct same_digested keys.now.keys }
 {
     let _laws = keys.len();
     let mut count = 0;
@@ -374,34 +396,28 @@ fn mark_keys<H: BuildHasher>(
 }
 
 /// Marks the entry with a key, if the key has this target, and returns 1 then and otherwise 0.
-fn mark_of<H: BuildHasher>(
-    recent: &mut LruCache<SharedKey, Stored, H>,
-    key: &SharedKey,
-    target: &Target,
-) -> usize
+fn mark_of(recent: &mut Recent, key: &DigestedKey, target: &Target) -> usize
     requires { are_distinct entry_key recent.old.entries ≡ true }
     ensures marked { recent.new
-        ≡ lru_cache
-        (map (marked_by (λ k. is_of target.now k && same_key k key.now)) recent.old.entries)
-        recent.old.cap }
-    ensures counted { result ≡ (if is_of target.now key.now then 1 else 0) }
+        ≡ recent_of
+        (map
+        (marked_by (λ k.
+        is_of target.now k && same_digested (digested recent.old.secret k) key.now))
+        recent.old.entries)
+        recent.old.secret }
+    ensures counted { result ≡ (if is_own recent.old.secret target.now key.now then 1 else 0) }
 {
-    if key.target == *target {
-        mark_key(recent, key);
+    if is_own(recent.secret(), target, key) {
+        recent.mark(key);
         1
     } else {
         0
     }
 }
 
-/// Marks the entry with a key, if there is one.
-fn mark_key<H: BuildHasher>(recent: &mut LruCache<SharedKey, Stored, H>, key: &SharedKey)
-    requires { are_distinct entry_key recent.old.entries ≡ true }
-    ensures { recent.new
-        ≡ lru_cache (map (marked_by (λ k. same_key k key.now)) recent.old.entries) recent.old.cap }
+/// Whether a key has this target, and digests of this secret.
+fn is_own(secret: u64, target: &Target, key: &DigestedKey) -> bool
+    ensures { result ≡ is_own secret target.now key.now }
 {
-    match recent.peek_mut(key) {
-        Some(stored) => stored.marked = true,
-        None => {}
-    }
+    key.secret() == secret && key.key().target == *target
 }

@@ -132,8 +132,8 @@ fn address_of(hosts: &[KnownHost], name: &Seq<u8>) -> Option<Ip>
     Some(host.ip)
 }
 
-/// The target of a request for a URI whose host isn't one of the proxy's own names, sent to the host
-/// itself: at its address, or that of the known host with its name.
+/// The target of a request for a URI whose host isn't one of the proxy's own names, sent to the
+/// host itself: at its address, or that of the known host with its name.
 pub(crate) fn remote(hosts: &[KnownHost], uri: UriParts) -> Result<Target, TargetError>
     ensures { result ≡ spec.remote hosts.now uri }
 {

@@ -47,8 +47,8 @@ fn set<S: System>(system: &mut S, waiting: &mut bool, waits: bool) -> io::Result
     Ok(())
 }
 
-/// Reads a datagram from a socket that is made to wait before, or not to. If nothing was there, waits
-/// for one for at most `rest` milliseconds, and reads once more if one came.
+/// Reads a datagram from a socket that is made to wait before, or not to. If nothing was there,
+/// waits for one for at most `rest` milliseconds, and reads once more if one came.
 pub(crate) fn read_by<S: System>(
     system: &mut S,
     waiting: &mut bool,

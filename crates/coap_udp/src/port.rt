@@ -24,8 +24,8 @@ use std::time::Clock;
 ///
 /// Its moments are the milliseconds since it was created, or the last moment if the clock can't be
 /// read. It reads the clock once after each read: a tick without a wait has the last moment again.
-/// Its draws come from a generator that is seeded from the system's random source. The contracts say
-/// which calls it makes to the system, and not what the system gives.
+/// Its draws come from a generator that is seeded from the system's random source. The contracts
+/// say which calls it makes to the system, and not what the system gives.
 ///
 /// A datagram is read straight into the buffer that the port is handed, and the system cuts it to
 /// the room there. A read takes one system call while datagrams come, and so does a send. If

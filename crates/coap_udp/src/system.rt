@@ -5,8 +5,8 @@ use std::net::SocketAddr;
 /// A socket, a wait for its arrivals, a clock and a generator.
 ///
 /// An implementation states in its relations what its calls do, as far as that is known: one in
-/// memory states it exactly, the operating system can't. Each call leads from one state to the next,
-/// so that what a port does is said by which calls it makes, and in which order.
+/// memory states it exactly, the operating system can't. Each call leads from one state to the
+/// next, so that what a port does is said by which calls it makes, and in which order.
 pub trait System {
     ghost use Rattle.std.specs.Prelude.{◌≤◌, ◌^◌, ⊤, ℕ, Bool, List, Option, Result, length, IfOk, IfSome};
     ghost use Rattle.std.specs.Counts.{IsPrefixLen};

@@ -1,4 +1,5 @@
-//! A port over a socket whose clock and random source a test sets, and a network that has no socket.
+//! A port over a socket whose clock and random source a test sets, and a network that has no
+//! socket.
 ghost use Rattle.std.specs.Prelude.{◌≡◌, ◌<◌, ◌^◌, OnOk};
 
 use crate::port::UdpPort;

@@ -71,8 +71,8 @@ pub fn counts_at(endpoints: &EndpointMap, at: Peer, place: Option<u64>) -> Endpo
     }
 }
 
-/// Adds an exchange with this endpoint, which is waiting for its turn, and returns how many are sent
-/// there. There is room for another endpoint.
+/// Adds an exchange with this endpoint, which is waiting for its turn, and returns how many are
+/// sent there. There is room for another endpoint.
 pub fn open_one(endpoints: &mut EndpointMap, at: Peer) -> usize
     requires all { open_in endpoints.old at < 2 ^ 64 - 1 }
     requires queued { queued_in endpoints.old at < 2 ^ 64 - 1 }

@@ -130,16 +130,16 @@ pub fn surveyed()
         ≡ of_none }
     ensures named { survey_of (get (zeros 35 1 ∷ [])) ≡ record of_none { says_uri = true } }
     ensures accept { survey_of (get (zeros 11 1 ∷ zeros 17 1 ∷ []))
-        ≡ record of_none { has_key = true; others = from_to 17 17 } }
+        ≡ record of_none { has_key_options = true; others = from_to 17 17 } }
     ensures size1 { survey_of (get (zeros 11 1 ∷ zeros 60 1 ∷ []))
         ≡ record of_none { others = from_to 60 60 } }
     ensures tag_of_get { survey_of (get (zeros 4 1 ∷ [])) ≡ record of_none { has_tags = true } }
     ensures long_tag { survey_of (get (zeros 4 9 ∷ []))
-        ≡ record of_none { has_key = true; others = from_to 4 4 } }
+        ≡ record of_none { has_key_options = true; others = from_to 4 4 } }
     ensures tag_of_put { survey_of (put (zeros 4 1 ∷ []))
-        ≡ record of_none { has_key = true; has_tags = true; others = from_to 4 4 } }
+        ≡ record of_none { has_key_options = true; has_tags = true; others = from_to 4 4 } }
     ensures if_match_to_size1 { survey_of (put not_used_up)
-        ≡ record of_none { has_key = true; has_tags = true; others = from_to 1 60 } }
+        ≡ record of_none { has_key_options = true; has_tags = true; others = from_to 1 60 } }
 {}
 
 /// For some GETs, the options that are forwarded, those that are part of the key, and the tags: one

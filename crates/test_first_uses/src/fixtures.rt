@@ -38,7 +38,7 @@ pub(crate) fn target(alloc: Global) -> Result<Target, OutOfMemory>
 pub(crate) fn key(alloc: Global) -> Result<SharedKey, OutOfMemory> {
     let target = target(alloc)?;
     let options = OptionList::new(alloc);
-    SharedKey::new(alloc, CacheKey { target, options })
+    SharedKey::new(alloc, CacheKey { target, options }, 0)
 }
 
 /// A 2.05 with Max-Age 10 and an ETag, which came at moment 0.

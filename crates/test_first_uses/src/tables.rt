@@ -1,4 +1,5 @@
-//! `ordered_index`, `coap_dedup`, `coap_pending`, `endpoint_counts`, `coap_exchange`, `coap_forward`.
+//! `ordered_index`, `coap_dedup`, `coap_pending`, `endpoint_counts`, `coap_exchange`,
+//! `coap_forward`.
 use crate::fixtures;
 use crate::fixtures::{CLIENT, ORIGIN};
 use coap_dedup::{EXCHANGE_LIFETIME, Records, Seen};
@@ -64,8 +65,8 @@ fn coap_exchange(rt: HostRuntime) -> Result<(), Fail> {
     let form = Seq::from_slice(alloc, b"\x48\x01\0\0\0\0\0\0\0\0\0\x01\xB4temp")?;
     let mut exchanges = Exchanges::new(alloc, 256, 16)?;
     let opening = Opening {
-        client,
-        key: exchanges.hashed(&key),
+        client: Peer::new(client),
+        key: &key,
         is_get: true,
         form,
         copy: None,

@@ -1,5 +1,5 @@
-//! Datagrams that are as long as the limit, or longer. All of them begin with a request, so one that
-//! was cut would be taken for another request.
+//! Datagrams that are as long as the limit, or longer. All of them begin with a request, so one
+//! that was cut would be taken for another request.
 ghost use Rattle.std.specs.Prelude.{◌≡◌, ◌<◌, ◌^◌, IfOk, OnOk};
 
 use crate::loopback::{LOCALHOST, address_seen, drive_for, peer};
@@ -106,7 +106,8 @@ fn port_of(alloc: Global, length: usize) -> Result<MemoryPort, OutOfMemory> {
     port(alloc, &request(alloc, length)?)
 }
 
-/// Hands a datagram of `length` bytes to a core, which does so many turns, and checks what it sends.
+/// Hands a datagram of `length` bytes to a core, which does so many turns, and checks what it
+/// sends.
 fn check(
     rt: &impl Abort,
     alloc: Global,
@@ -148,8 +149,8 @@ struct Client<'a> {
     proxy: SocketAddr,
 }
 
-/// The length of the datagram that a client sends, in bytes, then how many turns the core does, each
-/// of which sends one datagram, and what the client gets.
+/// The length of the datagram that a client sends, in bytes, then how many turns the core does,
+/// each of which sends one datagram, and what the client gets.
 type Sent = (usize, u64, &'static [u8]);
 
 /// Checks what a client gets for a datagram.

@@ -128,8 +128,8 @@ fn the_address_is_the_one_that_was_asked_for(rt: HostRuntime) -> Result<(), Fail
     check_address(&rt, &mut port, &mut into, &peer, free)
 }
 
-/// How much later the second of three such turns comes than the first, and the shortest of the times
-/// that they took: a busy host may hold up some of them.
+/// How much later the second of three such turns comes than the first, and the shortest of the
+/// times that they took: a busy host may hold up some of them.
 fn timed_thrice<P: Port>(
     rt: &(impl Abort + Clock),
     port: &mut P,

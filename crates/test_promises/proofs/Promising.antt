@@ -22,7 +22,7 @@ use Rattle.coap_model.specs.History.{Action, Observation, IsPositionOf, Position
 use Rattle.coap_model.specs.Justified.{Comes}
 use Rattle.coap_model.specs.Setting.{Setting}
 use Rattle.coap_model.specs.State.{State}
-use Rattle.coap_model.specs.Word.{IsCacheWithin, IsWithin, IsFromCache, IsToldAgain, KeepsItsWord}
+use Rattle.coap_model.specs.Word.{IsCacheWithin, IsWithin, IsFromCache, IsRepliedAgain, KeepsItsWord}
 use Rattle.coap_model.specs.WordExamples.{again, con_read}
 use Rattle.coap_model.proofs.CacheExamples.{are-bytes}
 use Rattle.coap_model.proofs.Positions.{here}
@@ -68,7 +68,7 @@ con_repeats d is = subst (λ (e : Observation). Repeats 500 (client 1) con_read 
 pub no_other_acknowledgement : (w : State) → 6 ≤ w.setting.limits.datagram → ¬ KeepsItsWord acknowledges_another w
 no_other_acknowledgement w long word = go word.actions word.told word.duplicates
   where
-    go : (actions : List Action) → told_by actions ≡ acknowledges_another → ((p former : Position) (source : Endpoint) (m : Message) → IsPositionOf actions p → IsPositionOf p.before former → Comes w.setting source m p.action.observation.event → Repeats p.action.observation.now source m former → IsToldAgain source m former p.action.observation) → ⊥
+    go : (actions : List Action) → told_by actions ≡ acknowledges_another → ((p former : Position) (source : Endpoint) (m : Message) → IsPositionOf actions p → IsPositionOf p.before former → Comes w.setting source m p.action.observation.event → Repeats p.action.observation.now source m former → IsRepliedAgain source m former p.action.observation) → ⊥
     go [] told duplicates = absurd (let few = ap (λ (es : List Observation). length es) told in omega (arith, few))
     go (d ∷ []) told duplicates = absurd (let few = ap (λ (es : List Observation). length es) told in omega (arith, few))
     go (d ∷ e ∷ []) told duplicates =

@@ -51,8 +51,8 @@ other_past = asks_other ∷ tagged_past
 
 -- ---- length
 
--- The 2.03 has a Content-Format of one byte, which the cached response gets from it. With this and a
--- Max-Age of four bytes that response has 24 bytes; without it, it has 22, and the 2.03 has 21.
+-- The 2.03 has a Content-Format of one byte, which the cached response gets from it. With this and
+-- a Max-Age of four bytes that response has 24 bytes; without it, it has 22, and the 2.03 has 21.
 abbrev pub format_valid_bytes : List ℕ
 format_valid_bytes = answer 0x68 0x43 3 2 (0x41 ∷ 0xAB ∷ 0x81 ∷ 0x28 ∷ 0x21 ∷ 20 ∷ [])
 

@@ -13,7 +13,7 @@ ghost use Rattle.coap_model.specs.History.{Action, Observation, IsPositionOf, Po
 ghost use Rattle.coap_model.specs.Justified.{AllJustified, Comes};
 ghost use Rattle.coap_model.specs.MessageIds.{IdsDiffer};
 ghost use Rattle.coap_model.specs.State.{State};
-ghost use Rattle.coap_model.specs.Word.{IsCacheWithin, IsFromCache, IsToldAgain, IsWithin, KeepsItsWord, until};
+ghost use Rattle.coap_model.specs.Word.{IsCacheWithin, IsFromCache, IsRepliedAgain, IsWithin, KeepsItsWord, until};
 ghost use Rattle.test_promises.specs.Promises.{acknowledges_another, begins_with_a_hit, only_a_hit, IsOtherwiseWithin};
 
 /// For a proxy that keeps its promise: at each position the limits hold, a hit is a reply from the
@@ -34,7 +34,7 @@ pub fn the_promise_covers_each_position()
         → IsPositionOf p.before former
         → Comes w.setting source m p.action.observation.event
         → Repeats p.action.observation.now source m former
-        → IsToldAgain source m former p.action.observation }
+        → IsRepliedAgain source m former p.action.observation }
 {}
 
 /// For a proxy that keeps its promise: its history is the one of the promise, each observation is

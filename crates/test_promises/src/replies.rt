@@ -9,8 +9,8 @@ ghost use Rattle.coap_model.specs.OptionExamples.{key_of_temp};
 ghost use Rattle.coap_model.specs.Word.{IsFromCache};
 ghost use Rattle.test_promises.specs.Replies.{accepting, accepting_bytes, get_bytes, key_accepting, key_of_part, part, part_bytes, put, put_bytes, replied_to, IsShownTo};
 
-/// A cached response that is shown to a request is a reply to it if that is a GET, and if its key is
-/// the one that the response was obtained for (RFC 7252, 5.6).
+/// A cached response that is shown to a request is a reply to it if that is a GET, and if its key
+/// is the one that the response was obtained for (RFC 7252, 5.6).
 pub fn what_is_shown_to_its_get_is_a_reply()
     ensures whole { (request : Message) (key : CacheKey) (bytes : List ℕ)
         → IsGet request

@@ -35,8 +35,8 @@ pub fn limits_of_exchanges_and_clients_are_exact()
     ensures waiters_below { ¬ IsShort (record default_limits { waiters = 3 }) 0 two_pending }
 {}
 
-/// In each 247 seconds 32,768 Message IDs are free. One is left for each client that waits, for each
-/// request that is still to be sent, and for each one that was given out (RFC 7252, 4.4).
+/// In each 247 seconds 32,768 Message IDs are free. One is left for each client that waits, for
+/// each request that is still to be sent, and for each one that was given out (RFC 7252, 4.4).
 pub fn free_ids_are_counted_exactly()
     ensures all { HasIds 32768 0 [] }
     ensures no_more { ¬ HasIds 32769 0 [] }

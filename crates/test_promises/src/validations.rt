@@ -12,8 +12,8 @@ ghost use Rattle.coap_model.specs.WordExamples.{asks_tagged, at, gets_valid, set
 ghost use Rattle.test_promises.specs.Validations.{asks_other, format_valid, gets_format_valid, gets_other_valid, limits_of, other_past, other_valid, renewed_by, tags_asked, IsAsked};
 
 /// A response with the tag AB is renewed by a message that arrives for a GET with this tag, if the
-/// message validates it, and if what it makes of that fits a datagram and lasts (RFC 7252, 5.6.2 and
-/// 5.9.1.3).
+/// message validates it, and if what it makes of that fits a datagram and lasts (RFC 7252, 5.6.2
+/// and 5.9.1.3).
 pub fn a_validated_response_is_renewed()
     ensures tag { tag_of tagged_content.options ≡ Some (0xAB ∷ []) }
     ensures whole { (limits : Limits) (asking getting : Position) (m : Message)

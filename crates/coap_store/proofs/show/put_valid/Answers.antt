@@ -16,6 +16,6 @@ returns-in_err-put_option c =
     let new = c.put_option.new.out in
     let tag = option_spelling 0 (option_of 4 c.args.tag.now) in
     let max_age = options_spelling 4 (max_age_option c.args.left ∷ []) in
-    rw p.1 (Appends-behind (holding c.args.out.now []) old new c.args.room (head_spelling (record { kind = c.args.reply.kind; code = VALID; id = c.args.reply.id }) c.args.reply.token.now) ((tag ++ max_age) ++ []) tt (Err p.0) (rw c.head.ensures at c.in_ok-put_head.ensures.written)
+    rw p.1 (Appends-behind (holding c.args.out.now []) old new c.args.room (head_spelling (record { kind = c.args.envelope.kind; code = VALID; id = c.args.envelope.id }) c.args.envelope.token.now) ((tag ++ max_age) ++ []) tt (Err p.0) (rw c.head.ensures at c.in_ok-put_head.ensures.written)
     (Appends-full old new c.args.room (tag ++ max_age) [] p.0 p.0
     (Appends-full old new c.args.room tag max_age c.in_err-put_option.field-0.0 p.0 c.in_err-put_option.ensures)))

@@ -10,7 +10,8 @@ use Rattle.coap_store_lru.proofs.lru_store.cut_to.Given as goal
 abbrev pub invariant-over : goal.invariant-over
 invariant-over g l = record {
   those : AreThoseOf l.recent.entries l.total (is_indexed l.index.secret l.index.groups);
-  cap : l.recent.cap ≡ l.initial.recent.cap;
+  secret : l.recent.secret ≡ l.initial.recent.secret;
+  hashed : l.index.secret ≡ l.initial.index.secret;
   alike : cut entry_size l.room.bytes l.room.entries l.recent.entries ≡ cut entry_size l.room.bytes l.room.entries l.initial.recent.entries;
   all : l.evicted.entries + length l.recent.entries ≡ length l.initial.recent.entries;
   fresh : l.evicted.fresh + count_by (λ (e : Entry). is_fresh l.room.now e.1) l.recent.entries ≡ count_by (λ (e : Entry). is_fresh l.room.now e.1) l.initial.recent.entries;

@@ -1,6 +1,6 @@
 use Rattle.std.proofs.Common.{◌≡◌, ◌&&◌, ℕ, nat_eq, cond, not, Some, None, rules, refl, sym, ap, ◌∙◌}
 use Rattle.std.specs.HashMap.{get}
-use Rattle.coap_store.specs.Keys.{same_key}
+use Rattle.coap_store.specs.Digested.{same_digested}
 use Rattle.coap_store_lru.proofs.Groups.{filled-but, filled_by, in_group-found, none_left, put-elsewhere, put-here}
 use Rattle.coap_store_lru.proofs.target_index.leave.Goals as goal
 
@@ -15,7 +15,7 @@ returns-in-Some g c =
     let others = put-elsewhere groups new at (Some group) put in
     let is = put-here groups new at (Some group) put in
     record {
-      left = λ k. ap (λ b. not c.leave.result && b) (sym (in_group-found new at (Some group) (sym is) k)) ∙ c.leave.ensures.left k ∙ ap (λ b. not (same_key key k) && b) (in_group-found groups at (Some c.in-Some.group.now) c.in-Some.ensures.value k);
+      left = λ k. ap (λ b. not c.leave.result && b) (sym (in_group-found new at (Some group) (sym is) k)) ∙ c.leave.ensures.left k ∙ ap (λ b. not (same_digested key k) && b) (in_group-found groups at (Some c.in-Some.group.now) c.in-Some.ensures.value k);
       others = others;
       filled = λ some. filled-but groups new at others c.requires (filled_by new at group is (c.leave.ensures.filled some));
     }

@@ -1,4 +1,4 @@
-use Rattle.std.proofs.Common.{◌≡◌, length, ap, arith, ◌∙◌}
+use Rattle.std.proofs.Common.{◌≡◌, length, sym, ap, arith, ◌∙◌}
 use Rattle.coap_store.specs.Entries.{entry_key, entry_size}
 use Rattle.coap_store.specs.Lists.{has_other_key, others, total}
 use Rattle.coap_store.proofs.Held.{filter-length, filter-total}
@@ -12,7 +12,7 @@ invariant_of-self g c =
     let are : c.take_out.new.recent.entries ≡ others entry_key k es = ap (λ m. m.entries) c.take_out.ensures.others in
     record {
       are_those = c.take_out.ensures.those;
-      unlimited = ap (λ m. m.cap) c.take_out.ensures.others ∙ s.unlimited;
+      hashed = ap (λ m. m.secret) c.take_out.ensures.others ∙ s.hashed ∙ sym c.take_out.ensures.secret;
       within_bytes = omega (arith, s.within_bytes, s.are_those.counted, c.take_out.ensures.those.counted, ap (total entry_size) are, filter-total entry_size (has_other_key entry_key k) es);
       within_entries = omega (arith, s.within_entries, ap length are, filter-length (has_other_key entry_key k) es);
       small = s.small;

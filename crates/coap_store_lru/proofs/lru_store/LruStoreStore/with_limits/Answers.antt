@@ -5,11 +5,11 @@ use Rattle.coap_store_lru.proofs.lru_store.LruStoreStore.with_limits.Goals as go
 
 pub invariant_of-result : goal.invariant_of-result
 invariant_of-result g c =
-    let made = c.in_ok-unbounded_with_hasher.ensures in
-    let none : c.in_ok-unbounded_with_hasher.field-0.entries ≡ [] = ap (λ m. m.entries) made in
+    let made = c.in_ok-new.ensures in
+    let none : c.in_ok-new.field-0.entries ≡ [] = ap (λ m. m.entries) made in
     record {
-      are_those = subst (λ es. AreThoseOf es 0 (is_indexed c.new.result.secret c.new.result.groups)) (sym none) (record { distinct = refl; counted = refl; indexed_are = c.new.ensures.empty });
-      unlimited = ap (λ m. m.cap) made;
+      are_those = subst (λ es. AreThoseOf es 0 (is_indexed c.new-index.result.secret c.new-index.result.groups)) (sym none) (record { distinct = refl; counted = refl; indexed_are = c.new-index.ensures.empty });
+      hashed = ap (λ m. m.secret) made;
       within_bytes = omega arith;
       within_entries = omega (arith, ap length none);
       small = omega (arith, min-le_right c.args.most_bytes 9223372036854775807);

@@ -1,5 +1,0 @@
-use Rattle.std.proofs.Common.{rules}
-use Rattle.coap_forward.proofs.answers.left_told.Goals as goal
-
-pub returns-then-not-answer : goal.returns-then-not-answer
-returns-then-not-answer c = search rules

@@ -1,5 +1,0 @@
-use Rattle.std.proofs.Common.{rules}
-use Rattle.coap_pending.proofs.exchange.Sending.is_as.Goals as goal
-
-pub returns-then-self-id : goal.returns-then-self-id
-returns-then-self-id c = search rules

@@ -1,0 +1,170 @@
+//! Cache keys that are found by their digests.
+ghost use Rattle.std.specs.Prelude.{◌≡◌, IfOk, OnOk};
+ghost use Rattle.std.specs.Cmp.{partial_equiv_from_equiv};
+ghost use Rattle.coap_store.specs.DigestedAlike.{digested_equiv, digested_fed};
+ghost use Rattle.coap_store.specs.Digested.{digested, fed_digested, same_digested};
+ghost use Rattle.coap_store.specs.Digests.{digests_of};
+
+use crate::digests::{Digests, digests_of};
+use crate::key::CacheKey;
+use crate::shared_key::KeySource;
+use coap_message::OutOfMemory;
+use std::alloc::Global;
+use std::hash::{Hash, Hasher};
+use std::marker::Model;
+use std::rc::Rc;
+
+/// A cache key that all who need it share, with its digest and that of its target. It is hashed as
+/// its digest, so those who don't know the secret can't choose keys that meet in a map. A contract
+/// sees the key, and the secret that the digests were made with.
+#[derive(Drop)]
+pub struct DigestedKey {
+    shared: Rc<CacheKey>,
+    secret: u64,
+    digests: Digests,
+}
+
+impl Model for DigestedKey {
+    ghost use Rattle.std.specs.Prelude.{◌≡◌};
+    ghost use Rattle.coap_store.specs.Digested.{Digested, digested};
+    ghost use Rattle.coap_store.specs.Digests.{digests_of};
+
+    ghost Value = { Digested };
+
+    ghost view = { λ d. digested d.secret d.shared.value };
+
+    ghost invariant = { λ d. d.digests ≡ digests_of d.secret d.shared.value };
+}
+
+impl DigestedKey {
+    /// A key that nobody shares yet, with its digests.
+    ///
+    /// # Errors
+    /// Out of memory.
+    pub(crate) fn new(alloc: Global, key: CacheKey, secret: u64) -> Result<DigestedKey, OutOfMemory>
+        ensures { IfOk result (λ made. made ≡ digested secret key) }
+    {
+        let digests = digests_of(secret, &key);
+        Ok(DigestedKey {
+            shared: Rc::new(alloc, key)?,
+            secret,
+            digests,
+        })
+    }
+
+    /// The key.
+    pub fn key(&self) -> &CacheKey
+        ensures { result.now ≡ self.now.key }
+    {
+        self.shared.as_ref()
+    }
+
+    /// The secret that its digests were made with.
+    pub fn secret(&self) -> u64
+        ensures { result ≡ self.now.secret }
+    {
+        self.secret
+    }
+
+    /// Its digest, and that of its target.
+    pub fn digests(&self) -> Digests
+        ensures { result ≡ digests_of self.now.secret self.now.key }
+    {
+        self.digests
+    }
+
+    /// The same key for one more who needs it. Doesn't allocate.
+    ///
+    /// # Errors
+    /// If 2^64 - 1 share it.
+    pub fn share(&self) -> Result<DigestedKey, OutOfMemory>
+        ensures { IfOk result (λ shared. shared ≡ self.now) }
+    {
+        Ok(DigestedKey {
+            shared: self.shared.clone()?,
+            secret: self.secret,
+            digests: self.digests,
+        })
+    }
+
+    /// A copy, with no spare capacity, which nobody shares yet.
+    ///
+    /// # Errors
+    /// Out of memory.
+    pub(crate) fn copied(&self, alloc: Global) -> Result<DigestedKey, OutOfMemory>
+        ensures { IfOk result (λ copy. copy ≡ self.now) }
+    {
+        Ok(DigestedKey {
+            shared: Rc::new(alloc, self.key().copied()?)?,
+            secret: self.secret,
+            digests: self.digests,
+        })
+    }
+
+    /// The same key with the digests that this secret gives.
+    pub fn with_secret(self, secret: u64) -> DigestedKey
+        ensures { result ≡ digested secret self.key }
+    {
+        if self.secret == secret {
+            return self;
+        }
+        let digests = digests_of(secret, self.key());
+        let DigestedKey {
+            shared,
+            secret: _,
+            digests: _,
+        } = self;
+        DigestedKey {
+            shared,
+            secret,
+            digests,
+        }
+    }
+
+    /// Overwrites the key, which nobody else shares, and reuses its room. The digests are those of
+    /// the new key with this secret.
+    ///
+    /// # Errors
+    /// Out of memory, or somebody else shares it. It may then hold parts of both keys.
+    pub(crate) fn overwrite<S: KeySource>(
+        &mut self,
+        source: &S,
+        secret: u64,
+    ) -> Result<(), OutOfMemory>
+        ensures { OnOk result (self.new ≡ digested secret (S.made source.now)) }
+    {
+        let written = match Rc::get_mut(&mut self.shared) {
+            Some(key) => source.write_to(key),
+            None => Err(OutOfMemory),
+        };
+        self.secret = secret;
+        self.digests = digests_of(secret, self.shared.as_ref());
+        written
+    }
+}
+
+impl Eq for DigestedKey {
+    ghost laws = { digested_equiv };
+}
+
+/// Compares the secrets and the keys.
+impl PartialEq for DigestedKey {
+    ghost eq = { same_digested };
+
+    ghost laws = { partial_equiv_from_equiv digested_equiv };
+
+    fn eq(&self, other: &DigestedKey) -> bool {
+        self.secret == other.secret && *self.key() == *other.key()
+    }
+}
+
+/// Hashes the digest.
+impl Hash for DigestedKey {
+    ghost hash_input = { fed_digested };
+
+    ghost respects_eq = { digested_fed };
+
+    fn hash<H: Hasher>(&self, state: &mut H) {
+        state.write_u64(self.digests.key);
+    }
+}
