@@ -1,4 +1,12 @@
+pub mod Account
 pub mod Causes
 pub mod Details
+pub mod Examples
+pub mod Known
 pub mod Lacks
+pub mod Noted
+pub mod Runs
+pub mod Says
+pub mod Targets
+pub mod Ways
 pub mod Words

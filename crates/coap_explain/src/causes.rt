@@ -1,10 +1,11 @@
-//! Why a message was refused, ignored or dropped, in words, for an account and for a log. The causes
-//! are found again from the message and from what the proxy holds: a step doesn't give them.
+//! Why a message was refused, ignored or dropped, in words, for an account and for a log. The
+//! causes are found again from the message and from what the proxy holds: a step doesn't give them.
 ghost use Rattle.std.specs.Prelude.{◌≡◌, ◌++◌, codes, OnOk};
 ghost use Rattle.std.specs.Io.KnownBytes.{Appends};
 ghost use Rattle.std.specs.Option.{option_copied};
 ghost use Rattle.coap_option.specs.declared.side.Side.{Side};
 ghost use Rattle.coap_option.specs.Screening.{first_refused};
+ghost use Rattle.coap_explain.specs.Account as text;
 ghost use Rattle.coap_explain.specs.Causes.{gateway_of, is_other_tag, refusal_of, unprocessed_message, unprocessed_of};
 ghost use Rattle.coap_explain.specs.Words as spec;
 
@@ -78,17 +79,21 @@ pub(crate) fn overload_of<S: Store + Drop>(
     core: &Core<S>,
     client: Endpoint,
     request: &MessageRef<'_>,
-) -> Lacks {
-    let mut usage = Usage::of(core, client);
-    if request.kind() == Kind::Non {
-        // its own reply took one
-        usage.free_ids = usage.free_ids.saturating_add(1);
-    }
-    if request.code() == Code::GET && core.is_joinable(core.last_key().key()) {
+    joins: bool,
+) -> Lacks
+    ensures { result ≡ text.overload_of core.now client request.now joins }
+{
+    let usage = Usage::of(core, client).before_reply(request.kind());
+    if request.code() == Code::GET && joins {
         usage.to_join()
     } else {
         usage.to_open()
     }
+}
+
+/// Whether a GET with the key of the last request may share an exchange's answer.
+pub(crate) fn joins<S: Store + Drop>(core: &Core<S>) -> bool {
+    core.is_joinable(core.last_key().key())
 }
 
 /// Why a request was refused with a code.
@@ -236,7 +241,8 @@ pub(crate) enum BadGateway {
 }
 
 impl BadGateway {
-    /// The cause, if a response is passed on as 5.02. The exchange is the one that awaits it.
+    /// The cause of a 5.02 that takes the place of this response. The exchange is the one that
+    /// awaited it.
     pub(crate) fn of(response: &MessageRef<'_>, awaited: Option<&Exchange>) -> BadGateway
         ensures { result ≡ gateway_of response.now (option_copied awaited.entry) }
     {

@@ -1,4 +1,10 @@
 //! What a tick is about, noted before it: an exchange, or a client that is being sent its answer.
+ghost use Rattle.std.specs.Prelude.{◌≡◌, OnOk};
+ghost use Rattle.std.specs.Io.KnownBytes.{Appends};
+ghost use Rattle.coap_core.specs.Events.{seen};
+ghost use Rattle.coap_message.specs.Reading.{read_message};
+ghost use Rattle.coap_explain.specs.Account as text;
+ghost use Rattle.coap_explain.specs.Noted as spec;
 
 use crate::causes::{BadGateway, Silence};
 use crate::messages::put_endpoint;
@@ -55,7 +61,9 @@ pub(crate) enum Due {
 }
 
 /// How far an exchange is.
-fn silence_of(state: &ExchangeState) -> Silence {
+fn silence_of(state: &ExchangeState) -> Silence
+    ensures { result ≡ spec.silence_of state.now }
+{
     match state {
         ExchangeState::Queued => Silence::NotSent,
         ExchangeState::Sent => Silence::NotAcknowledged,
@@ -64,7 +72,9 @@ fn silence_of(state: &ExchangeState) -> Silence {
 }
 
 /// The answer of an exchange, if it has one.
-fn answer_of(state: &ExchangeState) -> Option<DueAnswer> {
+fn answer_of(state: &ExchangeState) -> Option<DueAnswer>
+    ensures { result ≡ spec.answer_in state.now }
+{
     match state {
         ExchangeState::Done(answer) => Some(DueAnswer {
             code: answer.message.code,
@@ -77,11 +87,17 @@ fn answer_of(state: &ExchangeState) -> Option<DueAnswer> {
 
 impl DueExchange {
     /// An exchange that this many clients wait for.
-    fn of(exchange: &Exchange, waiting: usize) -> DueExchange {
+    fn of(exchange: &Exchange, waiting: usize) -> DueExchange
+        ensures { result ≡ spec.exchange_of exchange.now waiting }
+    {
+        let (id, sends) = match exchange.sending {
+            Some(sending) => (Some(sending.id), sending.timer.transmissions),
+            None => (None, 0),
+        };
         DueExchange {
             origin: exchange.key.target.at,
-            id: exchange.sending.map(|sending| sending.id),
-            sends: exchange.sending.map_or(0, |sending| sending.timer.sends),
+            id,
+            sends,
             admitted: exchange.admitted,
             waiting: waiting as u64,
             silence: silence_of(&exchange.state),
@@ -90,7 +106,9 @@ impl DueExchange {
     }
 
     /// How long it takes or took, in milliseconds: to its answer, or to this moment.
-    pub(crate) fn took(&self, now: Moment) -> u64 {
+    pub(crate) fn took(&self, now: Moment) -> u64
+        ensures { result ≡ spec.took self.now now }
+    {
         let until = match self.answer {
             Some(answer) => answer.got,
             None => now,
@@ -99,7 +117,10 @@ impl DueExchange {
     }
 
     /// Adds its origin, how often its request was sent, and how long it took.
-    pub(crate) fn put<W: Write>(&self, line: &mut W, now: Moment) -> io::Result<()> {
+    pub(crate) fn put<W: Write>(&self, line: &mut W, now: Moment) -> io::Result<()>
+        ensures { OnOk result (Appends (W.contents line.old) (W.contents line.new)
+            (text.exchange_text now self.now)) }
+    {
         line.write_all(b" at ")?;
         put_endpoint(line, self.origin)?;
         let (sends, took) = (self.sends, self.took(now));
@@ -109,19 +130,24 @@ impl DueExchange {
 
 impl DueClient {
     /// A client, if it was sent its answer.
-    fn of(waiter: &Waiter) -> Option<DueClient> {
+    fn of(waiter: &Waiter) -> Option<DueClient>
+        ensures { result ≡ spec.client_of waiter.now }
+    {
         match &waiter.state {
             WaiterState::Waiting(_) => None,
             WaiterState::Delivering { timer, .. } => Some(DueClient {
                 client: waiter.client,
-                sends: timer.sends,
+                sends: timer.transmissions,
                 started: timer.started,
             }),
         }
     }
 
     /// Adds the client, how often it was sent its answer, and since when.
-    pub(crate) fn put<W: Write>(&self, line: &mut W, now: Moment) -> io::Result<()> {
+    pub(crate) fn put<W: Write>(&self, line: &mut W, now: Moment) -> io::Result<()>
+        ensures { OnOk result (Appends (W.contents line.old) (W.contents line.new)
+            (text.client_text now self.now)) }
+    {
         line.write_all(b" on ")?;
         put_endpoint(line, self.client)?;
         let (sends, took) = (self.sends, now.saturating_sub(self.started));
@@ -131,11 +157,16 @@ impl DueClient {
 
 impl Due {
     /// What the next tick of a core is about.
-    pub(crate) fn of<S: Store + Drop>(core: &Core<S>) -> Due {
+    pub(crate) fn of<S: Store + Drop>(core: &Core<S>) -> Due
+        ensures { result ≡ spec.due_of core.now }
+    {
         if let Some(exchange) = core.due_exchange() {
             return Due::Exchange(DueExchange::of(exchange, core.due_waiting()));
         }
-        match core.due_waiter().and_then(DueClient::of) {
+        let Some(waiter) = core.due_waiter() else {
+            return Due::Nothing;
+        };
+        match DueClient::of(waiter) {
             Some(client) => Due::Client(client),
             None => Due::Nothing,
         }
@@ -153,11 +184,26 @@ pub(crate) struct Came {
 
 impl Came {
     /// What an event brings to an exchange of a core, if it does.
-    pub(crate) fn of<S: Store + Drop>(event: Event<'_>, core: &Core<S>) -> Option<Came> {
+    pub(crate) fn of<S: Store + Drop>(event: Event<'_>, core: &Core<S>) -> Option<Came>
+        ensures { result ≡ spec.came_of core.now (seen event.entry) }
+    {
         let Event::Datagram { from, bytes } = event else {
             return None;
         };
-        let message = MessageRef::read(bytes).ok()?;
+        match MessageRef::read(bytes) {
+            Ok(message) => Came::of_message(from, &message, core),
+            Err(_) => None,
+        }
+    }
+
+    /// What a message brings to an exchange of a core, if it does.
+    fn of_message<S: Store + Drop>(
+        from: Endpoint,
+        message: &MessageRef<'_>,
+        core: &Core<S>,
+    ) -> Option<Came>
+        ensures { result ≡ spec.came_with core.now from message.now }
+    {
         if message.kind() == Kind::Rst {
             return Some(Came {
                 origin: from,
@@ -168,11 +214,21 @@ impl Came {
         if !message.code().is_response() {
             return None;
         }
-        let exchange = core.awaited(from, &message)?;
-        Some(Came {
-            origin: from,
-            id: exchange.sending?.id,
-            cause: BadGateway::of(&message, Some(exchange)),
-        })
+        let exchange = core.awaited(from, message)?;
+        Came::for_exchange(from, message, exchange)
+    }
+
+    /// What a response brings to the exchange that awaits it.
+    fn for_exchange(from: Endpoint, response: &MessageRef<'_>, exchange: &Exchange) -> Option<Came>
+        ensures { result ≡ spec.came_for from response.now exchange.now }
+    {
+        match exchange.sending {
+            Some(sending) => Some(Came {
+                origin: from,
+                id: sending.id,
+                cause: BadGateway::of(response, Some(exchange)),
+            }),
+            None => None,
+        }
     }
 }

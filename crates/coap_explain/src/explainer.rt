@@ -1,13 +1,21 @@
 //! A watcher that writes what it is told.
+ghost use Rattle.std.specs.Prelude.{◌≡◌, ◌++◌, codes, None, OnOk};
+ghost use Rattle.std.specs.Fmt.{decimal};
+ghost use Rattle.coap_core.specs.Events.{seen};
+ghost use Rattle.coap_core.specs.Told.{told};
+ghost use Rattle.coap_message.specs.Reading.{read_message};
+ghost use Rattle.coap_explain.specs.Account as spec;
+ghost use Rattle.coap_explain.specs.Says.{IsSaid, Says};
 
-use crate::due::{Came, Due};
+use crate::answering::Answering;
+use crate::causes::joins;
+use crate::due::Due;
 use crate::messages::{put_endpoint, put_kind, put_target};
 use crate::outcomes::{Before, put_outcome};
-use coap_core::{Core, Event, Routes, Seen, Watch};
+use crate::taken::Taken;
+use coap_core::{Core, Event, Watch, WatchedTurn};
 use coap_message::{MessageRef, Moment, OutOfMemory};
-use coap_option::screen_request_ref;
 use coap_store::Store;
-use coap_target::TargetError;
 use jiff::Timestamp;
 use std::alloc::Global;
 use std::io;
@@ -26,10 +34,12 @@ pub struct Explainer<W: Write> {
     alloc: Global,
     output: W,
     line: Vec<u8>,
+    /// The time of day of the line, with a blank behind it.
+    time: Vec<u8>,
     due: Due,
     /// The URI of the target that the exchange that is due has.
     target: Vec<u8>,
-    came: Option<Came>,
+    answering: Answering,
     /// The time of day of the moment 0, if it is known.
     since: Option<Timestamp>,
     failed: bool,
@@ -41,35 +51,18 @@ impl<W: Write + Drop> Drop for Explainer<W> {
             alloc: _,
             output: _,
             line: _,
+            time: _,
             due: _,
             target: _,
-            came: _,
+            answering: _,
             since: _,
             failed: _,
         } = self;
     }
 }
 
-/// Adds the target of a request, if none of its options is refused and the routes take it somewhere,
-/// or that there was no memory to find it.
-fn put_taken(
-    line: &mut Vec<u8>,
-    alloc: Global,
-    routes: &Routes,
-    request: &MessageRef<'_>,
-) -> io::Result<()> {
-    if screen_request_ref(request).is_err() {
-        return Ok(());
-    }
-    match routes.target_of_ref(alloc, request) {
-        Ok(target) => {
-            line.write_all(b" ")?;
-            put_target(line, &target)
-        }
-        Err(TargetError::OutOfMemory) => line.write_all(b" target: out of memory"),
-        Err(TargetError::BadUri | TargetError::NotProxied | TargetError::NotFound) => Ok(()),
-    }
-}
+/// The room for a time of day, in bytes.
+const TIME_ROOM: usize = 64;
 
 /// The time of day at a moment, in milliseconds, if it has one.
 fn time_at(since: Timestamp, now: Moment) -> Option<Timestamp> {
@@ -78,6 +71,101 @@ fn time_at(since: Timestamp, now: Moment) -> Option<Timestamp> {
         .checked_add(i64::try_from(now).ok()?)?;
     let (seconds, rest) = (millis.div_euclid(1000), millis.rem_euclid(1000));
     Timestamp::new(seconds, rest as i32 * 1_000_000).ok()
+}
+
+/// Adds the time of day at a moment and a blank, if the time of day of the moment 0 is known.
+fn put_time(time: &mut Vec<u8>, since: Option<Timestamp>, now: Moment) -> io::Result<()>
+    ensures { since ≡ None → OnOk result (time.new.items ≡ time.old.items) }
+{
+    let Some(since) = since else {
+        return Ok(());
+    };
+    match time_at(since, now) {
+        Some(at) => write!(time, "{at:.3} "),
+        None => Ok(()),
+    }
+}
+
+/// Adds where an event came from.
+fn put_source(line: &mut Vec<u8>, event: Event<'_>) -> io::Result<()>
+    ensures { OnOk result
+        (line.new.items ≡ line.old.items ++ spec.source_text (seen event.entry)) }
+{
+    match event {
+        Event::Datagram { from, .. } => put_endpoint(line, from),
+        Event::Tick => line.write_all(b"tick"),
+    }
+}
+
+/// Adds the type of a message and its code, if these bytes are one.
+fn put_read(line: &mut Vec<u8>, bytes: &[u8]) -> io::Result<()>
+    ensures { OnOk result
+        (line.new.items ≡ line.old.items ++ spec.message_read (read_message bytes.now)) }
+{
+    match MessageRef::read(bytes) {
+        Ok(message) => put_kind(line, &message),
+        Err(_) => Ok(()),
+    }
+}
+
+/// Adds the type of the message that came and its code, if one did.
+fn put_message(line: &mut Vec<u8>, event: Event<'_>) -> io::Result<()>
+    ensures { OnOk result
+        (line.new.items ≡ line.old.items ++ spec.message_text (seen event.entry)) }
+{
+    match event {
+        Event::Datagram { bytes, .. } => put_read(line, bytes),
+        Event::Tick => Ok(()),
+    }
+}
+
+/// Adds how a line begins: the number of an event, its moment, and its time of day.
+fn put_head(line: &mut Vec<u8>, number: u64, now: Moment, time: &[u8]) -> io::Result<()>
+    ensures { OnOk result (line.new.items
+        ≡ line.old.items ++ codes "# " ++ decimal number ++ codes " " ++ decimal now
+        ++ codes " " ++ time.now) }
+{
+    write!(line, "# {number} {now} ")?;
+    line.write_all(time)
+}
+
+/// Adds what came, and where its request is taken.
+fn put_event(line: &mut Vec<u8>, event: Event<'_>, taken: &Taken) -> io::Result<()>
+    ensures { OnOk result (line.new.items
+        ≡ line.old.items ++ spec.source_text (seen event.entry)
+        ++ spec.message_text (seen event.entry) ++ spec.taken_text taken.now) }
+{
+    put_source(line, event)?;
+    put_message(line, event)?;
+    taken.put(line)
+}
+
+/// What a line says beside its turn.
+#[derive(Clone, Copy)]
+struct Beside<'a> {
+    /// The time of day, with a blank behind it.
+    time: &'a [u8],
+    /// Where the routes take the request.
+    taken: &'a Taken,
+    before: Before<'a>,
+}
+
+/// Adds the line of a turn.
+fn put_line<S: Store + Drop>(
+    line: &mut Vec<u8>,
+    core: &Core<S>,
+    turn: WatchedTurn<'_>,
+    beside: Beside<'_>,
+) -> io::Result<()>
+    ensures { OnOk result (line.new.items
+        ≡ line.old.items
+        ++ spec.line_text (spec.line_of (told turn.entry core.now) beside.entry.time.now
+        beside.entry.taken.now (spec.noted_seen beside.entry.before))) }
+{
+    put_head(line, core.events(), turn.now, beside.time)?;
+    put_event(line, turn.event, beside.taken)?;
+    put_outcome(line, core, turn, beside.before)?;
+    line.write_all(b"\n")
 }
 
 impl<W: Write> Explainer<W> {
@@ -93,9 +181,10 @@ impl<W: Write> Explainer<W> {
             alloc,
             output,
             line: Vec::with_capacity(alloc, ROOM)?,
+            time: Vec::with_capacity(alloc, TIME_ROOM)?,
             due: Due::Nothing,
             target: Vec::with_capacity(alloc, ROOM)?,
-            came: None,
+            answering: Answering::Passed,
             since: None,
             failed: false,
         })
@@ -107,76 +196,65 @@ impl<W: Write> Explainer<W> {
         self.since = since;
     }
 
-    /// Adds the time of day at a moment, if it is known.
-    fn put_time(&mut self, now: Moment) -> io::Result<()> {
-        let Some(at) = self.since.and_then(|since| time_at(since, now)) else {
-            return Ok(());
-        };
-        write!(self.line, "{at:.3} ")
-    }
-
     /// Whether a line couldn't be written. The lines after it weren't written either.
-    pub fn failed(&self) -> bool {
+    pub fn failed(&self) -> bool
+        ensures { result ≡ self.now.failed }
+    {
         self.failed
     }
 
-    /// Adds where an event came from, the type of its message, its code, and its target, if it is a
-    /// request that the routes take somewhere.
-    fn put_event(&mut self, event: Event<'_>, routes: &Routes) -> io::Result<()> {
-        let Event::Datagram { from, bytes } = event else {
-            return self.line.write_all(b"tick");
-        };
-        put_endpoint(&mut self.line, from)?;
-        let Ok(message) = MessageRef::read(bytes) else {
-            return Ok(());
-        };
-        put_kind(&mut self.line, &message)?;
-        if !message.code().is_request() {
-            return Ok(());
-        }
-        put_taken(&mut self.line, self.alloc, routes, &message)
-    }
-
     /// Writes the line of a turn.
-    fn write<S: Store + Drop>(&mut self, turn: Seen<'_>, core: &Core<S>) -> io::Result<()> {
-        let (number, now) = (core.events(), turn.now);
-        self.line.clear();
-        write!(self.line, "# {number} {now} ")?;
-        self.put_time(now)?;
-        self.put_event(turn.event, core.routes())?;
-        let before = Before {
-            due: self.due,
-            target: self.target.as_slice(),
-            came: self.came,
+    fn write<S: Store + Drop>(&mut self, turn: WatchedTurn<'_>, core: &Core<S>) -> io::Result<()>
+        ensures { OnOk result (IsSaid (W.contents self.old.output) (told turn.entry core.now)
+            (W.contents self.new.output)) }
+    {
+        self.time.clear();
+        put_time(&mut self.time, self.since, turn.now)?;
+        let taken = Taken::of(self.alloc, turn.event, core.routes());
+        let beside = Beside {
+            time: self.time.as_slice(),
+            taken: &taken,
+            before: Before {
+                due: self.due,
+                target: self.target.as_slice(),
+                answering: self.answering,
+                joins: joins(core),
+            },
         };
-        put_outcome(&mut self.line, self.alloc, core, turn, before)?;
-        self.line.write_all(b"\n")?;
+        self.line.clear();
+        put_line(&mut self.line, core, turn, beside)?;
         self.output.write_all(&self.line)
     }
+}
 
-    /// Notes what the next tick is about.
-    fn note_due<S: Store + Drop>(&mut self, core: &Core<S>) {
-        self.due = Due::of(core);
-        self.target.clear();
-        if let Some(exchange) = core.due_exchange() {
-            // there is room for it
-            let _ = put_target(&mut self.target, &exchange.key.target);
-        }
+/// Adds the URI of the target of the exchange that the next tick is about, in place of what there
+/// was.
+fn note_target<S: Store + Drop>(target: &mut Vec<u8>, core: &Core<S>) {
+    target.clear();
+    if let Some(exchange) = core.due_exchange() {
+        // there is room for it
+        let _ = put_target(target, &exchange.key.target);
     }
 }
 
 impl<W: Write> Watch for Explainer<W> {
-    // Nothing is claimed of what it writes.
-    ghost sees = { λ before told after. Unit {0} };
+    ghost sees = { λ before told after.
+        Says (W.contents before.output) before.failed told (W.contents after.output)
+        after.failed };
 
-    fn foresee<S: Store + Drop>(&mut self, turn: Seen<'_>, core: &Core<S>) {
+    fn foresee<S: Store + Drop>(&mut self, turn: WatchedTurn<'_>, core: &Core<S>) {
         match turn.event {
-            Event::Tick => self.note_due(core),
-            Event::Datagram { .. } => self.came = Came::of(turn.event, core),
+            Event::Tick => {
+                self.due = Due::of(core);
+                note_target(&mut self.target, core);
+            }
+            Event::Datagram { .. } => {
+                self.answering = Answering::of(self.alloc, turn.event, turn.now, core);
+            }
         }
     }
 
-    fn see<S: Store + Drop>(&mut self, turn: Seen<'_>, core: &Core<S>) {
+    fn see<S: Store + Drop>(&mut self, turn: WatchedTurn<'_>, core: &Core<S>) {
         if !self.failed {
             self.failed = self.write(turn, core).is_err();
         }

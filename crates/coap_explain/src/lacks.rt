@@ -1,6 +1,7 @@
-//! What is short where a message is turned away: found again from what the proxy holds, since a step
-//! doesn't give it.
+//! What is short where a message is turned away: found again from what the proxy holds, since a
+//! step doesn't give it.
 ghost use Rattle.std.specs.Prelude.{◌≡◌};
+ghost use Rattle.coap_explain.specs.Account as text;
 ghost use Rattle.coap_explain.specs.Lacks as spec;
 
 use coap_core::{ClientCounts, Core, Counts, LimitValues};
@@ -83,6 +84,21 @@ impl Usage {
             own: core.client_counts(client),
             limits: *core.limits().values(),
             free_ids: core.free_ids(),
+        }
+    }
+
+    /// The same before a reply at once to a message of a type: in a message of its own it took a
+    /// Message ID.
+    pub(crate) fn before_reply(self, kind: Kind) -> Usage
+        ensures { result ≡ text.before_reply kind self }
+    {
+        if kind == Kind::Non {
+            Usage {
+                free_ids: self.free_ids.saturating_add(1),
+                ..self
+            }
+        } else {
+            self
         }
     }
 

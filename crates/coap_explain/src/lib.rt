@@ -1,7 +1,7 @@
 //! Accounts and logs: what each event was and what it did, in a line of words; and what goes wrong.
 //!
-//! Contracts give each word, which cause stands for a message, and each number of these and of what
-//! was sent. Only tested is where they stand in a line, and how endpoints and targets are written.
+//! Contracts give the line of an account by its parts, in their order. Of a log they give each word,
+//! which cause stands for a message, and each number; only tested is where these stand in a line.
 //!
 //! # First use
 //!
@@ -15,6 +15,7 @@
 //! ```
 #![tactic(auto)]
 
+mod answering;
 mod causes;
 mod due;
 pub mod examples;
@@ -27,6 +28,7 @@ mod messages;
 mod outcomes;
 mod ring;
 mod silent;
+mod taken;
 
 pub use explainer::Explainer;
 pub use logger::Logger;

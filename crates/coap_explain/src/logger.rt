@@ -1,6 +1,6 @@
 //! A watcher that logs what goes wrong.
 
-use crate::causes::{BadGateway, Silence, overload_of};
+use crate::causes::{BadGateway, Silence, joins, overload_of};
 use crate::due::{Came, Due, DueAnswer, DueExchange};
 use crate::lacks::{Lacks, Usage};
 use crate::log_fields::{
@@ -9,7 +9,7 @@ use crate::log_fields::{
 use crate::messages::{put_code, put_ip};
 use crate::ring::Ring;
 use crate::silent::SilentOrigins;
-use coap_core::{Core, Event, Holder, Holders, LimitValues, Outcome, Report, Seen, Watch};
+use coap_core::{Core, Event, Holder, Holders, LimitValues, Outcome, Report, Watch, WatchedTurn};
 use coap_endpoint::Endpoint;
 use coap_log::{Limiter, Line};
 use coap_message::{Code, LAST_MOMENT, MessageRef, Moment, OutOfMemory};
@@ -24,9 +24,9 @@ const LINE_ROOM: usize = 2_048;
 /// How many causes of answers are known that clients are still to be sent.
 const CAUSES: usize = 4_096;
 
-/// Logs what goes wrong, in lines `WORD KEY=VALUE ..`: an exchange that is given up, a client that is
-/// sent 5.02, 5.03 or 5.04, a message that is dropped, who has most of a table that is full, and an
-/// origin that was silent and answers again. At most 20 lines are written at once, and 5 more a
+/// Logs what goes wrong, in lines `WORD KEY=VALUE ..`: an exchange that is given up, a client that
+/// is sent 5.02, 5.03 or 5.04, a message that is dropped, who has most of a table that is full, and
+/// an origin that was silent and answers again. At most 20 lines are written at once, and 5 more a
 /// second; how many were left out is said before the next one. A line that the output doesn't take
 /// is left out, too.
 ///
@@ -263,7 +263,8 @@ impl<W: Write> Logger<W> {
         };
         if self.begin(now, "failed") {
             self.target.take(&core.last_key().target);
-            let put = self.put_overloaded(from, &overload_of(core, from, &message));
+            let lacks = overload_of(core, from, &message, joins(core));
+            let put = self.put_overloaded(from, &lacks);
             self.finish(put);
         }
     }
@@ -415,14 +416,14 @@ impl<W: Write> Watch for Logger<W> {
     // Nothing is claimed of what it writes.
     ghost sees = { λ before told after. Unit {0} };
 
-    fn foresee<S: Store + Drop>(&mut self, turn: Seen<'_>, core: &Core<S>) {
+    fn foresee<S: Store + Drop>(&mut self, turn: WatchedTurn<'_>, core: &Core<S>) {
         match turn.event {
             Event::Tick => self.note_due(core, turn.now),
             Event::Datagram { .. } => self.came = Came::of(turn.event, core),
         }
     }
 
-    fn see<S: Store + Drop>(&mut self, turn: Seen<'_>, core: &Core<S>) {
+    fn see<S: Store + Drop>(&mut self, turn: WatchedTurn<'_>, core: &Core<S>) {
         let Some(report) = turn.report else {
             return;
         };

@@ -3,10 +3,11 @@ ghost use Rattle.std.specs.Prelude.{◌≡◌, ◌<◌, OnOk};
 ghost use Rattle.std.specs.Io.KnownBytes.{Appends};
 ghost use Rattle.coap_message.specs.OptRef.{seen};
 ghost use Rattle.coap_message.specs.Reading.{read_message};
+ghost use Rattle.coap_explain.specs.Targets as targets;
 ghost use Rattle.coap_explain.specs.Words as spec;
 
 use coap_endpoint::{Endpoint, Ip, Target};
-use coap_message::{Code, Kind, MessageRef, OptRef, uint};
+use coap_message::{Code, Kind, MessageRef, OptRef, Pieces, uint};
 use coap_option::numbers;
 use std::io;
 use std::io::Write;
@@ -16,20 +17,45 @@ use std::net::Ipv6Addr;
 const DEFAULT_PORT: u16 = 5683;
 
 /// Adds four numbers, with dots between them.
-fn put_octets<W: Write>(line: &mut W, octets: [u8; 4]) -> io::Result<()> {
+fn put_octets<W: Write>(line: &mut W, octets: [u8; 4]) -> io::Result<()>
+    ensures { OnOk result (Appends (W.contents line.old) (W.contents line.new)
+        (targets.octets_text octets)) }
+{
     let [a, b, c, d] = octets;
     write!(line, "{a}.{b}.{c}.{d}")
 }
 
-/// Adds eight groups in brackets, with colons between them.
-fn put_groups<W: Write>(line: &mut W, octets: [u8; 16]) -> io::Result<()> {
-    let [a, b, c, d, e, f, g, h] = Ipv6Addr::from_octets(octets).segments();
-    write!(line, "[{a:x}:{b:x}:{c:x}:{d:x}:")?;
+/// Adds the first four of eight groups in brackets.
+fn put_first_groups<W: Write>(line: &mut W, a: u16, b: u16, c: u16, d: u16) -> io::Result<()>
+    ensures { OnOk result (Appends (W.contents line.old) (W.contents line.new)
+        (targets.first_groups a b c d)) }
+{
+    write!(line, "[{a:x}:{b:x}:{c:x}:{d:x}:")
+}
+
+/// Adds the last four.
+fn put_last_groups<W: Write>(line: &mut W, e: u16, f: u16, g: u16, h: u16) -> io::Result<()>
+    ensures { OnOk result (Appends (W.contents line.old) (W.contents line.new)
+        (targets.last_groups e f g h)) }
+{
     write!(line, "{e:x}:{f:x}:{g:x}:{h:x}]")
 }
 
+/// Adds eight groups in brackets, with colons between them.
+fn put_groups<W: Write>(line: &mut W, octets: [u8; 16]) -> io::Result<()>
+    ensures { OnOk result (Appends (W.contents line.old) (W.contents line.new)
+        (targets.groups_text octets)) }
+{
+    let [a, b, c, d, e, f, g, h] = Ipv6Addr::from_octets(octets).segments();
+    put_first_groups(line, a, b, c, d)?;
+    put_last_groups(line, e, f, g, h)
+}
+
 /// Adds an address: four numbers, or eight groups in brackets.
-pub(crate) fn put_ip<W: Write>(line: &mut W, ip: Ip) -> io::Result<()> {
+pub(crate) fn put_ip<W: Write>(line: &mut W, ip: Ip) -> io::Result<()>
+    ensures { OnOk result (Appends (W.contents line.old) (W.contents line.new)
+        (targets.ip_text ip)) }
+{
     match ip {
         Ip::V4(octets) => put_octets(line, octets),
         Ip::V6(octets) => put_groups(line, octets),
@@ -37,7 +63,10 @@ pub(crate) fn put_ip<W: Write>(line: &mut W, ip: Ip) -> io::Result<()> {
 }
 
 /// Adds an endpoint as a replay's lines have it: its address, a colon, and its port.
-pub(crate) fn put_endpoint<W: Write>(line: &mut W, endpoint: Endpoint) -> io::Result<()> {
+pub(crate) fn put_endpoint<W: Write>(line: &mut W, endpoint: Endpoint) -> io::Result<()>
+    ensures { OnOk result (Appends (W.contents line.old) (W.contents line.new)
+        (targets.endpoint_text endpoint)) }
+{
     put_ip(line, endpoint.ip)?;
     let port = endpoint.port;
     write!(line, ":{port}")
@@ -87,35 +116,84 @@ pub(crate) fn put_kind<W: Write>(line: &mut W, message: &MessageRef<'_>) -> io::
 /// What stands for itself in a name, beside letters and digits (RFC 3986, 3.2.2).
 const PLAIN_IN_NAMES: &[u8] = b"-._~!$&'()*+,;=";
 
+/// What stands for itself in an IPv6 address, beside letters and digits.
+const PLAIN_IN_ADDRESSES: &[u8] = b":.";
+
 /// What stands for itself in a part of a path or of a query, beside letters and digits (RFC 3986,
 /// 3.3 and 3.4). A slash and an ampersand, which separate parts, don't.
 const PLAIN_IN_PARTS: &[u8] = b"-._~!$'()*+,;=:@";
 
+/// A hexadecimal digit, in upper case.
+fn upper_hex_digit(number: u8) -> u8
+    requires { number < 16 }
+    ensures { result ≡ targets.upper_hex_digit number }
+{
+    if number < 10 {
+        b'0' + number
+    } else {
+        b'A' - 10 + number
+    }
+}
+
+/// Adds a byte that a peer chose, as `%XX` if it is no letter, no digit, and none of these.
+fn put_byte<W: Write>(line: &mut W, byte: u8, plain: &[u8]) -> io::Result<()>
+    ensures { OnOk result (Appends (W.contents line.old) (W.contents line.new)
+        (targets.escape plain.now byte)) }
+{
+    if byte.is_ascii_alphanumeric() || plain.contains(&byte) {
+        return line.write_all(&[byte]);
+    }
+    line.write_all(&[b'%', upper_hex_digit(byte / 16), upper_hex_digit(byte % 16)])
+}
+
 /// Adds bytes that a peer chose, with `%XX` for each that is no letter, no digit, and none of
 /// these.
-fn put_escaped<W: Write>(line: &mut W, bytes: &[u8], plain: &[u8]) -> io::Result<()> {
+fn put_escaped<W: Write>(line: &mut W, bytes: &[u8], plain: &[u8]) -> io::Result<()>
+    ensures { OnOk result (Appends (W.contents line.old) (W.contents line.new)
+        (targets.escaped plain.now bytes.now)) }
+{
     for byte in bytes {
-        if byte.is_ascii_alphanumeric() || plain.contains(byte) {
-            line.write_all(&[*byte])?;
-        } else {
-            write!(line, "%{byte:02X}")?;
-        }
+        put_byte(line, *byte, plain)?;
     }
     Ok(())
 }
 
+/// Whether a host that a client named begins and ends with brackets, as an IPv6 address does.
+fn is_bracketed(host: &[u8]) -> bool
+    ensures { result ≡ targets.is_bracketed host.now }
+{
+    host.len() >= 2 && host[0] == b'[' && host[host.len() - 1] == b']'
+}
+
 /// Adds a host that a client named: a name, or an IPv6 address in brackets.
-fn put_host<W: Write>(line: &mut W, host: &[u8]) -> io::Result<()> {
-    let [b'[', address @ .., b']'] = host else {
+fn put_host<W: Write>(line: &mut W, host: &[u8]) -> io::Result<()>
+    ensures { OnOk result (Appends (W.contents line.old) (W.contents line.new)
+        (targets.host_text host.now)) }
+{
+    if !is_bracketed(host) {
         return put_escaped(line, host, PLAIN_IN_NAMES);
-    };
+    }
     line.write_all(b"[")?;
-    put_escaped(line, address, b":.")?;
+    put_escaped(line, &host[1..host.len() - 1], PLAIN_IN_ADDRESSES)?;
     line.write_all(b"]")
 }
 
+/// Adds the host that a target is requested by, or its address.
+fn put_host_or_ip<W: Write>(line: &mut W, target: &Target) -> io::Result<()>
+    ensures { OnOk result (Appends (W.contents line.old) (W.contents line.new)
+        (targets.host_or_ip target.now.host target.now.at.ip)) }
+{
+    match &target.host {
+        Some(host) => put_host(line, host.as_slice()),
+        None => put_ip(line, target.at.ip),
+    }
+}
+
 /// Adds a port of a URI behind a colon, unless it is the default one.
-fn put_port<W: Write>(line: &mut W, port: u16) -> io::Result<()> {
+fn put_port<W: Write>(line: &mut W, port: u16) -> io::Result<()>
+    ensures { OnOk result (Appends (W.contents line.old) (W.contents line.new)
+        (targets.port_text port)) }
+{
     if port == DEFAULT_PORT {
         return Ok(());
     }
@@ -123,32 +201,49 @@ fn put_port<W: Write>(line: &mut W, port: u16) -> io::Result<()> {
 }
 
 /// Adds the scheme, the host and the port of a target.
-fn put_authority<W: Write>(line: &mut W, target: &Target) -> io::Result<()> {
+fn put_authority<W: Write>(line: &mut W, target: &Target) -> io::Result<()>
+    ensures { OnOk result (Appends (W.contents line.old) (W.contents line.new)
+        (targets.authority_text target.now)) }
+{
     line.write_all(b"coap://")?;
-    match &target.host {
-        Some(host) => put_host(line, host.as_slice())?,
-        None => put_ip(line, target.at.ip)?,
-    }
+    put_host_or_ip(line, target)?;
     put_port(line, target.port.unwrap_or(target.at.port))
 }
 
-/// Adds the URI of a target.
-pub(crate) fn put_target<W: Write>(line: &mut W, target: &Target) -> io::Result<()> {
-    put_authority(line, target)?;
-    if target.path.is_empty() {
-        line.write_all(b"/")?;
-    }
-    for part in target.path.iter() {
-        line.write_all(b"/")?;
+/// Adds parts of a path or of a query, the first one behind a mark, and each other one behind
+/// another.
+fn put_parts<W: Write>(line: &mut W, parts: &Pieces, first: u8, next: u8) -> io::Result<()>
+    ensures { OnOk result (Appends (W.contents line.old) (W.contents line.new)
+        (targets.parts_text first next parts.now)) }
+{
+    let mut mark = first;
+    for part in parts.iter() {
+        line.write_all(&[mark])?;
         put_escaped(line, part, PLAIN_IN_PARTS)?;
-    }
-    let mut mark = b"?";
-    for part in target.query.iter() {
-        line.write_all(mark)?;
-        put_escaped(line, part, PLAIN_IN_PARTS)?;
-        mark = b"&";
+        mark = next;
     }
     Ok(())
+}
+
+/// Adds the path of a target.
+fn put_path<W: Write>(line: &mut W, path: &Pieces) -> io::Result<()>
+    ensures { OnOk result (Appends (W.contents line.old) (W.contents line.new)
+        (targets.path_text path.now)) }
+{
+    if path.is_empty() {
+        return line.write_all(b"/");
+    }
+    put_parts(line, path, b'/', b'/')
+}
+
+/// Adds the URI of a target.
+pub(crate) fn put_target<W: Write>(line: &mut W, target: &Target) -> io::Result<()>
+    ensures { OnOk result (Appends (W.contents line.old) (W.contents line.new)
+        (targets.target_text target.now)) }
+{
+    put_authority(line, target)?;
+    put_path(line, &target.path)?;
+    put_parts(line, &target.query, b'?', b'&')
 }
 
 /// A hexadecimal digit, in lower case.

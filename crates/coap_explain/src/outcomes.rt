@@ -1,30 +1,34 @@
 //! What a step did, in words.
 ghost use Rattle.std.specs.Prelude.{◌≡◌, ◌++◌, codes, OnOk};
+ghost use Rattle.coap_core.specs.Events.{seen};
 ghost use Rattle.coap_message.specs.Reading.{read_message};
+ghost use Rattle.coap_explain.specs.Account as text;
 ghost use Rattle.coap_explain.specs.Details.{dropped_text, refused_text};
 ghost use Rattle.coap_explain.specs.Words as spec;
 
-use crate::causes::{BadGateway, overload_of, put_lacks, put_refusal, put_unprocessed};
-use crate::due::{Came, Due};
+use crate::answering::Answering;
+use crate::causes::{overload_of, put_lacks, put_refusal, put_unprocessed};
+use crate::due::Due;
 use crate::lacks::Usage;
 use crate::messages::{put_code, put_endpoint, put_sent};
-use coap_core::{Core, Event, Outcome, Report, Seen, Storing};
+use coap_core::{Core, Event, Outcome, Report, Storing, WatchedTurn};
 use coap_endpoint::Endpoint;
-use coap_forward::{SentRequest, answer_of};
-use coap_message::{Code, MessageRef};
+use coap_message::{Code, MessageRef, Moment};
 use coap_store::Store;
-use std::alloc::Global;
 use std::io;
 use std::io::Write;
 
-/// What was noted of a turn before its step: what a tick is about, with the URI of its target, and
-/// what a response came for.
+/// What was noted of a turn before its step, and what its request meets after it.
 #[derive(Clone, Copy)]
 pub(crate) struct Before<'a> {
+    /// What a tick is about.
     pub(crate) due: Due,
     /// The URI of the target of the exchange that is due.
     pub(crate) target: &'a [u8],
-    pub(crate) came: Option<Came>,
+    /// What is made of a response.
+    pub(crate) answering: Answering,
+    /// Whether a GET with the key of the last request could have shared an exchange's answer.
+    pub(crate) joins: bool,
 }
 
 /// What a step did, in a word or some.
@@ -73,57 +77,51 @@ fn storing_name(storing: Storing) -> &'static str
     }
 }
 
-/// Why a response is passed on as 5.02, if it is.
-fn bad_gateway(
-    alloc: Global,
-    response: &MessageRef<'_>,
-    most: u64,
-    came: Option<Came>,
-) -> Option<BadGateway> {
-    let cause = match came {
-        Some(came) => came.cause,
-        None => BadGateway::of(response, None),
-    };
-    match cause {
-        BadGateway::Reset | BadGateway::Option(_) | BadGateway::Tag => Some(cause),
-        BadGateway::TooLong => {
-            let request = SentRequest {
-                is_get: false,
-                copy: None,
-            };
-            match answer_of(alloc, most as usize, request, 0, response) {
-                Ok(answer) if answer.own => Some(cause),
-                Ok(_) | Err(_) => None,
-            }
+/// Adds what became of an answer: 5.02 with its cause, or its code and what the cache did with it.
+fn put_answering(
+    line: &mut Vec<u8>,
+    answering: Answering,
+    code: Code,
+    storing: Storing,
+) -> io::Result<()>
+    ensures { OnOk result (line.new.items
+        ≡ line.old.items ++ text.answering_text answering code storing) }
+{
+    match answering {
+        Answering::Own(cause) => {
+            line.write_all(b" ")?;
+            put_code(line, Code::BAD_GATEWAY)?;
+            line.write_all(b" ")?;
+            cause.put(line)
         }
+        Answering::Passed => put_stored(line, code, storing),
+        Answering::Unknown => line.write_all(b" answer: out of memory"),
     }
 }
 
-/// Adds what became of an answer: 5.02 with its cause, or its code and what the cache did with it.
+/// Adds what became of an answer that came in this datagram.
 fn put_answered(
     line: &mut Vec<u8>,
-    alloc: Global,
-    arrived: Arrived<'_>,
-    most: u64,
+    answering: Answering,
+    bytes: &[u8],
     storing: Storing,
-) -> io::Result<()> {
-    line.write_all(b" ")?;
-    let Ok(message) = MessageRef::read(arrived.bytes) else {
-        return Ok(());
-    };
-    if let Some(cause) = bad_gateway(alloc, &message, most, arrived.came) {
-        put_code(line, Code::BAD_GATEWAY)?;
-        line.write_all(b" ")?;
-        return cause.put(line);
+) -> io::Result<()>
+    ensures { OnOk result (line.new.items
+        ≡ line.old.items ++ text.answered_text answering storing (read_message bytes.now)) }
+{
+    match MessageRef::read(bytes) {
+        Ok(message) => put_answering(line, answering, message.code(), storing),
+        Err(_) => Ok(()),
     }
-    put_stored(line, message.code(), storing)
 }
 
 /// Adds the code of an answer, and what the cache did with it.
 fn put_stored(line: &mut Vec<u8>, code: Code, storing: Storing) -> io::Result<()>
     ensures { OnOk result (line.new.items
-        ≡ line.old.items ++ spec.code_text code ++ codes " " ++ spec.storing_word storing) }
+        ≡ line.old.items ++ codes " " ++ spec.code_text code ++ codes " "
+        ++ spec.storing_word storing) }
 {
+    line.write_all(b" ")?;
     put_code(line, code)?;
     let name = storing_name(storing);
     write!(line, " {name}")
@@ -167,18 +165,25 @@ fn put_overloaded<S: Store + Drop>(
     line: &mut Vec<u8>,
     core: &Core<S>,
     arrived: Arrived<'_>,
-) -> io::Result<()> {
+    joins: bool,
+) -> io::Result<()>
+    ensures { OnOk result (line.new.items
+        ≡ line.old.items ++ codes " 5.03"
+        ++ text.overload_text core.now arrived.entry.from joins
+        (read_message arrived.entry.bytes.now)) }
+{
     line.write_all(b" 5.03")?;
     match MessageRef::read(arrived.bytes) {
-        Ok(message) => put_lacks(line, &overload_of(core, arrived.from, &message)),
+        Ok(message) => put_lacks(line, &overload_of(core, arrived.from, &message, joins)),
         Err(_) => Ok(()),
     }
 }
 
-/// Adds what was sent, and to whom.
-fn put_sent_to(line: &mut Vec<u8>, report: Report, sent: &[u8]) -> io::Result<()> {
-    put_sent(line, sent)?;
-    match report.send {
+/// Adds to whom something was sent, if it was.
+fn put_to(line: &mut Vec<u8>, to: Option<Endpoint>) -> io::Result<()>
+    ensures { OnOk result (line.new.items ≡ line.old.items ++ text.to_text to) }
+{
+    match to {
         Some(to) => {
             line.write_all(b" to ")?;
             put_endpoint(line, to)
@@ -187,33 +192,46 @@ fn put_sent_to(line: &mut Vec<u8>, report: Report, sent: &[u8]) -> io::Result<()
     }
 }
 
+/// Adds what was sent, and to whom.
+fn put_sent_to(line: &mut Vec<u8>, to: Option<Endpoint>, sent: &[u8]) -> io::Result<()>
+    ensures { OnOk result (line.new.items ≡ line.old.items ++ text.sent_to_text to sent.now) }
+{
+    put_sent(line, sent)?;
+    put_to(line, to)
+}
+
 /// A datagram that came, and what was done.
 #[derive(Clone, Copy)]
 struct Arrived<'a> {
     from: Endpoint,
     bytes: &'a [u8],
-    outcome: Outcome,
     sent: &'a [u8],
-    came: Option<Came>,
 }
 
 /// Adds what the step of a datagram did.
 fn put_arrived<S: Store + Drop>(
     line: &mut Vec<u8>,
-    alloc: Global,
     core: &Core<S>,
+    outcome: Outcome,
     arrived: Arrived<'_>,
-) -> io::Result<()> {
+    before: Before<'_>,
+) -> io::Result<()>
+    ensures { OnOk result (line.new.items
+        ≡ line.old.items
+        ++ text.arrived_text outcome arrived.entry.from arrived.entry.bytes.now
+        arrived.entry.sent.now core.now (text.noted_seen before.entry)) }
+{
     let (bytes, sent) = (arrived.bytes, arrived.sent);
-    let most = core.limits().values().datagram;
-    match arrived.outcome {
-        Outcome::Ignored | Outcome::Rejected => put_unprocessed(line, bytes, most),
+    match outcome {
+        Outcome::Ignored | Outcome::Rejected => {
+            put_unprocessed(line, bytes, core.limits().values().datagram)
+        }
         Outcome::Again | Outcome::Hit | Outcome::Joined | Outcome::Opened => put_sent(line, sent),
         Outcome::NoRecordRoom => put_dropped(line, core, arrived),
         Outcome::Refused(code) => put_refused(line, code, bytes),
-        Outcome::Overloaded => put_overloaded(line, core, arrived),
+        Outcome::Overloaded => put_overloaded(line, core, arrived, before.joins),
         Outcome::NoId | Outcome::Acked => Ok(()),
-        Outcome::Answered { storing } => put_answered(line, alloc, arrived, most, storing),
+        Outcome::Answered { storing } => put_answered(line, before.answering, bytes, storing),
         // a tick's
         Outcome::SentRequest
         | Outcome::Resent
@@ -224,45 +242,57 @@ fn put_arrived<S: Store + Drop>(
 }
 
 /// Adds what was given up: a request to an origin, or the delivery of an answer to a client.
-fn put_given_up(line: &mut Vec<u8>, turn: Seen<'_>, before: Before<'_>) -> io::Result<()> {
+fn put_given_up(line: &mut Vec<u8>, now: Moment, before: Before<'_>) -> io::Result<()>
+    ensures { OnOk result (line.new.items
+        ≡ line.old.items
+        ++ text.given_up_text before.entry.due before.entry.target.now now) }
+{
     match before.due {
         Due::Exchange(exchange) => {
             line.write_all(b" ")?;
             line.write_all(before.target)?;
-            exchange.put(line, turn.now)
+            exchange.put(line, now)
         }
-        Due::Client(client) => client.put(line, turn.now),
+        Due::Client(client) => client.put(line, now),
         Due::Nothing => Ok(()),
     }
 }
 
-/// Adds the answer that a client was sent, and the exchange that it is of.
-fn put_delivered(
-    line: &mut Vec<u8>,
-    report: Report,
-    turn: Seen<'_>,
-    before: Before<'_>,
-) -> io::Result<()> {
-    put_sent_to(line, report, turn.sent)?;
-    let Due::Exchange(exchange) = before.due else {
-        return Ok(());
-    };
-    line.write_all(b" of ")?;
-    line.write_all(before.target)?;
-    exchange.put(line, turn.now)
+/// Adds the exchange that an answer is of.
+fn put_of(line: &mut Vec<u8>, now: Moment, before: Before<'_>) -> io::Result<()>
+    ensures { OnOk result (line.new.items
+        ≡ line.old.items ++ text.of_text before.entry.due before.entry.target.now now) }
+{
+    match before.due {
+        Due::Exchange(exchange) => {
+            line.write_all(b" of ")?;
+            line.write_all(before.target)?;
+            exchange.put(line, now)
+        }
+        Due::Client(_) | Due::Nothing => Ok(()),
+    }
 }
 
 /// Adds what the step of a tick did.
 fn put_due(
     line: &mut Vec<u8>,
     report: Report,
-    turn: Seen<'_>,
+    sent: &[u8],
+    now: Moment,
     before: Before<'_>,
-) -> io::Result<()> {
+) -> io::Result<()>
+    ensures { OnOk result (line.new.items
+        ≡ line.old.items
+        ++ text.ticked_text report.outcome report.send sent.now now
+        (text.noted_seen before.entry)) }
+{
     match report.outcome {
-        Outcome::SentRequest | Outcome::Resent => put_sent_to(line, report, turn.sent),
-        Outcome::Delivered => put_delivered(line, report, turn, before),
-        Outcome::GaveUp => put_given_up(line, turn, before),
+        Outcome::SentRequest | Outcome::Resent => put_sent_to(line, report.send, sent),
+        Outcome::Delivered => {
+            put_sent_to(line, report.send, sent)?;
+            put_of(line, now, before)
+        }
+        Outcome::GaveUp => put_given_up(line, now, before),
         Outcome::Idle => Ok(()),
         // a datagram's
         Outcome::Ignored
@@ -280,29 +310,47 @@ fn put_due(
     }
 }
 
-/// Adds what a turn did: its outcome, the cause of a refusal, and what was sent.
-pub(crate) fn put_outcome<S: Store + Drop>(
+/// Adds why a turn did what it did, and what it sent to whom.
+fn put_details<S: Store + Drop>(
     line: &mut Vec<u8>,
-    alloc: Global,
     core: &Core<S>,
-    turn: Seen<'_>,
+    turn: WatchedTurn<'_>,
+    report: Report,
     before: Before<'_>,
-) -> io::Result<()> {
-    let Some(report) = turn.report else {
-        return line.write_all(b" out of memory");
-    };
-    put_word(line, report.outcome)?;
+) -> io::Result<()>
+    ensures { OnOk result (line.new.items
+        ≡ line.old.items
+        ++ text.done_text (seen turn.entry.event) report turn.entry.sent.now turn.entry.now
+        core.now (text.noted_seen before.entry)) }
+{
     match turn.event {
         Event::Datagram { from, bytes } => {
             let arrived = Arrived {
                 from,
                 bytes,
-                outcome: report.outcome,
                 sent: turn.sent,
-                came: before.came,
             };
-            put_arrived(line, alloc, core, arrived)
+            put_arrived(line, core, report.outcome, arrived, before)
         }
-        Event::Tick => put_due(line, report, turn, before),
+        Event::Tick => put_due(line, report, turn.sent, turn.now, before),
     }
+}
+
+/// Adds what a turn did: its outcome, the cause of a refusal, and what was sent.
+pub(crate) fn put_outcome<S: Store + Drop>(
+    line: &mut Vec<u8>,
+    core: &Core<S>,
+    turn: WatchedTurn<'_>,
+    before: Before<'_>,
+) -> io::Result<()>
+    ensures { OnOk result (line.new.items
+        ≡ line.old.items ++ text.outcome_text turn.entry.report
+        ++ text.details_of (seen turn.entry.event) turn.entry.report turn.entry.sent.now
+        turn.entry.now core.now (text.noted_seen before.entry)) }
+{
+    let Some(report) = turn.report else {
+        return line.write_all(b" out of memory");
+    };
+    put_word(line, report.outcome)?;
+    put_details(line, core, turn, report, before)
 }

@@ -5,7 +5,8 @@ ghost use Rattle.coap_log.specs.Values.{escaped};
 
 /// What peers may choose.
 fn values()
-    ensures plain { escaped (codes "coap://[2001:db8::1]/t?a&b%20") ≡ codes "coap://[2001:db8::1]/t?a&b%20" }
+    ensures plain { escaped (codes "coap://[2001:db8::1]/t?a&b%20")
+        ≡ codes "coap://[2001:db8::1]/t?a&b%20" }
     ensures forged { escaped (codes "a\nb c=\"d\"") ≡ codes "a%0Ab%20c%3D%22d%22" }
     ensures bytes { escaped (0 ∷ 127 ∷ 255 ∷ []) ≡ codes "%00%7F%FF" }
 {}

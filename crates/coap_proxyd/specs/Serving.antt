@@ -37,8 +37,8 @@ IsServed turns proxy input old new result = ((result ≡ Err OutOfMemory) × App
     ⊎ ((after : State) × (left : Option (List ℕ)) × (replayed : Result ℕ ReplayError)
     × IsReplayed proxy after turns input left old new replayed × (result ≡ ended_as replayed))
 
--- a watcher was told of turns of that proxy, in order, from its first one on, by a replay that ended
--- somehow
+-- a watcher was told of turns of that proxy, in order, from its first one on, by a replay that
+-- ended somehow
 abbrev pub IsTold : {V : Type 0} → (V → Told → V → Type 0) → State → V → V → Type 0
 IsTold sees proxy a b = (after : State) × (replayed : Result ℕ ReplayError)
     × replay.EndsTold sees proxy a after b replayed

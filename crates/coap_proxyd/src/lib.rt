@@ -40,8 +40,8 @@ pub use coap_core::{
     OutOfMemory, Outcome, Report, RouteError, Routes, Store, Storing,
 };
 pub use coap_port::{
-    DriveError, Handed, MemoryPort, Port, PortFault, Scripted, Seen, Stats, Turn, Unwatched, Watch,
-    drive, drive_watched,
+    DriveError, Handed, MemoryPort, Port, PortFault, Scripted, Stats, Turn, Unwatched, Watch,
+    WatchedTurn, drive, drive_watched,
 };
 pub use coap_recording::{HeaderError, Recording, Start, header_of, put_since};
 pub use coap_replay::{Input, Output, ReplayError, replay};

@@ -54,8 +54,8 @@ fn read_settings(alloc: Global, settings: Settings) -> Result<Wanted, Fault>
     })
 }
 
-/// Whether the options that are for a socket alone, or for a replay alone, are given for that, and a
-/// size only for a recording.
+/// Whether the options that are for a socket alone, or for a replay alone, are given for that, and
+/// a size only for a recording.
 fn go_together(settings: &Settings) -> bool
     ensures { result ≡ spec.go_together settings.now }
 {

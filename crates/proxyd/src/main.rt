@@ -146,8 +146,8 @@ fn replay(rt: &HostRuntime, plan: Plan) -> Result<(), Stop> {
     Ok(server.serve_events(rt.reader(), &mut output)?)
 }
 
-/// Replays standard input, and says after each event what it did, with the time of day if a recording
-/// says that.
+/// Replays standard input, and says after each event what it did, with the time of day if a
+/// recording says that.
 fn explain(rt: &HostRuntime, plan: Plan) -> Result<(), Stop> {
     let (alloc, seed) = (rt.alloc(), seed(rt)?);
     let Ok(mut explainer) = Explainer::new(alloc, io::writer(rt)) else {

@@ -4,7 +4,7 @@ ghost use Rattle.coap_stats.specs.Clock.{period_of};
 
 use coap_core::{Core, Counts, Endpoint, LimitValues};
 use coap_message::{LAST_MOMENT, Moment, OutOfMemory};
-use coap_proxyd::{Fault, Plan, Seen, Watch};
+use coap_proxyd::{Fault, Plan, Watch, WatchedTurn};
 use coap_stats::{
     StandingClock, Statistics, metrics_room, period_end, period_of, put_line, put_metrics,
     socket_of,
@@ -166,12 +166,12 @@ impl Watch for Reporter<'_> {
     ghost sees = { λ before told after. Sees before.statistics told after.statistics };
 
     #[inline(always)]
-    fn foresee<S: Store + Drop>(&mut self, turn: Seen<'_>, core: &Core<S>) {
+    fn foresee<S: Store + Drop>(&mut self, turn: WatchedTurn<'_>, core: &Core<S>) {
         self.statistics.foresee(turn, core);
     }
 
     #[inline(always)]
-    fn see<S: Store + Drop>(&mut self, turn: Seen<'_>, core: &Core<S>) {
+    fn see<S: Store + Drop>(&mut self, turn: WatchedTurn<'_>, core: &Core<S>) {
         self.statistics.see(turn, core);
         self.note_clock(turn.now);
         if turn.now >= self.due {

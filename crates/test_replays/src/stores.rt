@@ -25,14 +25,15 @@ fn target(alloc: Global, segment: &[u8]) -> Result<Target, OutOfMemory> {
     })
 }
 
-/// A cache key for that resource, with or without an Accept.
+/// A cache key for that resource, with or without an Accept. It isn't hashed with the secret of a
+/// store, which finds it all the same.
 fn key(alloc: Global, segment: &[u8], accept: &[u8]) -> Result<SharedKey, OutOfMemory> {
     let mut options = OptionList::new(alloc);
     if let [format] = accept {
         options.push(numbers::ACCEPT, &[*format])?;
     }
     let target = target(alloc, segment)?;
-    SharedKey::new(alloc, CacheKey { target, options })
+    SharedKey::new(alloc, CacheKey { target, options }, 0)
 }
 
 /// A 2.05 without options that came at moment 0, with a payload of this many bytes.
@@ -91,8 +92,8 @@ fn check_entries<S: Store>(
     Ok(())
 }
 
-/// Puts entries of 100, 90 and 80 bytes, in this order, into an empty store with room for 300 bytes,
-/// and then another for the first key.
+/// Puts entries of 100, 90 and 80 bytes, in this order, into an empty store with room for 300
+/// bytes, and then another for the first key.
 fn check_budget<S: Store>(
     rt: &impl Abort,
     alloc: Global,

@@ -2,11 +2,12 @@
 //! take one again.
 ghost use Rattle.coap_dedup.specs.Lists.{AreUpTo};
 
-use coap_cache::CacheKey;
+use coap_cache::{CacheKey, SharedKey};
 use coap_dedup::{NON_LIFETIME, Records, Refused, Seen, laws};
 use coap_exchange::{AdmitError, Exchanges, Joining, Opening, Waiters};
 use coap_message::{Kind, OptionList, OutOfMemory, Pieces, Seq, Token};
 use coap_target::{Endpoint, Ip, Target};
+use endpoint_counts::Peer;
 use std::alloc::Global;
 use std::process::Abort;
 use std::test::*;
@@ -20,10 +21,10 @@ fn client(port: u16) -> Endpoint {
 }
 
 /// A cache key for `/temp` on one origin server.
-fn key(alloc: Global) -> Result<CacheKey, OutOfMemory> {
+fn key(alloc: Global) -> Result<SharedKey, OutOfMemory> {
     let mut path = Pieces::new(alloc);
     path.push(b"temp")?;
-    Ok(CacheKey {
+    let key = CacheKey {
         target: Target {
             host: None,
             at: client(5690),
@@ -32,7 +33,8 @@ fn key(alloc: Global) -> Result<CacheKey, OutOfMemory> {
             query: Pieces::new(alloc),
         },
         options: OptionList::new(alloc),
-    })
+    };
+    SharedKey::new(alloc, key, 0)
 }
 
 /// Opens an exchange for a client, and checks the result.
@@ -46,8 +48,8 @@ fn open(
     assert!(rt; exchanges.admitted() < u64::MAX);
     let key = key(alloc)?;
     let opening = Opening {
-        client: client(port),
-        key: exchanges.hashed(&key),
+        client: Peer::new(client(port)),
+        key: &key,
         is_get: true,
         form: Seq::new(alloc),
         copy: None,

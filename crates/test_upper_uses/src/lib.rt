@@ -1,6 +1,6 @@
-//! The first uses that stand on the first pages of the upper crates, as tests; that of `coap_model`,
-//! the call of a law, as a function with a contract. Each is here line by line as on its page;
-//! `tools/check-examples` compares them.
+//! The first uses that stand on the first pages of the upper crates, as tests; that of
+//! `coap_model`, the call of a law, as a function with a contract. Each is here line by line as on
+//! its page; `tools/check-examples` compares them.
 #![tactic(auto)]
 
 #[cfg(test)]

@@ -2,7 +2,7 @@
 use crate::fixtures;
 use crate::fixtures::{CLIENT, ORIGIN};
 use coap_core::{
-    Core, Datagram, Endpoint, Event, Ip, LimitValues, Limits, Routes, Seen, Store, Watch,
+    Core, Datagram, Endpoint, Event, Ip, LimitValues, Limits, Routes, Store, Watch, WatchedTurn,
 };
 use coap_message::Seq;
 use coap_port::{MemoryPort, Scripted, drive, drive_watched};
@@ -37,9 +37,9 @@ struct LastLost(u64);
 impl Watch for LastLost {
     ghost sees = { λ before told after. Unit {0} }; // nothing is said of what it does
 
-    fn foresee<S: Store + Drop>(&mut self, _turn: Seen<'_>, _core: &Core<S>) {}
+    fn foresee<S: Store + Drop>(&mut self, _turn: WatchedTurn<'_>, _core: &Core<S>) {}
 
-    fn see<S: Store + Drop>(&mut self, turn: Seen<'_>, _core: &Core<S>) {
+    fn see<S: Store + Drop>(&mut self, turn: WatchedTurn<'_>, _core: &Core<S>) {
         if turn.report.is_none() {
             self.0 = turn.now;
         }
@@ -51,7 +51,7 @@ fn coap_core_watched(rt: HostRuntime) -> Result<(), Fail> {
     let alloc = rt.alloc();
     let mut core = fixtures::core(alloc)?;
     let mut watcher = LastLost(0);
-    let lost = Seen {
+    let lost = WatchedTurn {
         now: 7,
         draw: 250,
         event: Event::Tick,

@@ -1,0 +1,21 @@
+use Rattle.std.proofs.Common.{codes}
+use Rattle.std.proofs.lemmas.Result.{on_ok_weaker}
+use Rattle.std.specs.Fmt.{decimal}
+use Rattle.coap_core.specs.Events.{seen}
+use Rattle.coap_explain.specs.Account as spec
+use Rattle.coap_explain.proofs.Writing.{line-made}
+use Rattle.coap_explain.proofs.explainer.put_line.Goals as goal
+
+pub returns : goal.returns
+returns g c =
+    let event = seen c.args.turn.event in
+    on_ok_weaker c.write_all.result
+    (λ last.
+    line-made c.args.line.now.items c.put_head.new.line.items c.put_event.new.line.items c.put_outcome.new.line.items c.write_all.new.self.items
+    (codes "# ") (decimal c.args.core.now.events) (codes " ") (decimal c.args.turn.now) (codes " ") c.args.beside.time.now
+    (spec.source_text event) (spec.message_text event) (spec.taken_text c.args.beside.taken.now)
+    (spec.outcome_text c.args.turn.report)
+    (spec.details_of event c.args.turn.report c.args.turn.sent.now c.args.turn.now c.args.core.now (spec.noted_seen c.args.beside.before))
+    (codes "\n")
+    (rw c.events.ensures.exact at c.in_ok-put_head.ensures) c.in_ok-put_event.ensures c.in_ok-put_outcome.ensures last)
+    c.write_all.ensures.bytes
