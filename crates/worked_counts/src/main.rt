@@ -1,6 +1,6 @@
 //! Writes the text of counts: the line of `--stats`, and the file of `--stats-file` with all of its
-//! metrics. No two of its numbers are the same, so that `stdout`, which was worked out by hand, shows
-//! that each stands where it belongs.
+//! metrics. No two of its numbers are the same, so that `stdout`, which was worked out by hand,
+//! shows that each stands where it belongs.
 #![tactic(auto)]
 
 mod holders;

@@ -22,7 +22,7 @@ pub(crate) struct Difference<'a> {
 }
 
 /// Whether a byte ends a line.
-fn is_line_feed(byte: &u8) -> bool {
+pub(crate) fn is_line_feed(byte: &u8) -> bool {
     *byte == b'\n'
 }
 

@@ -5,7 +5,7 @@ use crate::run::planned;
 use coap_cache::Store;
 use coap_core::{Core, Counts, Datagram, OutOfMemory, Outcome, Report, Storing};
 use coap_lines::{LONGEST, Turn, is_skipped, line_buffer, put_line, read_turn};
-use coap_proxyd::{Plan, Seen};
+use coap_proxyd::{Plan, WatchedTurn};
 use std::alloc::Global;
 use std::io;
 use std::io::ErrorKind;
@@ -96,7 +96,7 @@ impl<S: Store + Drop> Player<S> {
         if !self.core.can_step(turn.now, turn.draw, &self.output) {
             return Err("its moment or its draw is out of range, or there are too many events");
         }
-        let seen = Seen::begun(turn.now, turn.draw, turn.from, self.input.bytes());
+        let seen = WatchedTurn::begun(turn.now, turn.draw, turn.from, self.input.bytes());
         Ok(
             self.core
                 .step(turn.now, turn.draw, seen.event, &mut self.output),

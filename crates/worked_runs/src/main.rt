@@ -3,10 +3,10 @@
 //! them. Each is played over both stores, and what is written is compared with that.
 //!
 //! For a run that doesn't agree with its file, the first line of the file that isn't met and what
-//! is written in its place are printed, for each store in which it doesn't. A file that has no line
-//! of what must be written agrees with nothing. The last line says how many runs agree in both
-//! stores. The status is 1 if not all do, or there are none. `cd data && ../out/worked_runs` plays
-//! the runs in `data`.
+//! is written in its place are printed, each with its datagram in words, for each store in which it
+//! doesn't. A file that has no line of what must be written agrees with nothing. The last line says
+//! how many runs agree in both stores. The status is 1 if not all do, or there are none. `cd data
+//! && ../out/worked_runs` plays the runs in `data`.
 //!
 //! `worked_runs STORE NAME` is for a program to which memory is refused (`tools/refuse-memory`): it
 //! plays the run `NAME.events` over the store `list` or `map`, gives an event that there was no
@@ -14,6 +14,7 @@
 //! file, and 3 if memory was refused before its first event.
 #![tactic(auto)]
 
+mod decoded;
 mod expected;
 mod files;
 mod insist;
@@ -49,13 +50,16 @@ where
     let mut output = io::writer(rt);
     write!(output, "{file}:{number}, over {store}:\nexpected ")?;
     output.write_all(first.wanted)?;
+    decoded::put_decoded(rt.alloc(), &mut output, first.wanted)?;
     output.write_all(b"written  ")?;
     output.write_all(first.came)?;
+    decoded::put_decoded(rt.alloc(), &mut output, first.came)?;
     Ok(false)
 }
 
 /// Plays the run with this name, whose file is in the current folder, over a list and over a
-/// recency map. Returns whether both write what is expected. Says so if the file says nothing of it.
+/// recency map. Returns whether both write what is expected. Says so if the file says nothing of
+/// it.
 fn play(rt: &HostRuntime, name: &str) -> io::Result<bool> {
     let file = files::file_of(rt.alloc(), name)?;
     let file = file.as_str();
