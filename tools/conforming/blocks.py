@@ -97,8 +97,8 @@ def a_block_is_not_given_for_another(stage, kind):
         if came is None or came.message.kind == wire.RST or wire.is_error(came.message.code):
             continue
         start = (wire.number((wire.values_of(came.message, BLOCK2) or [b""])[0]) >> 4) * 16
-        wanted = (16 * number, BODY[start : start + 16])
-        expect("the block, and its payload", wanted, (start, came.message.payload[:16]))
+        expect("where the block begins", 16 * number, start)
+        expect("the payload of the block", BODY[start : start + 16], came.message.payload[:16])
 
 
 @case(MUST, "SizesRefused", at="RFC 7959, 4", each={"0": b"", "1,000": b"\x03\xe8"})

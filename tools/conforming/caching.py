@@ -3,7 +3,7 @@
 import time
 
 from conforming import wire
-from conforming.cases import MUST, SHOULD, NotKept, NotOffered, case_list, expect
+from conforming.cases import MUST, SHOULD, NotKept, NotOffered, case_list, expect, expect_response
 from conforming.endpoints import SILENCE
 from conforming.wire import GET, NON, POST
 
@@ -128,8 +128,7 @@ def a_response_from_the_cache_is_as_it_was_stored(stage, code):
     options = [TAG, (wire.CONTENT_FORMAT, b"\x28"), (wire.SAFE, b"x"), (wire.SAFE_CRITICAL, b"y")]
     stage.fetch(resource, [*options, wire.max_age(60)], b"whole", code)
     came = stage.get_stored(resource).message
-    shown = [it for it in came.options if it[0] != wire.MAX_AGE]
-    expect("code, options and payload", (code, options, b"whole"), (came.code, shown, came.payload))
+    expect_response(came, code=code, options=options, payload=b"whole")
 
 
 AGES = {"60": 60, "10": 10, "256": 256, "65,536": 65_536, "4,294,967,295": 0xFFFFFFFF, "none": None}
@@ -196,8 +195,8 @@ def a_request_for_what_is_stale_has_its_etag(stage, tag):
 def a_2_03_selects_what_is_stored(stage):
     resource = stale(stage)
     came = validate(stage, resource, VALID, [TAG, wire.max_age(30)])
-    tags = wire.values_of(came, wire.ETAG)
-    expect("code, ETag and payload", (CONTENT, [TAG[1]], b"21"), (came.code, tags, came.payload))
+    expect_response(came, code=CONTENT, payload=b"21")
+    expect("its ETags", [TAG[1]], wire.values_of(came, wire.ETAG))
 
 
 NEWS = {"2.05": CONTENT, "4.04": wire.code("4.04"), "5.00": wire.code("5.00")}
@@ -209,7 +208,7 @@ def anything_but_a_2_03_answers_the_request(stage, code):
     used to satisfy the request."""
     resource = stale(stage)
     came = validate(stage, resource, code, [OTHER_TAG] if code == CONTENT else [], b"new")
-    expect("code and payload", (code, b"new"), (came.code, came.payload))
+    expect_response(came, code=code, payload=b"new")
 
 
 @case(MUST, "RenewalIgnored", at="5.9.1.3", needs=("cache",), each={"30": 30, "1,000": 1000, "none": None})
@@ -267,7 +266,7 @@ def a_2_03_of_the_cache_is_not(stage, what):
     stage.fetch(resource, [TAG, wire.max_age(60)])
     came = stage.get_stored(resource, [OTHER_TAG, TAG]).message
     if came.code != VALID:
-        expect("code and payload", (CONTENT, b"21"), (came.code, came.payload))
+        expect_response(came, code=CONTENT, payload=b"21")
         raise NotOffered("it answers with the content")
     if what == "tag":
         expect("its ETags", [TAG[1]], wire.values_of(came, wire.ETAG))
@@ -292,7 +291,7 @@ def a_client_with_another_etag_gets_the_content(stage, tag):
     if asked is not None:
         raise NotOffered("it asks the origin")
     came = client.response(request).message
-    expect("code and payload", (CONTENT, b"21"), (came.code, came.payload))
+    expect_response(came, code=CONTENT, payload=b"21")
 
 
 # Changes

@@ -2,6 +2,9 @@
 
 from collections import namedtuple
 
+from testing.coap import MAX_AGE
+from testing.telling import parts_text
+
 MUST, SHOULD = "MUST", "SHOULD"
 KEPT, NOT_KEPT, ENDED, NOT_OFFERED, NOT_SEEN = "kept", "not kept", "ended", "not offered", "not seen"
 
@@ -62,6 +65,15 @@ def expect(what, wanted, came):
     """Isn't kept where something isn't as wanted."""
     if wanted != came:
         raise NotKept(f"{what}: {shown(wanted)} is right, {shown(came)} came")
+
+
+def expect_response(came, what="the response", **parts):
+    """Isn't kept where a response has other parts than these, which have the names of its fields. Its Max-Age isn't
+    compared."""
+    others = came._replace(options=[it for it in came.options if it[0] != MAX_AGE])
+    theirs = {name: getattr(others, name) for name in parts}
+    if theirs != parts:
+        raise NotKept(f"{what}: {parts_text(parts)} is right, {parts_text(theirs)} came")
 
 
 def expect_between(what, least, most, came):

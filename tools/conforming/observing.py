@@ -1,7 +1,7 @@
 """RFC 7641 (Observe): what it asks of a proxy that doesn't offer it, and what one that does mustn't do."""
 
 from conforming import wire
-from conforming.cases import MUST, NotKept, NotOffered, case_list, expect
+from conforming.cases import MUST, NotKept, NotOffered, case_list, expect, expect_response
 from conforming.endpoints import SILENCE
 from conforming.wire import ACK, CON, GET, OBSERVE
 
@@ -34,7 +34,7 @@ def an_observe_of_a_response_is_not_returned_unasked(stage):
     that doesn't know it gives 5.02 (RFC 7252, 5.7.1)."""
     came = stage.fetch(stage.resource(), [(OBSERVE, b"\x07")]).message
     if came.code != BAD_GATEWAY:
-        expect("code and payload", (CONTENT, b"21"), (came.code, came.payload))
+        expect_response(came, code=CONTENT, payload=b"21")
         expect("how many Observe the response has", 0, len(wire.values_of(came, OBSERVE)))
 
 

@@ -1,7 +1,7 @@
 """Section 5.7: what a proxy does with requests, options and responses."""
 
 from conforming import wire
-from conforming.cases import MUST, NotKept, case_list, expect
+from conforming.cases import MUST, NotKept, case_list, expect, expect_response
 from conforming.endpoints import SILENCE
 from conforming.messages import ANSWERS, METHODS, body_of
 from conforming.options import gives_bad_gateway, is_refused
@@ -21,9 +21,7 @@ def forwarded(stage, resource, method, kind):
     expect("the payload at the origin", body, asked.message.payload)
     resource.origin.answer(asked, ANSWERS[method], [(wire.CONTENT_FORMAT, b"\x28")], b"done")
     came = client.response(request).message
-    shown = [it for it in came.options if it[0] != wire.MAX_AGE]
-    wanted = (ANSWERS[method], [(wire.CONTENT_FORMAT, b"\x28")], b"done")
-    expect("code, options and payload of the response", wanted, (came.code, shown, came.payload))
+    expect_response(came, code=ANSWERS[method], options=[(wire.CONTENT_FORMAT, b"\x28")], payload=b"done")
 
 
 BOTH = {f"{name}, {kind}": (METHODS[name], KINDS[kind]) for name in METHODS for kind in KINDS}
@@ -130,7 +128,7 @@ def an_unsafe_option_of_a_response_gives_5_02_with_each_method(stage, method, co
 def an_unrecognised_safe_option_of_a_response_is_forwarded(stage, *options):
     """Unrecognized options of class Safe-to-Forward in a response MUST be forwarded."""
     came = stage.fetch(stage.resource(), list(options)).message
-    expect("code and payload", (CONTENT, b"21"), (came.code, came.payload))
+    expect_response(came, code=CONTENT, payload=b"21")
     expect("the options of the response", list(options), [it for it in came.options if it[0] != wire.MAX_AGE])
 
 
@@ -186,7 +184,7 @@ RETURNED = ("2.01", "2.02", "2.04", "4.00", "4.01", "4.04", "4.12", "4.15", "5.0
 def a_response_code_reaches_the_client(stage, code):
     """The response is returned to the client: the proxy isn't the server whose answer it is."""
     came = stage.fetch(stage.resource(), [], b"why", wire.code(code), method=POST, body=b"x").message
-    expect("code and payload", (code, b"why"), (wire.code_text(came.code), came.payload))
+    expect_response(came, code=wire.code(code), payload=b"why")
 
 
 @case(MUST, "ResetsWaitedFor")
@@ -226,8 +224,7 @@ def a_response_with_a_format_error_gives_5_02(stage, raw):
 def an_error_of_the_origin_is_returned_with_its_options(stage, code):
     options = [(wire.SAFE, b"x")]
     came = stage.fetch(stage.resource(), [*options, wire.max_age(30)], b"why", code).message
-    shown = [it for it in came.options if it[0] != wire.MAX_AGE]
-    expect("code, options and payload", (code, options, b"why"), (came.code, shown, came.payload))
+    expect_response(came, code=code, options=options, payload=b"why")
 
 
 # What isn't served, and what is the proxy's own

@@ -104,6 +104,16 @@ def a_configuration_that_is_read_once(program):
         expect("what is written", (0, said, b""), (process.returncode, output, errors), *RESULT)
 
 
+def an_answer_that_is_delivered_later(program):
+    """What is said to have taken time is the origin, and not the proxy."""
+    check(program, [
+        (0, (client(1), message(NON, GET, 1, b"a", [T])), f"NON GET {HERE} opened"),
+        (0, None, f"sent GET to {THERE}"),
+        (5, (THERE, message(ACK, CONTENT, 1, token(1), [AGE], b"21")), "ACK 2.05 answered 2.05 kept"),
+        (2005, None, f"delivered 2.05 Max-Age 58 {served(1, 5)}"),
+    ])
+
+
 def refusals(program):
     check(program, [
         (0, (client(1), message(NON, GET, 1, b"", [T, (BLOCK2, b"")])), "NON GET refused 4.02 option 23"),
@@ -195,6 +205,27 @@ def answers_that_are_validated(program):
         (60_001, (THERE, message(ACK, VALID, 5, token(3), [tag])), "ACK 2.03 answered 5.02 tag"),
         (60_001, None, f"delivered 5.02 {served(1, target=HERE + '/x')}"),
     ])
+
+
+def validations_at_the_limit(program):
+    """What a 2.03 renews may be too long for a datagram, and what is left of the 2.03 may fit one."""
+    ten, limits = (MAX_AGE, number_bytes(10)), "version = 1\nlimits = { datagram = 128 }\n"
+    for valid, text, delivered in (
+        # safe to forward, and not recognised
+        (message(ACK, VALID, 3, token(2), [TAG, ten, (260, b"a" * 40)]), "5.02 doesn't fit", "5.02"),
+        # with a Max-Age of four bytes it would be longer than 128, but its payload isn't passed on
+        (message(ACK, VALID, 3, token(2), [TAG, ten], bytes(111)), "2.03 kept", "2.05 ETag ab Max-Age 10"),
+    ):
+        check(program, [
+            (0, (client(1), message(NON, GET, 1, b"a", [T])), f"NON GET {HERE} opened"),
+            (0, None, f"sent GET to {THERE}"),
+            (0, (THERE, message(ACK, CONTENT, 1, token(1), [TAG, ten], bytes(67))), "ACK 2.05 answered 2.05 kept"),
+            (0, None, f"delivered 2.05 ETag ab Max-Age 10 {served(1)}"),
+            (10_001, (client(1), message(NON, GET, 2, b"b", [T])), f"NON GET {HERE} opened"),
+            (10_001, None, f"sent GET ETag ab to {THERE}"),
+            (10_001, (THERE, valid), f"ACK 2.03 answered {text}"),
+            (10_001, None, f"delivered {delivered} {served(1)}"),
+        ], limits)
 
 
 def great_numbers(program):
@@ -340,8 +371,9 @@ def ids_that_run_out(program):
 
 
 CASES = (
-    an_exchange_and_hits, the_first_answer, a_configuration_that_is_read_once, refusals, other_refusals, targets,
-    targets_behind_a_next_proxy, answers_that_are_validated, great_numbers, a_confirmable_client, answers_that_are_not_kept,
-    a_silent_origin, a_client_that_acknowledges_nothing, full_tables, full_tables_of_waiters_and_records,
-    a_join_that_has_no_room, an_answer_that_is_too_large, ids_that_run_out,
+    an_exchange_and_hits, the_first_answer, a_configuration_that_is_read_once, an_answer_that_is_delivered_later,
+    refusals, other_refusals, targets, targets_behind_a_next_proxy, answers_that_are_validated, validations_at_the_limit,
+    great_numbers, a_confirmable_client, answers_that_are_not_kept, a_silent_origin, a_client_that_acknowledges_nothing,
+    full_tables, full_tables_of_waiters_and_records, a_join_that_has_no_room, an_answer_that_is_too_large,
+    ids_that_run_out,
 )

@@ -125,7 +125,7 @@ class Days:
             expect("an answer that comes again", data, client.told.setdefault(came.message_id, data))
             self.check_told(client, came, now)
             return
-        expect("whether a reply is awaited", (ACK, True), (came.kind, client.is_open))
+        expect("a reply", (ACK, True), (came.kind, client.is_open), "the type", "whether it is awaited")
         client.is_open = False
         if not self.is_again(client, data, now):
             client.reply, client.before, client.after = data, client.asked, now
@@ -167,7 +167,8 @@ class Days:
 
     def check_content(self, came, before, now):
         """Has a message be an answer of the origin, with a Max-Age that may be left of it. Returns the answer."""
-        expect("the code and whether the origin has sent it", (CONTENT, True), (came.code, came.payload in self.answers))
+        is_sent = came.payload in self.answers
+        expect("a reply", (CONTENT, True), (came.code, is_sent), "the code", "whether the origin has sent it")
         answer, values = self.answers[came.payload], [number(it) for option, it in came.options if option == MAX_AGE]
         expect("how many Max-Age it has", 1, len(values))
         if before - answer.seen - SLACK > answer.seconds:

@@ -72,7 +72,8 @@ def blob(layout, described):
     kind, digest = described["digest"].split(":")
     with open(os.path.join(layout, "blobs", kind, digest), "rb") as file:
         data = file.read()
-    expect("the digest and the size of a blob", (digest, described["size"]), (hashlib.sha256(data).hexdigest(), len(data)))
+    came = hashlib.sha256(data).hexdigest(), len(data)
+    expect("a blob", (digest, described["size"]), came, "the digest", "the size")
     return data
 
 
@@ -82,7 +83,9 @@ def check_image(layout, path):
         index = json.loads(blob(layout, json.load(file)["manifests"][0]))
     expect("how many images there are", 1, len(index["manifests"]))
     machine = {"x86_64": "amd64", "aarch64": "arm64"}[programs.machine_of(path)]
-    expect("the machine", (machine, "linux"), tuple(index["manifests"][0]["platform"][it] for it in ("architecture", "os")))
+    platform = index["manifests"][0]["platform"]
+    came = platform["architecture"], platform["os"]
+    expect("the machine", (machine, "linux"), came, "the processor", "the system")
     manifest = json.loads(blob(layout, index["manifests"][0]))
     config = json.loads(blob(layout, manifest["config"]))
     expect("the user", "65534:65534", config["config"]["User"])

@@ -3,6 +3,7 @@ fast, or stands still."""
 
 import contextlib
 import ctypes
+import fcntl
 import glob
 import os
 import socket
@@ -118,7 +119,7 @@ def its_secrets_are_random_bytes_of_the_system(program):
     expect("a run", ([2, 8, 8, 16], 0), drawn(program, words), "its random bytes", "its status")
 
 
-# The options of its socket
+# The mode and the options of its socket
 
 
 def call(number, *arguments):
@@ -144,6 +145,22 @@ def milliseconds(option, of):
     return seconds * 1000 + micros / 1000
 
 
+def its_socket_waits_while_nothing_comes(program):
+    """After a turn that sent something it only looks, and then it waits again: by the mode of its socket, which the system
+    has in both, and no clock."""
+    with Stage(program) as stage:
+        client = stage.peer(to=stage.proxy())
+        with own_socket(stage.programs[-1]) as its:
+            modes = []
+            for _ in range(3):
+                client.send(message(CON, EMPTY, client.new_id()))
+                expect("what it is answered", RST, client.receive("a Reset").message.kind)
+                # Each wait is a second, and it takes one to be waiting.
+                time.sleep(0.3)
+                modes.append(fcntl.fcntl(its, fcntl.F_GETFL) & os.O_NONBLOCK)
+            expect("the modes in which a read doesn't wait", [0, 0, 0], modes)
+
+
 def its_socket_waits_no_longer_than_it_should(program):
     """The kernel rounds each wait up to its own steps, of ten milliseconds at most."""
     with Stage(program) as stage:
@@ -152,3 +169,7 @@ def its_socket_waits_no_longer_than_it_should(program):
             expect_between("milliseconds that a read waits", 4, 13, milliseconds(socket.SO_RCVTIMEO, its))
             expect_between("milliseconds that a send waits", 50, 59, milliseconds(socket.SO_SNDTIMEO, its))
             expect("whether it may send to all", 0, its.getsockopt(socket.SOL_SOCKET, socket.SO_BROADCAST))
+
+
+# These look into the program's process, where a stand-in has none of its own.
+SOCKET_CASES = (its_socket_waits_while_nothing_comes, its_socket_waits_no_longer_than_it_should)

@@ -11,9 +11,12 @@ import tempfile
 import time
 from urllib.parse import unquote_to_bytes
 
-from testing.coap import ACK, BLOCK2, CON, CONTENT, EMPTY, GATEWAY_TIMEOUT, GET, NON, RST, URI_PATH, message
+from testing.coap import (
+    ACK, BLOCK2, CON, CONTENT, EMPTY, ETAG, GATEWAY_TIMEOUT, GET, NON, RST, URI_PATH, VALID, message,
+)
 from testing.network import PATIENCE, Failed, Stage, case_list, expect, expect_between, free_port
 from testing.recordings import limited
+from testing.script import read
 from testing.steps import T, TEMP, max_age, path
 
 # Functions that try a program, and the stand-ins that they must find wrong.
@@ -34,11 +37,11 @@ def expect_form(what, form, text):
 class Log:
     """A proxy that logs to a file: its address, a client of it, and an origin that it maps /t to."""
 
-    def __init__(self, stage, limits=""):
+    def __init__(self, stage, limits="", routes=""):
         self.path = os.path.join(stage.folder, "log")
         self.origin = stage.peer()
         self.target = f"coap://{self.origin.authority}/temp"
-        config = f"[limits]\n{limits}\n"
+        config = f"{routes}[limits]\n{limits}\n"
         with open(self.path, "wb") as output:
             words = ("--map", f"/t={self.target}", "--log")
             self.address = stage.proxy(*words, config=config, version=2, output=output)
@@ -90,10 +93,12 @@ def authority(peer):
 @case("ListeningUnsaid", "LogChanged")
 def it_says_that_it_listens(program):
     with Stage(program) as stage:
-        log = Log(stage)
+        names, hosts = "names = ['a.test', 'b.test', 'c.test']\n", "'h.test' = '192.0.2.7'\n'i.test' = '192.0.2.8'\n"
+        # One limit alone that a client has with all others makes no version 1.
+        log = Log(stage, "waiters = 8\nclient_waiters = 8", f"{names}[hosts]\n{hosts}")
         done = subprocess.run([*program, "--version"], stdout=subprocess.PIPE, text=True, timeout=20)
         version, listen = done.stdout.split()[1], "%s:%d" % log.address
-        log.expect_line("listening", 1, version=version, listen=listen, maps=1, names=0, hosts=0, limits=2)
+        log.expect_line("listening", 1, version=version, listen=listen, maps=1, names=3, hosts=2, limits=2)
 
 
 @case("CauseIsReset", "ClientIsTheFirst")
@@ -114,10 +119,29 @@ def an_origin_that_is_silent_and_answers_again(program):
         origin.acknowledge(origin.expect_request(GET, [TEMP]))
         [again] = log.await_lines("answers_again")
         expect("the origin", authority(origin), again["origin"])
+        # since it was asked, and not since it was given up
+        expect_between("how long it was silent, in milliseconds", 1000, 1000 * PATIENCE, int(again["silent_ms"]))
         client.expect_response(request, GATEWAY_TIMEOUT)
         about["cause"] = "unanswered"
         log.expect_line("gave_up", 2, clients=1, **about)
         log.expect_line("failed", 2, client=authority(client), code="5.04", **about)
+        # answered at once
+        client.request(GET, [T], kind=NON)
+        origin.answer(origin.expect_request(GET, [TEMP]), CONTENT, [max_age(7)], b"21")
+        client.receive("an answer")
+        log.await_lines("answers_again", 2)
+        # silent twice, it answers again once
+        for number in range(3, 7):
+            segment = (URI_PATH, b"%d" % number)
+            request = client.request(GET, [T, segment], kind=NON)
+            asked = origin.expect_request(GET, [TEMP, segment])
+            if number < 5:
+                client.expect_response(request, GATEWAY_TIMEOUT)
+                log.await_lines("gave_up", number)
+            else:
+                origin.answer(asked, CONTENT)
+                client.receive("an answer")
+        log.await_lines("answers_again", 3)
 
 
 @case("CauseIsReset")
@@ -143,6 +167,12 @@ def answers_that_a_client_does_not_get(program):
         origin.answer(origin.expect_request(GET, [TEMP]), UNAVAILABLE, [max_age(7)])
         client.receive("5.03")
         log.expect_line("failed", 4, code="5.03", cause="origin", **about)
+        # valid, though no tag was sent
+        request = client.request(GET, [T, (URI_PATH, b"x")], kind=NON)
+        origin.answer(origin.expect_request(GET, [TEMP, (URI_PATH, b"x")]), VALID, [(ETAG, b"\x01")])
+        client.expect_response(request, BAD_GATEWAY)
+        about["target"] += "/x"
+        log.expect_line("failed", 5, code="5.02", cause="tag", **about)
 
 
 @case("LimitIsExchanges", "ClientIsTheFirst")
@@ -252,20 +282,26 @@ def a_log_that_nobody_reads_keeps_nobody_waiting(program):
             fcntl.fcntl(writing, F_SETPIPE_SZ, 8192)
             config = "[limits]\nnon_records = 1\nclient_non_records = 1\n"
             address = stage.proxy("--log", config=config, version=2, output=writing)
-            client, until = stage.peer(to=address), time.monotonic() + 16
+            client, until, count = stage.peer(to=address), time.monotonic() + 16, 0
             client.request(GET, [], kind=NON)
             # The pipe is full before all of these are written.
             while time.monotonic() < until:
                 client.request(GET, [], kind=NON)
+                count += 1
                 client.send(message(CON, EMPTY, client.new_id()))
                 while client.receive("a Reset").message.kind != RST:
                     pass
                 time.sleep(0.05)
             os.set_blocking(reading, False)
-            expect_between("what was written, in bytes", 4000, 8192, len(os.read(reading, 8192)))
+            before = os.read(reading, 8192).decode()
+            expect_between("what was written, in bytes", 4000, 8192, len(before))
             time.sleep(1.5)
             said = os.read(reading, 8192).decode()
             expect_form("the first line after that", r"left_out lines=[1-9][0-9]*", said.lstrip("\n").split("\n")[0])
+            # All of them, and who has most of the table: nothing is lost that isn't counted.
+            written = len(re.findall("^(?:dropped|full) ", before + said, re.MULTILINE))
+            left_out = [int(it) for it in re.findall("^left_out lines=([0-9]+)$", before + said, re.MULTILINE)]
+            expect("how many lines were written and left out", count + 1, written + sum(left_out))
         finally:
             os.close(reading)
             os.close(writing)
@@ -279,6 +315,29 @@ def a_recording_that_ends(program):
         done = subprocess.run([*program, *words], stderr=subprocess.PIPE, timeout=20, **more)
         lines = [line for line in done.stderr.decode().splitlines() if not line.startswith("listening ")]
         expect_form("what is said of its end", "recording_ended bytes=[0-9]+", "\n".join(lines))
+
+
+@case("EndUnsaid")
+def a_recording_that_is_full_has_the_lines_that_fit(program):
+    with Stage(program) as stage:
+        path, said, most = os.path.join(stage.folder, "run.events"), os.path.join(stage.folder, "log"), 4000
+        with open(said, "wb") as output:
+            words = ("--log", "--record", path, "--record-bytes", str(most))
+            client = stage.peer(to=stage.proxy(*words, output=output))
+        # These are written together, once nothing comes any more.
+        for _ in range(300):
+            client.send(message(CON, EMPTY, client.new_id()))
+            client.receive("a Reset")
+        until, ends = time.monotonic() + PATIENCE, []
+        while not ends and time.monotonic() < until:
+            time.sleep(0.05)
+            ends = re.findall("^recording_ended bytes=([0-9]+)$", read(said), re.MULTILINE)
+        with open(path, "rb") as file:
+            text = file.read()
+        expect("what is said of its end", [str(len(text))], ends)
+        expect("how it ends", b"\n", text[-1:])
+        longest = len("99999 1000 127.255.255.255:65535 4000FFFF\n")
+        expect_between("how many bytes it has", most - longest, most, len(text))
 
 
 # ---- faults
@@ -358,8 +417,14 @@ WORDS = (
      'map 1, "t" to "coap://127.0.0.1": the prefix doesn\'t begin with a slash, or has a ? or a #'),
     (["--map", "/t=coap://nowhere/"], "map option",
      'map 1, "/t" to "coap://nowhere/": the origin\'s host is no address, and isn\'t among the hosts'),
+    (["--map", "/t=coap://10.0.0.1:x/"], "map option",
+     'map 1, "/t" to "coap://10.0.0.1:x/": the origin is no URI that can be carried'),
+    (["--map", "/t#a=coap://10.0.0.1/"], "map option",
+     'map 1, "/t#a" to "coap://10.0.0.1/": the prefix doesn\'t begin with a slash, or has a ? or a #'),
     (["--explain"], "arguments", "--explain is for a replay, and --replay isn't given"),
 )
+# What is for a socket, each beside --replay.
+FOR_SOCKETS = (["--record", "/nowhere/run.events"], ["--log"], ["--stats", "60"], ["--stats-file", "/nowhere/counts"])
 CONFIGURATIONS = (
     ("version = 1\nnames = [\n", "config: syntax", "line 3: "),
     ("version = 1\nnames = ['a', 'b,c']\n", "config: routes", 'name 2, "b,c": no name'),
@@ -379,6 +444,9 @@ CONFIGURATIONS = (
 def what_is_wrong_with_the_words(program):
     for words, text, cause in WORDS:
         expect_fault(program, words, f"coap-proxyd: {text}\n", f"cause: {cause}\n")
+    for words in FOR_SOCKETS:
+        said = f"coap-proxyd: arguments\ncause: {words[0]} is for a socket, and --replay has none\n"
+        expect("what is written to a terminal", said, at_terminal(program, ["--replay", *words]))
 
 
 @case("CauseUnsaid")

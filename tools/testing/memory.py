@@ -110,7 +110,8 @@ def check_line(program, run, came):
     expect("what stands", (1, before, b"line %d: out of memory\n" % number), came, *RESULT)
     if run.events.splitlines()[number - 1].endswith(b" tick"):
         _, to, data = after[len(before) :].split() or (b"", ORIGIN, b"")
-        expect("whether this tick takes memory", (True, b"4"), (to != ORIGIN, data[:1]))
+        labels = "whether it is for a client", "how it begins"
+        expect("what this tick sends", (True, b"4"), (to != ORIGIN, data[:1]), *labels)
 
 
 def check_refused(program, run, came):
@@ -159,8 +160,9 @@ def what_is_said(program, run):
     comments, sent = [], []
     for line in output.splitlines(True):
         (comments if line.startswith(b"#") else sent).append(line)
-    [said] = [line for line in comments if b" answered 2.05 " in line]
-    return said.rstrip(b"\n").partition(b" answered 2.05 ")[2], b"".join(sent)
+    [said] = [line for line in comments if b" answered " in line]
+    said = said.rstrip(b"\n").partition(b" answered ")[2]
+    return said.removeprefix(b"2.05 "), b"".join(sent)
 
 
 def an_answer_without_memory_is_not_said_to_be_kept(program, run):
@@ -176,6 +178,8 @@ def an_answer_without_memory_is_not_said_to_be_kept(program, run):
             if said is not None:
                 seen.add(said)
     wanted = {(b"kept", run.output), *((b"no memory", text) for text in RUNS[run.name])}
+    # what is made of an answer is found again for the account: without memory for that, the answer is kept all the same
+    wanted.add((b"answer: out of memory", run.output))
     expect("what is said, and what is sent", wanted, seen)
 
 

@@ -95,7 +95,8 @@ def duplicates_repeat_the_first(program):
     rows = worked_rows(program, "confirmable_client_repeats")
     again = [row for row in rows if row.first]
     expect("which are repeated", {1, 2}, {row.first.number for row in again})
-    expect("how many are", (5, 5), tuple(sum(row.first.number == number for row in again) for number in (1, 2)))
+    came = tuple(sum(row.first.number == number for row in again) for number in (1, 2))
+    expect("how many are", (5, 5), came, "the first", "the second")
     expect("what went wrong", [], [words.trouble_text(row) for row in rows if words.trouble_text(row)])
 
 
@@ -255,11 +256,11 @@ def a_summary_counts_each_answer_once(program):
     counts = counts_of_file(program, SLEEPING)
     expect("requests", 6, counts.total.requests)
     expect("answers", {"hit": 2, "miss": 2, "validation": 2, "error": 0}, counts.total.sorts)
-    expect("datagrams", (10, 11, 1), (counts.came, counts.sent, counts.again))
+    expect("datagrams", (10, 11, 1), (counts.came, counts.sent, counts.again), "that came", "that were sent", "again")
     expect("answer times", [2290, 40, 40, 40], counts.origins["192.0.2.50:5683"].times)
     expect("over time", 6, sum(map(sum, counts.answers.values)))
     silent = counts_of_file(program, os.path.join(WORKED, "silent_origin.events"))
-    expect("given up", (1, 1), (silent.given_up, silent.origins["127.0.0.1:5690"].given_up))
+    expect("given up", (1, 1), (silent.given_up, silent.origins["127.0.0.1:5690"].given_up), "in all", "of the origin")
     expect("errors", 1, silent.total.sorts["error"])
     tree = xml.etree.ElementTree.fromstring(charts.answers_over_time(counts, None))
     expect("bars", 6, sum(it.attrib.get("class", "").endswith(" bar") for it in tree.iter()))

@@ -127,8 +127,9 @@ def limits_are_those_of_the_configuration(program):
             "c.toml",
         )
         found = runs.limits_of(["--config", path])
-        expect("the limits", (1000, 16, 4096), tuple(found[name] for name in ("exchanges", "waiters", "con_records")))
-        expect("those by default", (256, 1024), tuple(limits()[name] for name in ("exchanges", "waiters")))
+        names = "exchanges", "waiters", "con_records"
+        expect("the limits", (1000, 16, 4096), tuple(found[name] for name in names), *names)
+        expect("those by default", (256, 1024), tuple(limits()[name] for name in names[:2]), *names[:2])
 
 
 # What is said of a run that is too long to be drawn.

@@ -144,7 +144,8 @@ def a_full_disk_ends_the_recording_alone(program):
         expect("the run", (0, b"coap-proxyd: the recording has ended\n"), (done.returncode, done.stderr), *FAULT)
         with open(path, "rb") as file:
             lines = file.read().split(b"\n")
-        expect("whether it ends with a whole line", (b"", True), (lines[-1], len(lines) > 2))
+        labels = "behind the last line feed", "whether there are several lines"
+        expect("how it ends", (b"", True), (lines[-1], len(lines) > 2), *labels)
 
 
 def a_recording_ends_before_it_is_too_long(program):
@@ -186,8 +187,10 @@ def an_account_has_the_time_of_day(program):
     head, run = "# recorded since 2026-11-27T23:59:59.900Z\n", [*program, "--replay", "--explain"]
     for first, shown in (("", ""), (head, "2026-11-28T00:00:00.001Z ")):
         done = subprocess.run(run, input=first + "101 0 tick\n", stdout=subprocess.PIPE, text=True, timeout=20)
-        expect("what is said", (0, f"# 1 101 {shown}tick idle\n"), (done.returncode, done.stdout))
-    done = subprocess.run(run, input=head + "night\n", stdout=subprocess.PIPE, text=True, timeout=20)
+        wanted = (0, f"# 1 101 {shown}tick idle\n")
+        expect("what is said", wanted, (done.returncode, done.stdout), "the status", "the output")
+    pipe = subprocess.PIPE
+    done = subprocess.run(run, input=head + "night\n", stdout=pipe, stderr=pipe, text=True, timeout=20)
     expect("the status after a bad event", 2, done.returncode)
 
 

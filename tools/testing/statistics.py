@@ -6,9 +6,11 @@ import subprocess
 import tempfile
 import time
 
-from testing.coap import ACK, BLOCK2, CON, EMPTY, GATEWAY_TIMEOUT, GET, NON, message
+from testing.coap import (
+    ACK, BLOCK2, CHANGED, CON, CONTENT, EMPTY, GATEWAY_TIMEOUT, GET, NON, PROXY_URI, PUT, URI_PATH, message,
+)
 from testing.network import PATIENCE, Failed, case_list, expect, expect_between, expect_message, free_port
-from testing.steps import T, expect_hit, fetch
+from testing.steps import T, TEMP, change, expect_hit, fetch
 
 CASES, case = case_list()
 # The metric that is a histogram.
@@ -177,6 +179,61 @@ def each_number_stands_behind_its_name(stage):
         expect_between("seconds since the start", 5, time.monotonic() - started + 1, seconds)
 
 
+@case("NotCounted")
+def why_exchanges_were_opened_and_by_which_way(stage):
+    origin, path = stage.peer(), os.path.join(stage.folder, "counts.prom")
+    words = ("--map", f"/t=coap://{origin.authority}/temp", "--stats", "1", "--stats-file", path)
+    client = stage.peer(to=stage.proxy(*words, config="names = ['proxy.test']\n"))
+    whole, part, short = (((T, *more), (TEMP, *more)) for more in ((), [(URI_PATH, b"a")], [(URI_PATH, b"b")]))
+    for (here, there), seconds in ((whole, 60), (part, 60), (short, 1)):
+        fetch(client, origin, here=here, there=there, seconds=seconds)
+    for here, there in (whole, part, whole, part, whole):
+        change(client, origin, PUT, CHANGED, b"22", here=here, there=there)
+    time.sleep(2.1)
+    for here, there in (whole, part, short):
+        fetch(client, origin, here=here, there=there)
+    client.request(GET, [(PROXY_URI, f"coap://{origin.authority}/x".encode())], kind=NON)
+    origin.answer(origin.receive("a request"), CONTENT)
+    client.receive("an answer")
+    numbers = await_metric(path, 'coap_proxyd_map_requests_total{map="forward",outcome="opened"}', 1)
+    for why, count in {"absent": 4, "not_get": 5, "marked": 2, "stale": 1}.items():
+        expect(why, count, numbers[f'coap_proxyd_opened_total{{stored="{why}"}}'])
+    for way, count in {"/t": 11, "next": 0, "none": 0}.items():
+        expect(way, count, numbers[f'coap_proxyd_map_requests_total{{map="{way}",outcome="opened"}}'])
+    # A stand-in has two origins.
+    silences = [count for name, count in numbers.items() if name.startswith("coap_proxyd_origin_seconds_since_answer{")]
+    expect_between("full seconds since the last answer", 0, 1, max(silences))
+
+
+@case("NotCounted")
+def an_answer_takes_since_its_request_was_sent(stage):
+    origin, path = stage.peer(), os.path.join(stage.folder, "counts.prom")
+    words = ("--map", f"/t=coap://{origin.authority}/temp", "--stats", "1", "--stats-file", path)
+    client = stage.peer(to=stage.proxy(*words))
+    for name in (b"a", b"b"):
+        client.request(GET, [T, (URI_PATH, name)], kind=NON)
+    first = origin.receive("a request")
+    time.sleep(0.6)
+    origin.answer(first, CONTENT)
+    # It waited for its turn, and takes no time itself.
+    origin.answer(origin.receive("the other request"), CONTENT)
+    for _ in range(2):
+        client.receive("an answer")
+    numbers = await_metric(path, 'coap_proxyd_answers_total{storing="kept"}', 2)
+    times = {re.search('le="([^"]*)"', name).group(1): count for name, count in numbers.items() if "_bucket{" in name}
+    expect("how many came at once, and how many in all", (1, 2), (times["0.25"], times["+Inf"]))
+
+
+@case("NotCounted")
+def an_answer_that_is_too_large_counts_as_that(stage):
+    origin, path = stage.peer(), os.path.join(stage.folder, "counts.prom")
+    words = ("--map", f"/t=coap://{origin.authority}/temp", "--stats", "1", "--stats-file", path)
+    fetch(stage.peer(to=stage.proxy(*words, config="[limits]\ncache_bytes = 64\n")), origin)
+    numbers = await_metric(path, 'coap_proxyd_answers_total{storing="too_large"}', 1)
+    for storing in ("kept", "no_memory", "not_stored"):
+        expect(storing, 0, numbers[f'coap_proxyd_answers_total{{storing="{storing}"}}'])
+
+
 def run_a_turn(program, *words):
     """What a program with these words writes to standard error for a few turns of a socket."""
     usual = [*program, "-A", "127.0.0.1", "-p", str(free_port()), "--turns", "2", *words]
@@ -209,6 +266,16 @@ def a_file_alone_brings_no_lines(program):
         expect("what came", 0, metrics(path)["coap_proxyd_datagrams_received_total"])
 
 
+def a_map_of_all_paths_has_a_label(program):
+    with tempfile.TemporaryDirectory(prefix="coap-proxyd-test-") as folder:
+        path = os.path.join(folder, "counts.prom")
+        run_a_turn(program, "--stats-file", path, "--map", "/=coap://192.0.2.7/")
+        expect("the files", ["counts.prom"], os.listdir(folder))
+        ways = {it for name in metrics(path) for it in re.findall('map="([^"]*)"', name)}
+        expect("where requests go", {"/", "forward", "next", "none"}, ways)
+
+
 ENDS = (
     a_line_is_written_at_the_end_of_the_turns, what_cannot_be_written_is_said_once, a_file_alone_brings_no_lines,
+    a_map_of_all_paths_has_a_label,
 )

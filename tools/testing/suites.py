@@ -97,7 +97,7 @@ def run(*words):
 def stand_ins_are_told_apart():
     """Some cases of the format pass with right stand-ins and fail with wrong ones."""
     status, text = run("--self-test", "--only", "^3 MUST a_.*(of_another_version|marker)")
-    expect("status and text", (0, " 0 faults"), (status, text.rstrip("\n")[-9:]))
+    expect("status and text", (0, " 0 faults"), (status, text.rstrip("\n")[-9:]), "the status", "how the text ends")
 
 
 def a_wrong_stand_in_is_not_kept():
@@ -110,14 +110,16 @@ def a_wrong_stand_in_is_not_kept():
     ):
         command = [sys.executable, stand_in, fault, "0.1", "{address}", "{port}", "{name}"]
         status, text = run("--forward", "--only", only, "--", *command)
-        expect("status and last line", (1, f"# all: {told}"), (status, text.splitlines()[-1]))
+        came = status, text.splitlines()[-1]
+        expect("how it ends", (1, f"# all: {told}"), came, "the status", "the last line")
 
 
 def what_cannot_be_tried_is_said():
     """No stack trace, and a status that isn't 0."""
     for words in (["--against", "192.0.2.1"], ["--forward", "--", "/no/such/program"], ["--only", "no such case"]):
         status, text = run(*words)
-        expect("status, lines and beginning", (2, 1, "Bail out!"), (status, text.count("\n"), text[:9]))
+        came = status, text.count("\n"), text[:9]
+        expect("how it ends", (2, 1, "Bail out!"), came, "the status", "lines", "how they begin")
 
 
 def compiled(folder, name):
@@ -143,7 +145,7 @@ def a_load_finds_wrong_answers():
                 words = [*load, place, "200", "8", "non", "0", "10", *more]
                 said = json.loads(subprocess.run(words, stdout=subprocess.PIPE, check=True, timeout=60).stdout)
                 came = said["answered"] + said["lost"], said["wrong"] + said["lost"]
-                expect("answered and wrong", (200, wrong), came)
+                expect("how many answers are", (200, wrong), came, "right or lost", "wrong or lost")
         finally:
             for process in (origin, echo):
                 process.terminate()

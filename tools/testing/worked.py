@@ -64,12 +64,13 @@ def run_of(name, events, file=""):
     return Run(name, words, config, events, output_of(lines), file)
 
 
-def changed(runs):
-    """Worked runs, by their names, with the changes that must be found: the name of each, and the run."""
-    for change, name, old, new in CHANGES:
-        if runs[name].events.count(old) != 1:
-            raise Broken(f"{name} can't be changed to {change}")
-        yield f"{name} with {change}", run_of(name, runs[name].events.replace(old, new), runs[name].file)
+def changed(runs, change):
+    """A worked run with a change that must be found."""
+    _, name, old, new = change
+    run = runs[name]
+    if run.events.count(old) != 1:
+        raise Broken(f"{run.file} has {run.events.count(old)} times what is to be changed: {old!r}")
+    return run_of(name, run.events.replace(old, new), run.file)
 
 
 def runs(folder):

@@ -1,0 +1,187 @@
+"""The instructions that the program takes for an event, by valgrind's callgrind, and how many it may take."""
+
+import functools
+import re
+import shutil
+import subprocess
+import tempfile
+from concurrent.futures import ThreadPoolExecutor
+
+from testing import programs
+from testing.network import Failed, Skipped
+
+KINDS = ("miss", "conmiss", "con", "non", "again", "tick")
+CONFIG = """version = 2
+names = ["proxy.test"]
+[limits]
+exchanges = 4096
+waiters = 16384
+con_records = 65536
+non_records = 65536
+cache_entries = 65536
+cache_bytes = 268435456
+nstart = 16
+client_exchanges = 4096
+client_waiters = 16384
+client_non_records = 65536
+client_con_records = {}
+"""
+STORED = "coap://10.200.0.1/stored"
+LIFETIME = 247_000
+# What was measured last, for events of a kind next to so many open exchanges: the greater number of the program that is
+# built here and of that in bin/. Once events take less, `tools/instructions --bars` of both says what to put here; where
+# one takes more for a reason, that belongs into the message of the commit.
+MEASURED = {
+    ("miss", 1): 24_063, ("miss", 256): 25_000, ("conmiss", 1): 27_178, ("con", 1): 8826, ("non", 1): 8475,
+    ("again", 1): 2006, ("tick", 1): 626,
+}
+# How much more may be taken: another C library, and what a change costs at most of which nobody has to speak.
+MORE = 1.04
+# How many events one number is the average of: what comes before them takes more or less with each start's secrets.
+FEW = 300
+
+
+# The events of a replay
+
+
+def origin(n):
+    """The address of an origin that no other number has."""
+    return f"10.{1 + (n >> 16)}.{n >> 8 & 255}.{n & 255}"
+
+
+def get(confirmable, message_id, uri):
+    """A GET with this Proxy-Uri, of 13 to 268 bytes, in hexadecimal digits."""
+    head = bytes([0x40 if confirmable else 0x50, 1]) + message_id.to_bytes(2, "big")
+    option = bytes([0xDD, 35 - 13, len(uri) - 13]) + uri.encode()
+    return (head + option).hex().upper()
+
+
+def content(message_id, token, max_age):
+    """A piggybacked 2.05 for a request of the proxy with this id and token."""
+    head = bytes([0x68, 0x45]) + message_id.to_bytes(2, "big") + token.to_bytes(8, "big")
+    age = max_age.to_bytes((max_age.bit_length() + 7) // 8, "big")
+    return (head + bytes([0xD0 + len(age), 0x01]) + age + b"\xff21").hex().upper()
+
+
+def response(max_age):
+    """The lines of a replay that store a response."""
+    yield f"0 0 10.250.0.1:40001 {get(False, 65000, STORED)}"
+    yield "0 0 tick"
+    yield f"0 0 10.200.0.1:5683 {content(1, 1, max_age)}"
+    yield "0 0 tick"
+
+
+def hits(records, endpoints, expires, many):
+    """The lines of a replay: a stored response, and hits until there are so many records, and `many` more."""
+    yield from response(1_000_000)
+    step = LIFETIME // records if expires else 0
+    for n in range(records + many):
+        client = f"10.252.{n % endpoints >> 8}.{n % endpoints & 255}:40001"
+        yield f"{n * step if n < records else LIFETIME + (n - records) * step} 0 {client} {get(True, n, STORED)}"
+
+
+def events(kind, opened, many):
+    """The lines of a replay: a stored response, `opened` requests that no origin answers, and `many` of the kind."""
+    yield from response(200)
+    for n in range(opened):
+        yield f"0 0 10.251.{n >> 8}.{n & 255}:40001 {get(False, n, f'coap://{origin(n)}/open{n:04}')}"
+        yield "0 0 tick"
+    message_id, number = 3 + opened, 1 + opened
+    for n in range(many):
+        client = f"10.252.{n >> 8}.{n & 255}:40001"
+        if kind in ("miss", "conmiss"):
+            at, number = origin(0x10000 + n * 40503 % 0x10000), number + 1
+            yield f"1 0 {client} {get(kind == 'conmiss', n, f'coap://{at}/miss{n:04}')}"
+            yield "1 0 tick"
+            yield f"1 0 {at}:5683 {content(message_id, number, 10)}"
+            yield "1 0 tick"
+            if kind == "conmiss":
+                yield f"1 0 {client} 6000{message_id + 1:04X}"
+            message_id += 2
+        elif kind == "tick":
+            yield "1 0 tick"
+        elif kind == "again":
+            yield f"1 0 10.252.0.0:40001 {get(True, 1, STORED)}"
+        else:
+            yield f"1 0 {client} {get(kind == 'con', n, STORED)}"
+
+
+def opened_and_answered(count):
+    """The lines of a replay: so many requests for different origins, whose answers come in one millisecond."""
+    for n in range(count):
+        yield f"0 0 10.251.{n >> 8}.{n & 255}:40001 {get(False, n, f'coap://{origin(n)}/open{n:04}')}"
+        yield "0 0 tick"
+    for n in range(count):
+        yield f"1 0 {origin(n)}:5683 {content(1 + n, 1 + n, 10)}"
+
+
+def answered(kind, count, many):
+    """The same, and then so many datagrams that are no messages, or ticks that deliver the answers."""
+    yield from opened_and_answered(count)
+    for _ in range(many):
+        yield "1 0 10.252.0.0:40001 00000000" if kind == "ignored" else "1 0 tick"
+
+
+def clients(count, many):
+    """The lines of a replay: an answer for so many clients of one request, and ticks that deliver it to some."""
+    for n in range(count):
+        yield f"0 0 10.251.{n >> 8}.{n & 255}:40001 {get(False, n, f'coap://{origin(0)}/open0000')}"
+    yield "0 0 tick"
+    yield f"1 0 {origin(0)}:5683 {content(1, 1, 10)}"
+    for _ in range(many):
+        yield "1 0 tick"
+
+
+def dead(records, expired, many):
+    """The lines of a replay: so many records, and one or two more requests once they have expired, or before."""
+    yield from hits(records, min(records, 250), False, 0)
+    for n in range(many):
+        yield f"{LIFETIME if expired else 0} 0 10.253.0.{n}:40001 {get(True, 1, STORED)}"
+
+
+# What they take
+
+
+def of_replay(program, client_records, lines):
+    """How many instructions a program takes for the replay of these lines in all."""
+    with tempfile.NamedTemporaryFile("w", prefix="coap-proxyd-test-", suffix=".toml") as config:
+        config.write(CONFIG.format(client_records))
+        config.flush()
+        words = ["valgrind", "--tool=callgrind", "--callgrind-out-file=/dev/null"]
+        words += [program, "--replay", "--config", config.name]
+        text = "\n".join(lines) + "\n"
+        done = subprocess.run(words, input=text, capture_output=True, text=True)
+    found = re.search(r"refs:\s+([\d,]+)", done.stderr)
+    if done.returncode or not found:
+        raise Failed(f"{program}: status {done.returncode}: {done.stderr.strip()[-500:]}")
+    return int(found[1].replace(",", ""))
+
+
+def each(program, client_records, lines, many):
+    """The instructions of one event more, on an average of so many, given a function from a number of events to the lines
+    of a replay."""
+    # The first is left out: it may pay for what the others find made.
+    less, more = (of_replay(program, client_records, lines(count)) for count in (1, 1 + many))
+    return (more - less) // many
+
+
+def measured(program):
+    """What the program takes for the events for which there are bars, two of them at a time."""
+    with ThreadPoolExecutor(2) as pool:
+
+        def number(what):
+            return each(program, 65536, functools.partial(events, *what), FEW)
+
+        return dict(zip(MEASURED, pool.map(number, MEASURED)))
+
+
+def an_event_takes_no_more_instructions_than_it_may(program):
+    """Whatever else the machine does meanwhile: a body that finds the same in more steps meets its contract."""
+    if not shutil.which("valgrind"):
+        raise Skipped("valgrind isn't installed")
+    if programs.is_emulated(program[-1]):
+        raise Skipped("valgrind runs programs for this processor")
+    for (kind, opened), number in measured(program[-1]).items():
+        most = int(MEASURED[kind, opened] * MORE)
+        if number > most:
+            raise Failed(f"instructions for {kind} next to {opened} open exchanges: at most {most}, got {number}")
