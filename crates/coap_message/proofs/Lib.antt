@@ -14,3 +14,4 @@ pub mod OptionSpellings
 pub mod Splitting
 pub mod PieceSpellings
 pub mod Runs
+pub mod Tails

@@ -44,5 +44,6 @@ pub use transmission::{
     Moment, NON_LIFETIME,
 };
 pub use writing::{
-    encode_into, put_head, put_message, put_option, put_options, put_payload, set_id,
+    encode_into, put_head, put_message, put_option, put_options, put_options_from, put_payload,
+    set_id,
 };

@@ -1,13 +1,15 @@
 //! Owned options, as the bytes that encode them (RFC 7252, 3.1), in one block of memory.
-ghost use Rattle.std.specs.Prelude.{◌≡◌, ◌≤◌, ◌<◌, ◌++◌, ◌∷◌, ◌^◌, [], OnOk, OnErr, IfOk, length, take};
+ghost use Rattle.std.specs.Prelude.{◌≡◌, ◌≢◌, ◌≤◌, ◌<◌, ◌++◌, ◌∷◌, ◌^◌, [], OnOk, OnErr, IfOk, length, take};
 ghost use Rattle.coap_message.specs.Spelling.{more_of, option_spelling, options_spelling};
-ghost use Rattle.coap_message.specs.Options.{option_of, AreOptions, last_number};
+ghost use Rattle.coap_message.specs.Options.{option_of, AreOptions, from_number, last_number};
+ghost use Rattle.coap_message.specs.Parsing.{parsed};
 ghost use Rattle.std.proofs.Common.{rules};
 ghost use Rattle.std.specs.Cmp.Rules.{comparing};
 ghost use Rattle.coap_message.specs.SameOptions.{same_options, fed_options, same_options-Alike};
 
 use crate::error::OutOfMemory;
 use crate::options::{OptRefs, Options};
+use crate::reading::Parsed;
 use crate::seq::Seq;
 use crate::writing::bits;
 use std::alloc::Global;
@@ -117,6 +119,43 @@ impl OptionList {
         self.last = number;
         Ok(())
     }
+
+    /// Appends those of other options whose numbers aren't lower than `number`: all behind the first
+    /// of them in one piece.
+    ///
+    /// # Errors
+    /// Out of memory.
+    pub fn append_from(&mut self, options: &Options<'_>, number: u16) -> Result<(), OutOfMemory>
+        requires in_order { last_number 0 self.old ≤ number }
+        ensures ok { OnOk result (self.new ≡ self.old ++ from_number number options.now) }
+        ensures err { OnErr result (self.new ≡ self.old) }
+        ensures some { OnErr result (from_number number options.now ≢ []) }
+        ensures options { AreOptions 0 options.now }
+    {
+        let Some(first) = options.split_from(number) else {
+            return Ok(());
+        };
+        let held = self.bytes.len();
+        if let Err(refused) = add_run(&mut self.bytes, self.last, first) {
+            self.bytes.truncate(held);
+            return Err(refused);
+        }
+        self.last = options.last;
+        Ok(())
+    }
+}
+
+/// Appends an option after one with the number `before`, and the bytes that encode those which
+/// follow it. If allocation fails, part of them may have been appended.
+fn add_run(bytes: &mut Seq<u8>, before: u16, first: Parsed<'_>) -> Result<(), OutOfMemory>
+    requires above { before ≤ first.number }
+    requires within { length first.value.now ≤ 65804 }
+    ensures ok { OnOk result (bytes.new ≡ (bytes.old ++ option_spelling before (parsed first.entry).0)
+        ++ first.entry.rest.now) }
+    ensures err { OnErr result (take (length bytes.old) bytes.new ≡ bytes.old) }
+{
+    add_option(bytes, before, first.number, first.value)?;
+    add_value(bytes, first.rest)
 }
 
 /// Appends the bytes that extend a delta or a length.

@@ -1,14 +1,16 @@
 //! Options, and lists of them in order (RFC 7252, 3.1), borrowed as the bytes that encode them.
-ghost use Rattle.std.specs.Prelude.{◌≡◌, ◌<◌, ◌^◌, ◌++◌, [], ◌↔◌, IsTrue, IfOk, IfSome, OnErr, OnOk, length, option_map};
+ghost use Rattle.std.specs.Prelude.{◌≡◌, ◌<◌, ◌≤◌, ◌^◌, ◌++◌, [], None, ◌↔◌, IsTrue, IfOk, IfSome, OnErr, OnOk, length, option_map};
 ghost use Rattle.coap_message.specs.Spelling.{options_spelling};
 ghost use Rattle.coap_message.specs.Reading.{options_at};
 ghost use Rattle.coap_message.specs.Options.{AreOptions, from_number, values_of};
+ghost use Rattle.coap_message.specs.Parsing.{parsed};
 ghost use Rattle.coap_message.specs.ShortRun.{ShortRun, ShortPiece};
+ghost use Rattle.coap_message.specs.SpelledOptions.{SplitFrom};
 
 use crate::error::OutOfMemory;
 use crate::option_list::OptionList;
 use crate::pieces::Pieces;
-use crate::reading::{EXTENDED, is_option, read_option, read_payload};
+use crate::reading::{EXTENDED, Parsed, is_option, read_option, read_payload};
 use crate::seq::Seq;
 use std::alloc::Global;
 use std::marker::Model;
@@ -203,6 +205,19 @@ impl<'a> Options<'a> {
             return all;
         }
         all.from_number(number)
+    }
+
+    /// The first of the options whose numbers aren't lower than `number`, with the bytes that encode
+    /// those which follow it.
+    pub(crate) fn split_from(&self, number: u16) -> Option<Parsed<'a>>
+        ensures some { IfSome result (λ first. SplitFrom number self.now (parsed first)) }
+        ensures none { result ≡ None → from_number number self.now ≡ [] }
+        ensures within { IfSome result (λ first. length first.value.now ≤ 65804) }
+        ensures above { IfSome result (λ first. number ≤ first.number) }
+        ensures in_order { AreOptions 0 self.now }
+    {
+        let from = self.iter_from(number);
+        read_option(from.before, from.rest)
     }
 
     /// The bytes that encode the options.

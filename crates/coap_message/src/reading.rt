@@ -49,7 +49,8 @@ fn read_extended(bits: u8, bytes: &[u8]) -> Option<(usize, &[u8])>
 }
 
 /// The option after one with the number `before`, and the bytes after it. Most options extend
-/// neither their delta nor their length, and many have the number `before`: those are read inline.
+/// neither their delta nor their length, and many have the number `before`: so those are tried
+/// first.
 #[inline(always)]
 #[tactic(auto, unfolding(crate::specs::Reading::option_at))]
 pub(crate) fn read_option(before: u16, bytes: &[u8]) -> Option<Parsed<'_>>
@@ -69,7 +70,7 @@ pub(crate) fn read_option(before: u16, bytes: &[u8]) -> Option<Parsed<'_>>
 }
 
 /// The option with these bits for the delta and the length, and what follows it.
-#[inline(never)]
+#[inline(always)]
 fn read_long_option(before: u16, delta: u8, len: u8, bytes: &[u8]) -> Option<Parsed<'_>>
     ensures exact { option_map parsed result ≡ option_behind before delta len bytes.now }
     ensures within { IfSome result (λ option. length option.value.now ≤ 65804) }

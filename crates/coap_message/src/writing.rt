@@ -1,8 +1,8 @@
 //! Writing a message as bytes (RFC 7252, 3).
-ghost use Rattle.std.specs.Prelude.{◌≡◌, ◌<◌, ◌≤◌, ◌↔◌, [], length, OnOk, OnErr, IsErr};
-ghost use Rattle.coap_message.specs.Datagram.{Appends, holding};
+ghost use Rattle.std.specs.Prelude.{◌≡◌, ◌<◌, ◌≤◌, ◌↔◌, [], length, IfOk, OnOk, OnErr, IsErr};
+ghost use Rattle.coap_message.specs.Datagram.{Appends, holding, unit_of};
 ghost use Rattle.coap_message.specs.Message.{message_of};
-ghost use Rattle.coap_message.specs.Options.{option_of};
+ghost use Rattle.coap_message.specs.Options.{from_number, last_number, option_of};
 ghost use Rattle.coap_message.specs.Spelling.{Spells, bits_of, more_of, header_spelling, head_spelling, option_spelling, options_spelling, payload_spelling, spelling, with_id};
 
 use crate::datagram::Datagram;
@@ -87,6 +87,35 @@ pub fn put_options(out: &mut Datagram, room: usize, options: &Options<'_>) -> Re
     ensures { Appends out.old out.new room (options_spelling 0 options.now) result }
 {
     append(out, room, options.bytes())
+}
+
+/// Appends those of some options whose numbers aren't lower than `number`, after one with the number
+/// `before`, if the datagram then holds at most `room` bytes: all behind the first of them in one
+/// piece. Returns the number of the last option. Doesn't allocate.
+///
+/// # Errors
+/// `Full`. Part of them may have been appended then.
+pub fn put_options_from(
+    out: &mut Datagram,
+    room: usize,
+    before: u16,
+    options: &Options<'_>,
+    number: u16,
+) -> Result<u16, Full>
+    requires room { room ≤ out.old.room }
+    requires above { before ≤ number }
+    ensures written { Appends out.old out.new room
+        (options_spelling before (from_number number options.now))
+        (unit_of result) }
+    ensures last { IfOk result (λ last. last ≡ last_number before (from_number number options.now)) }
+{
+    let Some(first) = options.split_from(number) else {
+        append(out, room, &[])?;
+        return Ok(before);
+    };
+    put_option(out, room, before, first.number, first.value)?;
+    append(out, room, first.rest)?;
+    Ok(options.last)
 }
 
 /// Appends a payload after its marker, if there is a payload and the datagram then holds at most
