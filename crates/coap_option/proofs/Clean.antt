@@ -14,6 +14,7 @@ use Rattle.coap_option.specs.Places.{PlacedOption, places, places_behind, is_rec
 use Rattle.coap_option.specs.Recognition.{is_recognised}
 use Rattle.coap_option.specs.Screening.{is_refused, first_refused}
 use Rattle.coap_option.specs.Selection.{goes_on, is_key, is_tag_of_get, is_used_up, key_of, sent_on, is_withheld, used_up}
+use Rattle.coap_option.specs.Survey.{outside_key}
 
 -- what holds of all of a list holds of each of them
 all-any : (test : ℕ → Bool) (number : ℕ) (ns : List ℕ) → list_all test ns ≡ true → list_any (λ n. n == number) ns ≡ true → test number ≡ true
@@ -123,3 +124,11 @@ key-screened m screened = key-clean m (screened-clean m.options screened)
 -- what is sent on of a request that was screened
 pub sent-screened : (m : Message) → first_refused Request m.options ≡ None → sent_on m ≡ filter (goes_on m.code) m.options
 sent-screened m screened = sent-clean m (screened-clean m.options screened)
+
+-- what isn't part of the key of a request that was screened
+pub outside-screened : (m : Message) → first_refused Request m.options ≡ None → outside_key m ≡ filter (λ o. not (in_key m.code o)) m.options
+outside-screened m screened =
+    let out : PlacedOption → Bool = λ p. not (is_key m.code p) in
+    let outside : Opt → Bool = λ o. not (in_key m.code o) in
+    picked out outside (places m.options) (all-alone out outside (places m.options) (λ p is. ap (λ (b : Bool). not (b && not (is_no_cache_key p.option.number))) (goes-on m.code p is)) (screened-clean m.options screened))
+    ∙ ap (filter outside) (of-places [] m.options)

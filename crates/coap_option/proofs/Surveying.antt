@@ -12,10 +12,10 @@ use Rattle.coap_option.specs.declared.survey.Survey.{Survey}
 use Rattle.coap_option.specs.Passing.{before_of, places_after}
 use Rattle.coap_option.specs.Places.{PlacedOption, places}
 use Rattle.coap_option.specs.Screening.{is_refused, first_refused}
-use Rattle.coap_option.specs.Selection.{goes_on, is_key, is_of, key_of, is_withheld}
+use Rattle.coap_option.specs.Selection.{is_key, is_of, key_of, is_withheld}
 use Rattle.coap_option.specs.Side.{side_of}
 use Rattle.coap_option.specs.Survey.{IsSurvey, are_any, is_of_uri, of_none, widened, widened_by, with_all, with_one}
-use Rattle.coap_option.proofs.Clean.{all-alone, goes-on, in_key, key-screened, of-places, screened-clean}
+use Rattle.coap_option.proofs.Clean.{in_key, key-screened, of-places}
 use Rattle.coap_option.proofs.Picking.{added-next, selected-in_order}
 
 -- An option comes next.
@@ -77,6 +77,19 @@ told-others code s (p ∷ ps) = go (is_withheld code p) (told-others code (with_
     go true rest = rest
     go false rest = rest
 
+-- and of the last option that isn't part of the key
+told-outside : (code : Code) (s : Survey) (ps : List PlacedOption) → (with_all code s ps).last_outside_key ≡ last_number s.last_outside_key (map (λ p. p.option) (filter (λ p. not (is_key code p)) ps))
+told-outside code s [] = refl
+told-outside code s (p ∷ ps) = go (is_key code p) (told-outside code (with_one code s p) ps)
+  where
+    more : List PlacedOption
+    more = filter (λ q. not (is_key code q)) ps
+
+    go : (b : Bool) → (with_all code (with_one code s p) ps).last_outside_key ≡ last_number (cond b s.last_outside_key p.option.number) (map (λ q. q.option) more)
+        → (with_all code (with_one code s p) ps).last_outside_key ≡ last_number s.last_outside_key (map (λ q. q.option) (cond (not b) (p ∷ more) more))
+    go true rest = rest
+    go false rest = rest
+
 -- after the last option the survey is that of the request
 pub surveyed-all : (m : Message) (survey : Survey) → with_all m.code of_none (places m.options) ≡ survey → first_refused Request m.options ≡ None → IsSurvey m survey
 surveyed-all m survey is screened =
@@ -87,6 +100,7 @@ surveyed-all m survey is screened =
       key = sym (ap (λ (s : Survey). s.has_key_options) is) ∙ told m.code (λ s. s.has_key_options) (is_key m.code) (λ s p. refl) of_none ps ∙ any-picked (is_key m.code) (λ p. p.option) ps;
       tags = sym (ap (λ (s : Survey). s.has_tags) is) ∙ told m.code (λ s. s.has_tags) (is_of (side_of m.code) 4) (λ s p. refl) of_none ps ∙ any-picked (is_of (side_of m.code) 4) (λ p. p.option.value) ps;
       others = sym (ap (λ (s : Survey). s.others) is) ∙ told-others m.code of_none ps;
+      outside = sym (ap (λ (s : Survey). s.last_outside_key) is) ∙ told-outside m.code of_none ps;
     }
 
 -- ---- the options that are part of the key

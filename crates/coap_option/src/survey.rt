@@ -1,11 +1,15 @@
 //! What a proxy wants to know of all options of a request, found out in one pass over them (RFC
 //! 7252, 5.4, 5.6, 5.7 and 5.10).
-ghost use Rattle.std.specs.Prelude.{◌≡◌, ◌≢◌, [], Some, None, IfOk, IfErr, OnOk, OnErr};
+ghost use Rattle.std.specs.Prelude.{◌≡◌, ◌≢◌, ◌&&◌, if◌then◌else◌, not, [], Some, None, IfOk, IfErr, OnOk, OnErr};
 ghost use Rattle.coap_message.specs.OptRef.{seen};
-ghost use Rattle.coap_option.specs.Places.{is_recognised_at};
+ghost use Rattle.coap_option.specs.Classes as classes;
+ghost use Rattle.coap_option.specs.Selection as selection;
+ghost use Rattle.coap_option.specs.Side.{side_of};
+ghost use Rattle.coap_option.specs.declared.numbers.TheConstants as numbers;
+ghost use Rattle.coap_option.specs.Places.{PlacedOption, is_recognised_at};
 ghost use Rattle.coap_option.specs.Screening.{first_refused};
-ghost use Rattle.coap_option.specs.Selection.{key_of, tags_of};
-ghost use Rattle.coap_option.specs.Survey.{IsSurvey, of_none, widened, with_one};
+ghost use Rattle.coap_option.specs.Selection.{is_of, key_of, tags_of};
+ghost use Rattle.coap_option.specs.Survey.{IsSurvey, is_of_uri, key_from, of_none, widened, with_one};
 ghost use Rattle.coap_option.specs.Table.{row_of};
 
 use crate::classes::{is_no_cache_key, is_unsafe};
@@ -39,6 +43,56 @@ fn widened(span: Option<Span>, number: u16) -> Option<Span>
     })
 }
 
+// ---- what one option says
+
+/// Whether an option with this number gives a URI, or its scheme (RFC 7252, 5.10.2).
+fn is_of_uri(number: u16) -> bool
+    ensures { result ≡ is_of_uri number }
+{
+    number == numbers::PROXY_URI || number == numbers::PROXY_SCHEME
+}
+
+/// Whether an option of a request with this code isn't forwarded, by whether it is recognised.
+fn is_withheld_if(known: bool, code: Code, number: u16) -> bool
+    ensures { result ≡ (known && selection.is_for_proxy code number) }
+{
+    known && is_for_proxy(code, number)
+}
+
+/// Whether it is part of the cache key, by whether it is forwarded.
+fn is_in_key(withheld: bool, number: u16) -> bool
+    ensures { result ≡ (not withheld && not (classes.is_no_cache_key number)) }
+{
+    !withheld && !is_no_cache_key(number)
+}
+
+/// Whether it is an ETag that is recognised in a message with this code.
+fn is_tag(code: Code, option: OptRef<'_>, before: usize, row: Option<Row>) -> bool
+    requires { row ≡ row_of option.number }
+    ensures { result ≡ is_of (side_of code) numbers.ETAG
+        (record { option = seen option.entry; before = before }) }
+{
+    option.number == numbers::ETAG && option_recognised(Side::of(code), option, before, row)
+}
+
+/// The span of the options that are forwarded, with one more option.
+fn others_with(span: Option<Span>, number: u16, withheld: bool) -> Option<Span>
+    ensures { result ≡ (if withheld then span else widened span number) }
+{
+    if withheld {
+        span
+    } else {
+        widened(span, number)
+    }
+}
+
+/// The number of the last option that isn't part of the cache key, with one more option.
+fn outside_with(last: u16, number: u16, in_key: bool) -> u16
+    ensures { result ≡ (if in_key then last else number) }
+{
+    if in_key { last } else { number }
+}
+
 /// What a pass over the options of a request tells, if it rejects none of them.
 #[derive(Clone, Copy)]
 pub struct Survey {
@@ -51,6 +105,8 @@ pub struct Survey {
     /// The options that are forwarded beside those of the target, if there are any, have numbers
     /// within this span (RFC 7252, 5.7).
     pub others: Option<Span>,
+    /// The number of the last option that isn't part of the cache key, or 0 if there is none.
+    pub last_outside_key: u16,
 }
 
 impl Survey {
@@ -63,6 +119,36 @@ impl Survey {
             has_key_options: false,
             has_tags: false,
             others: None,
+            last_outside_key: 0,
+        }
+    }
+
+    /// The number from which on all options of the request are forwarded and part of the cache key,
+    /// if no option before them is: in most requests with options of the key these are the last
+    /// ones. Then they needn't be looked at one by one.
+    pub fn key_from(self) -> Option<u16>
+        ensures { result ≡ key_from self }
+    {
+        match self.others {
+            Some(span) if self.last_outside_key < span.least => Some(span.least),
+            _ => None,
+        }
+    }
+
+    /// With one more option, which isn't recognised: so it is forwarded.
+    fn with_unknown(self, number: u16) -> Survey
+        requires { row_of number ≡ None }
+        ensures { (code : Code) (p : PlacedOption)
+            → p.option.number ≡ number
+            → result ≡ with_one code self p }
+    {
+        let in_key = is_in_key(false, number);
+        Survey {
+            says_uri: self.says_uri,
+            has_key_options: self.has_key_options | in_key,
+            has_tags: self.has_tags,
+            others: widened(self.others, number),
+            last_outside_key: outside_with(self.last_outside_key, number, in_key),
         }
     }
 
@@ -83,25 +169,42 @@ impl Survey {
         ensures { result
             ≡ with_one code self (record { option = seen option.entry; before = before }) }
     {
+        if row.is_none() {
+            return self.with_unknown(option.number);
+        }
+        self.with_known(code, option, before, row, known)
+    }
+
+    /// `with` for an option with any row.
+    fn with_known(
+        self,
+        code: Code,
+        option: OptRef<'_>,
+        before: usize,
+        row: Option<Row>,
+        known: bool,
+    ) -> Survey
+        requires row { row ≡ row_of option.number }
+        requires known { known
+            ≡ is_recognised_at Side.Request (record { option = seen option; before = before }) }
+        ensures { result
+            ≡ with_one code self (record { option = seen option.entry; before = before }) }
+    {
         let number = option.number;
-        let withheld = known && is_for_proxy(code, number);
-        let is_uri = number == numbers::PROXY_URI || number == numbers::PROXY_SCHEME;
-        let is_tag = number == numbers::ETAG
-            && option_recognised(Side::of(code), option, before, row);
+        let withheld = is_withheld_if(known, code, number);
+        let in_key = is_in_key(withheld, number);
         Survey {
-            says_uri: self.says_uri || is_uri,
-            has_key_options: self.has_key_options || (!withheld && !is_no_cache_key(number)),
-            has_tags: self.has_tags || is_tag,
-            others: if withheld {
-                self.others
-            } else {
-                widened(self.others, number)
-            },
+            says_uri: self.says_uri | is_of_uri(number),
+            has_key_options: self.has_key_options | in_key,
+            has_tags: self.has_tags | is_tag(code, option, before, row),
+            others: others_with(self.others, number, withheld),
+            last_outside_key: outside_with(self.last_outside_key, number, in_key),
         }
     }
 
     /// Replaces the options of a list by those of the surveyed request that are part of its cache
-    /// key, as `key_options_into` does, but without another pass if there are none.
+    /// key, as `key_options_into` does, but without another pass if there are none, and in one piece
+    /// if they are the last ones.
     ///
     /// # Errors
     /// Out of memory. The list is then empty.
@@ -119,11 +222,24 @@ impl Survey {
         if !self.has_key_options {
             return Ok(());
         }
-        let added = push_key_options(list, request);
+        let added = self.push_key(list, request);
         if added.is_err() {
             list.clear();
         }
         added
+    }
+
+    /// Adds to an empty list the options of the surveyed request that are part of its cache key.
+    fn push_key(self, list: &mut OptionList, request: &MessageRef<'_>) -> Result<(), OutOfMemory>
+        requires known { IsSurvey request.now self }
+        requires empty { list.old ≡ [] }
+        ensures ok { OnOk result (list.new ≡ key_of request.now) }
+        ensures err { OnErr result (key_of request.now ≢ []) }
+    {
+        match self.key_from() {
+            Some(number) => list.append_from(&request.option_list(), number),
+            None => push_key_options(list, request),
+        }
     }
 
     /// Replaces the values of a list by those of the recognised ETags of the surveyed request, as

@@ -83,6 +83,10 @@ unknown = option_of 65000 (0xAA ∷ 0x0B ∷ []) ∷ zeros 65532 0 ∷ []
 abbrev pub survey_of : Message → Survey
 survey_of m = with_all m.code of_none (places m.options)
 
+-- a survey of options of which the last that isn't part of the key has this number
+abbrev pub outside : ℕ → Survey
+outside number = record of_none { last_outside_key = number }
+
 -- options with numbers from the one to the other
 abbrev pub from_to : ℕ → ℕ → Option Span
 from_to least greatest = Some (record { least = least; greatest = greatest })

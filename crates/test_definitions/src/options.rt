@@ -1,5 +1,5 @@
 //! Options, computed with the definitions of `coap_option`.
-ghost use Rattle.std.specs.Prelude.{◌≡◌, ◌∷◌, [], false, true, Some, map, filter};
+ghost use Rattle.std.specs.Prelude.{◌≡◌, ◌∷◌, [], false, true, None, Some, map, filter};
 ghost use Rattle.std.specs.List.{list_all, range_with_len};
 ghost use Rattle.coap_message.specs.Codes.{code_of};
 ghost use Rattle.coap_message.specs.Options.{option_of};
@@ -7,8 +7,8 @@ ghost use Rattle.coap_option.specs.Classes.{is_critical, is_no_cache_key, is_uns
 ghost use Rattle.coap_option.specs.Screening.{first_refused};
 ghost use Rattle.coap_option.specs.Selection.{key_of, max_age_of, sent_on, tags_of};
 ghost use Rattle.coap_option.specs.Side.{side_of};
-ghost use Rattle.coap_option.specs.Survey.{of_none, says_uri};
-ghost use Rattle.test_definitions.specs.Options.{content, from_to, get, has_range, is_known, longer, not_used_up, of_requests, of_responses, put, survey_of, tagged, unknown, zeros};
+ghost use Rattle.coap_option.specs.Survey.{key_from, of_none, says_uri};
+ghost use Rattle.test_definitions.specs.Options.{content, from_to, get, has_range, is_known, longer, not_used_up, outside, of_requests, of_responses, put, survey_of, tagged, unknown, zeros};
 
 use coap_option::Side;
 use coap_option::numbers::*;
@@ -127,19 +127,32 @@ pub fn surveyed()
     ensures path { says_uri (get (zeros 3 1 ∷ zeros 11 1 ∷ zeros 15 1 ∷ [])) ≡ false }
     ensures nothing { survey_of
         (get (zeros 3 1 ∷ zeros 11 1 ∷ zeros 15 1 ∷ zeros 15 1 ∷ []))
-        ≡ of_none }
-    ensures named { survey_of (get (zeros 35 1 ∷ [])) ≡ record of_none { says_uri = true } }
+        ≡ outside 15 }
+    ensures named { survey_of (get (zeros 35 1 ∷ [])) ≡ record (outside 35) { says_uri = true } }
     ensures accept { survey_of (get (zeros 11 1 ∷ zeros 17 1 ∷ []))
-        ≡ record of_none { has_key_options = true; others = from_to 17 17 } }
+        ≡ record (outside 11) { has_key_options = true; others = from_to 17 17 } }
     ensures size1 { survey_of (get (zeros 11 1 ∷ zeros 60 1 ∷ []))
-        ≡ record of_none { others = from_to 60 60 } }
-    ensures tag_of_get { survey_of (get (zeros 4 1 ∷ [])) ≡ record of_none { has_tags = true } }
+        ≡ record (outside 60) { others = from_to 60 60 } }
+    ensures tag_of_get { survey_of (get (zeros 4 1 ∷ []))
+        ≡ record (outside 4) { has_tags = true } }
     ensures long_tag { survey_of (get (zeros 4 9 ∷ []))
         ≡ record of_none { has_key_options = true; others = from_to 4 4 } }
     ensures tag_of_put { survey_of (put (zeros 4 1 ∷ []))
         ≡ record of_none { has_key_options = true; has_tags = true; others = from_to 4 4 } }
     ensures if_match_to_size1 { survey_of (put not_used_up)
-        ≡ record of_none { has_key_options = true; has_tags = true; others = from_to 1 60 } }
+        ≡ record (outside 60) { has_key_options = true; has_tags = true; others = from_to 1 60 } }
+{}
+
+/// From which number on all options of a request are part of its key, if no other is forwarded.
+pub fn key_at_the_end()
+    ensures none { key_from (survey_of (get (zeros 11 1 ∷ zeros 15 1 ∷ []))) ≡ None }
+    ensures accept { key_from (survey_of (get (zeros 11 1 ∷ zeros 17 1 ∷ []))) ≡ Some 17 }
+    ensures before_proxy_uri { key_from (survey_of (get (zeros 17 1 ∷ zeros 35 1 ∷ []))) ≡ None }
+    ensures behind_proxy_uri { key_from (survey_of (get (zeros 35 1 ∷ zeros 2048 4 ∷ []))) ≡ Some 2048 }
+    ensures with_size1 { key_from (survey_of (get (zeros 17 1 ∷ zeros 60 1 ∷ []))) ≡ None }
+    ensures behind_a_tag { key_from (survey_of (get (zeros 4 1 ∷ zeros 4 9 ∷ []))) ≡ None }
+    ensures long_tag { key_from (survey_of (get (zeros 4 9 ∷ []))) ≡ Some 4 }
+    ensures number_0 { key_from (survey_of (get (zeros 0 1 ∷ []))) ≡ None }
 {}
 
 /// For some GETs, the options that are forwarded, those that are part of the key, and the tags: one
