@@ -2,14 +2,14 @@
 use Rattle.std.proofs.Common.{◌≡◌, ℕ, ◌<◌, ◌≤◌, Bool, true, false, cond, ltb, leb, List, [], ◌∷◌, ◌++◌, length, map, filter, Option, Some, None, Result, Ok, Err, refl, sym, ap, ◌∙◌, subst, append_assoc, arith, lit≤, Bor}
 use Rattle.std.specs.Prelude.{◌&&◌, IfSome, IfOk, option_map, unwrap_or}
 use Rattle.std.specs.List.{AllByRecursion}
-use Rattle.std.proofs.lemmas.Bool.{lt-leb, le-leb, leb-false, ltb-true, ltb-false, le-ltb}
+use Rattle.std.proofs.lemmas.Bool.{lt-leb, lt-ltb, le-leb, leb-false, ltb-true, ltb-false, le-ltb}
 use Rattle.std.proofs.lemmas.List.{length-append}
 use Rattle.coap_message.specs.declared.error.Full.{Full}
 use Rattle.coap_message.specs.declared.code.Code.{Code}
 use Rattle.coap_message.specs.declared.options.Opt.{Opt}
 use Rattle.coap_message.specs.Datagram.{Datagram, Appends}
 use Rattle.coap_message.specs.Message.{Message}
-use Rattle.coap_message.specs.Options.{AreOptions, last_number, option_of}
+use Rattle.coap_message.specs.Options.{AreOptions, from_number, last_number, option_of}
 use Rattle.coap_message.specs.Spelling.{options_spelling}
 use Rattle.coap_message.proofs.Appending.{Appends-full, Appends-behind}
 use Rattle.coap_message.proofs.Counting.{last_number-append}
@@ -20,7 +20,12 @@ use Rattle.coap_option.specs.declared.side.Side.TheVariants.{Request}
 use Rattle.coap_option.specs.Screening.{first_refused}
 use Rattle.coap_option.specs.Selection.{sent_on}
 use Rattle.coap_option.specs.declared.survey.Span.{Span}
-use Rattle.coap_option.specs.Survey.{span_of, widened_by}
+use Rattle.coap_option.specs.declared.survey.Survey.{Survey}
+use Rattle.coap_option.specs.Survey.{IsSurvey, key_from, span_of, widened_by}
+use Rattle.coap_option.proofs.Tails.{is-tail}
+use Rattle.coap_message.proofs.Runs.{from-in_order}
+use Rattle.coap_message.proofs.Tails.{from-first}
+use Rattle.std.proofs.lemmas.Option.{same_Some}
 use Rattle.coap_option.proofs.Passing.{last_number-le}
 use Rattle.coap_endpoint.specs.declared.target.Target.{Target}
 use Rattle.coap_endpoint.specs.Target.{IsPort, IsShort, IsTarget}
@@ -30,7 +35,7 @@ use Rattle.coap_forward.specs.Forms.{is_used_up, goes_on, put_in, merged, host_o
 use Rattle.coap_forward.proofs.Forms.{AreUnused, IsShortTag, AreOptions-merged, filter-put_in, sent-screened, sent-unused, sent-options, tagged-options, tagged-unused}
 use Rattle.coap_forward.specs.declared.form.Gap.{Gap}
 use Rattle.coap_forward.specs.declared.form.Gap.TheVariants.{BeforeHost, BeforePort, BeforePath, BeforeQuery, BeforeScheme, Last}
-use Rattle.coap_forward.specs.Gaps.{given, is_in, floor_of, end_of, meets, others_in, port_value, scheme_value, tag_options, front_options, back_options}
+use Rattle.coap_forward.specs.Gaps.{given, is_in, whole, within, floor_of, end_of, meets, others_in, port_value, scheme_value, tag_options, front_options, back_options}
 
 -- ---- writing
 
@@ -218,6 +223,15 @@ fuse p g (o ∷ os) = go (p o) refl (g o) (fuse p g os)
     go false e true rest = rw (e, rest) refl
     go false e false rest = rest
 
+-- the greatest number of a span
+abbrev IsGreatest : ℕ → Option Span → Type 0
+IsGreatest g None = Unit {0}
+IsGreatest g (Some span) = span.greatest ≡ g
+
+-- two tests that hold
+both : {a b : Bool} → a ≡ true → b ≡ true → (a && b) ≡ true
+both e f = rw (e, f) refl
+
 module _ (gap : Gap) where
   -- no option above the end of the gap is in it
   none-above : (low : ℕ) (os : List Opt) → AreOptions low os → end_of gap < low → filter (λ o. is_in gap o.number) os ≡ []
@@ -256,6 +270,61 @@ pub no-others : (code : Code) (gap : Gap) (os : List Opt) → AreOptions 0 os �
 no-others code gap os are misses =
     fuse (λ o. is_in gap o.number) (goes_on code) os
     ∙ none-met gap (filter (goes_on code) os) (AreOptions-filter (goes_on code) 0 os are) misses
+
+-- what a survey says of the options that are forwarded
+pub known-others : (m : Message) (survey : Survey) → IsSurvey m survey → survey.others ≡ span_of (filter (goes_on m.code) m.options)
+known-others m survey is = is.others ∙ ap span_of (sent-screened m is.screened)
+
+-- what lies between two numbers in a gap is in it
+between : (gap : Gap) (n k g : ℕ) → n ≤ k → k ≤ g → is_in gap n ≡ true → is_in gap g ≡ true → is_in gap k ≡ true
+between BeforeHost n k g low high e f = let lt = ltb-true g 3 f in lt-ltb k 3 (omega arith)
+between BeforePort n k g low high e f = both (lt-ltb 3 k (let lt = ltb-true 3 n (first-holds (ltb 3 n) (ltb n 7) e) in omega arith)) (lt-ltb k 7 (let lt = ltb-true g 7 (second-holds (ltb 3 g) (ltb g 7) f) in omega arith))
+between BeforePath n k g low high e f = both (lt-ltb 7 k (let lt = ltb-true 7 n (first-holds (ltb 7 n) (ltb n 11) e) in omega arith)) (lt-ltb k 11 (let lt = ltb-true g 11 (second-holds (ltb 7 g) (ltb g 11) f) in omega arith))
+between BeforeQuery n k g low high e f = both (lt-ltb 11 k (let lt = ltb-true 11 n (first-holds (ltb 11 n) (ltb n 15) e) in omega arith)) (lt-ltb k 15 (let lt = ltb-true g 15 (second-holds (ltb 11 g) (ltb g 15) f) in omega arith))
+between BeforeScheme n k g low high e f = both (lt-ltb 15 k (let lt = ltb-true 15 n (first-holds (ltb 15 n) (ltb n 39) e) in omega arith)) (lt-ltb k 39 (let lt = ltb-true g 39 (second-holds (ltb 15 g) (ltb g 39) f) in omega arith))
+between Last n k g low high e f = lt-ltb 39 k (let lt = ltb-true 39 n e in omega arith)
+
+-- so are all options between them
+all-between : (gap : Gap) (n g b : ℕ) (os : List Opt) → n ≤ b → AreOptions b os → last_number b os ≤ g → is_in gap n ≡ true → is_in gap g ≡ true → filter (λ o. is_in gap o.number) os ≡ os
+all-between gap n g b [] low are high e f = refl
+all-between gap n g b (o ∷ os) low are high e f =
+    let le = last_number-le o.number os are.3 in
+    let here : is_in gap o.number ≡ true = between gap n o.number g (omega (arith, low, are.0)) (omega (arith, le, high)) e f in
+    rw (here, all-between gap n g o.number os (omega (arith, low, are.0)) are.3 high e f) refl
+
+-- the greatest number of a span that is widened is that of the last option
+spans : (s : Span) (xs : List Opt) → widened_by (Some s) xs ≡ Some (record { least = s.least; greatest = last_number s.greatest xs })
+spans s [] = refl
+spans s (x ∷ xs) = spans (record { least = s.least; greatest = x.number }) xs
+
+-- where a gap takes all that is forwarded from a number on, that is all there is in it
+pub whole-gap : (m : Message) (survey : Survey) (gap : Gap) (n : ℕ) → IsSurvey m survey → AreOptions 0 m.options → whole gap survey ≡ Some n → others_in m.code gap m.options ≡ from_number n m.options
+whole-gap m survey gap n is are takes = go (key_from survey) refl survey.others refl takes
+  where
+    sent : key_from survey ≡ Some n → filter (goes_on m.code) m.options ≡ from_number n m.options
+    sent e = sym (sent-screened m is.screened) ∙ (is-tail m survey n is are e).sent
+
+    all : (os : List Opt) → from_number n m.options ≡ os → (g : ℕ) → IsGreatest g (span_of os) → is_in gap n ≡ true → is_in gap g ≡ true → filter (λ o. is_in gap o.number) os ≡ os
+    all [] e g last i f = refl
+    all (o ∷ os) e g last i f =
+        let behind = subst (AreOptions 0) e (from-in_order n 0 m.options are) in
+        let greatest : last_number o.number os ≡ g = subst (IsGreatest g) (spans (record { least = o.number; greatest = o.number }) os) last in
+        all-between gap n g n (o ∷ os) (omega arith) (from-first n m.options o os e, behind.1, behind.2, behind.3) (omega (arith, greatest)) i f
+
+    go : (from : Option ℕ) → key_from survey ≡ from → (span : Option Span) → survey.others ≡ span → within gap from span ≡ Some n → others_in m.code gap m.options ≡ from_number n m.options
+    go None e span f takes' = absurd cc
+    go (Some k) e None f takes' = absurd cc
+    go (Some k) e (Some span) f takes' = pick (is_in gap k) refl (is_in gap span.greatest) refl takes'
+      where
+        pick : (a : Bool) → is_in gap k ≡ a → (b : Bool) → is_in gap span.greatest ≡ b → cond (a && b) (Some k) None ≡ Some n → others_in m.code gap m.options ≡ from_number n m.options
+        pick true i true j is' =
+            let same : k ≡ n = same_Some _ _ is' in
+            let from : key_from survey ≡ Some n = e ∙ ap Some same in
+            let greatest : IsGreatest span.greatest (span_of (from_number n m.options)) = subst (IsGreatest span.greatest) (sym f ∙ known-others m survey is ∙ ap span_of (sent from)) refl in
+            fuse (λ o. is_in gap o.number) (goes_on m.code) m.options ∙ ap (filter (λ o. is_in gap o.number)) (sent from)
+            ∙ all (from_number n m.options) refl span.greatest greatest (subst (λ (x : ℕ). is_in gap x ≡ true) same i) j
+        pick true i false j is' = absurd cc
+        pick false i b j is' = absurd cc
 
 -- one of two parts that are tested in the other order
 fuse-both : (p q g : Opt → Bool) (os : List Opt) → filter (λ o. (p o && q o) && g o) os ≡ filter q (filter p (filter g os))

@@ -1,6 +1,6 @@
 -- How the forwarded request is written: the options of its target and the tag, and the others in
 -- the gaps between them.
-use Rattle.std.specs.Prelude.{◌≡◌, ℕ, ◌&&◌, Bool, false, nat_le, nat_lt, List, [], ◌∷◌, ◌++◌, codes, filter, map, Option, Some, None}
+use Rattle.std.specs.Prelude.{ℕ, ◌&&◌, if◌then◌else◌, Bool, false, nat_le, nat_lt, List, [], ◌∷◌, ◌++◌, codes, filter, map, Option, Some, None}
 use Rattle.std.specs.Option.{option_map}
 use Rattle.coap_message.specs.declared.code.Code.{Code}
 use Rattle.coap_message.specs.declared.options.Opt.{Opt}
@@ -10,7 +10,8 @@ use Rattle.coap_message.specs.Uint.{uint_spelling}
 use Rattle.coap_option.specs.declared.numbers.TheConstants.{URI_HOST, ETAG, URI_PORT, URI_PATH, URI_QUERY, PROXY_SCHEME}
 use Rattle.coap_option.specs.Selection.{goes_on, sent_on}
 use Rattle.coap_option.specs.declared.survey.Span.{Span}
-use Rattle.coap_option.specs.Survey.{span_of}
+use Rattle.coap_option.specs.declared.survey.Survey.{Survey}
+use Rattle.coap_option.specs.Survey.{key_from}
 use Rattle.coap_endpoint.specs.declared.target.Target.{Target}
 use Rattle.coap_forward.specs.Forms.{forwarded, merged, tagged, target_options}
 use Rattle.coap_forward.specs.declared.form.Form.{Form}
@@ -65,10 +66,15 @@ abbrev pub meets : Gap → Option Span → Bool
 meets gap None = false
 meets gap (Some span) = nat_le (floor_of gap) span.greatest && nat_le span.least (end_of gap)
 
--- what a form's survey says of the options that are forwarded is right
-abbrev pub KnowsOthers : Form → Type 0
-KnowsOthers form =
-    form.survey.others ≡ span_of (filter (goes_on form.request.now.code) form.request.now.options)
+-- the number from which on all options of a surveyed request go in the gap, if no other is forwarded
+abbrev pub within : Gap → Option ℕ → Option Span → Option ℕ
+within gap None span = None
+within gap (Some number) None = None
+within gap (Some number) (Some span) =
+    if is_in gap number && is_in gap span.greatest then Some number else None
+
+abbrev pub whole : Gap → Survey → Option ℕ
+whole gap survey = within gap (key_from survey) survey.others
 
 -- what is written for a gap, and for the part after it
 abbrev pub part_of : Message → Gap → List (List ℕ) → List Opt

@@ -9,7 +9,7 @@ ghost use Rattle.coap_option.specs.Survey.{IsSurvey};
 ghost use Rattle.coap_endpoint.specs.Target.{IsTarget, IsShort};
 ghost use Rattle.coap_endpoint.specs.declared.target.Target.{Target};
 ghost use Rattle.coap_forward.specs.Forms.{payload_sent, tag_if_fits, tag_to_send};
-ghost use Rattle.coap_forward.specs.Gaps.{back_in, end_of, floor_of, front_in, is_in, meets, options_in, others_in, part_of, request_in, values_left, KnowsOthers};
+ghost use Rattle.coap_forward.specs.Gaps.{back_in, end_of, floor_of, front_in, is_in, meets, options_in, others_in, part_of, request_in, values_left, whole};
 ghost use Rattle.coap_forward.specs.Messages.{is_method};
 ghost use Rattle.coap_forward.specs.declared.form.Gap.TheVariants as TheGap;
 
@@ -17,7 +17,7 @@ use crate::part::{PartValues, host_of, port_of, scheme_of};
 use coap_endpoint::Target;
 use coap_message::{
     Code, Datagram, Full, Head, Kind, Message, MessageRef, Token, put_head, put_option,
-    put_payload, without_zeros,
+    put_options_from, put_payload, without_zeros,
 };
 use coap_option::{Span, Survey, goes_on, numbers};
 use coap_store::tag_of;
@@ -79,6 +79,19 @@ impl Gap {
         }
     }
 
+    /// The number from which on all options of a surveyed request go there, if no other option of it
+    /// is forwarded.
+    fn whole(self, survey: Survey) -> Option<u16>
+        ensures { result ≡ whole self survey }
+    {
+        let number = survey.key_from()?;
+        let span = survey.others?;
+        if self.has(number) && self.has(span.greatest) {
+            return Some(number);
+        }
+        None
+    }
+
     /// The option number of the target's options that follow the gap, or 65,535 for the last one,
     /// which none follow.
     fn end(self) -> u16
@@ -119,7 +132,8 @@ pub struct Form<'f, 'a, 't> {
 
 // ---- options, after one with the number `before`; these return the number of the last option
 
-/// Adds those of the request's forwarded options that go in a gap.
+/// Adds those of the request's forwarded options that go in a gap: in one piece, if they are its
+/// last options.
 fn put_others(
     out: &mut Datagram,
     room: usize,
@@ -130,7 +144,7 @@ fn put_others(
     requires room { room ≤ out.old.room }
     requires held { length out.old.bytes ≤ room }
     requires above { before ≤ floor_of gap }
-    requires known { KnowsOthers form }
+    requires known { IsSurvey form.request.now form.survey }
     ensures written { Appends out.old out.new room
         (options_spelling before (others_in form.entry.request.now.code gap
         form.entry.request.now.options))
@@ -145,6 +159,9 @@ fn put_others(
     let options = request.options();
     if !gap.meets(form.survey.others) {
         return Ok(before);
+    }
+    if let Some(number) = gap.whole(form.survey) {
+        return put_options_from(out, room, before, &request.option_list(), number);
     }
     let mut last = before;
     for option in options {
@@ -195,7 +212,7 @@ fn put_part(
     requires room { room ≤ out.old.room }
     requires held { length out.old.bytes ≤ room }
     requires above { before ≤ floor_of part.gap }
-    requires known { KnowsOthers form }
+    requires known { IsSurvey form.request.now form.survey }
     requires within { AllByRecursion IsShort (values_left part.values) }
     ensures written { Appends out.old out.new room
         (options_spelling before
@@ -219,7 +236,7 @@ fn put_front(out: &mut Datagram, room: usize, form: Form<'_, '_, '_>) -> Result<
     requires room { room ≤ out.old.room }
     requires held { length out.old.bytes ≤ room }
     requires target { IsTarget form.target.now }
-    requires known { KnowsOthers form }
+    requires known { IsSurvey form.request.now form.survey }
     requires short { IfSome form.tag (λ tag. length tag.now ≤ 8) }
     ensures written { Appends out.old out.new room (options_spelling 0 (front_in form.entry))
         (unit_of result) }
@@ -253,7 +270,7 @@ fn put_back(
     requires held { length out.old.bytes ≤ room }
     requires above { before ≤ floor_of TheGap.BeforePath }
     requires target { IsTarget form.target.now }
-    requires known { KnowsOthers form }
+    requires known { IsSurvey form.request.now form.survey }
     ensures { Appends out.old out.new room (options_spelling before (back_in form.entry))
         (unit_of result) }
 {

@@ -1,4 +1,4 @@
-use Rattle.std.proofs.Common.{ℕ, List, ◌++◌, Option, Result, Ok, Err, ap, ◌∙◌}
+use Rattle.std.proofs.Common.{ℕ, List, ◌++◌, Option, Result, Ok, Err}
 use Rattle.std.specs.Prelude.{option_map}
 use Rattle.std.proofs.lemmas.Result.{err_from_is_err_and}
 use Rattle.coap_message.specs.declared.error.Full.{Full}
@@ -9,8 +9,6 @@ use Rattle.coap_option.specs.Selection.{sent_on}
 use Rattle.coap_forward.specs.Forms.{merged, target_options, tagged}
 use Rattle.coap_forward.specs.Gaps.{front_options, back_options}
 use Rattle.coap_forward.proofs.Gaps.{full-first, written-both, error-as, tag-given, of-all}
-use Rattle.coap_option.specs.Survey.{span_of}
-use Rattle.coap_option.proofs.Clean.{sent-screened}
 use Rattle.coap_forward.proofs.form.put_form_options.Goals.{After-put_front}
 use Rattle.coap_forward.proofs.form.put_form_options.Goals as goal
 
@@ -51,9 +49,3 @@ returns c =
     let mid = c.put_front.new.out in
     let new = c.put_back.new.out in
     all k new (Ok tt) (written-both c.args.out.now mid new c.args.room 0 (front k) (back k) c.in_ok-last.last (Ok tt) c.in_ok-last.ensures.last c.in_ok-last.ensures.written c.in_ok-put_back.ensures)
-
-pub put_front-requires-clause-known : goal.put_front-requires-clause-known
-put_front-requires-clause-known c = c.requires.known.others ∙ ap span_of (sent-screened c.args.form.request.now c.requires.known.screened)
-
-pub put_back-requires-clause-known : goal.put_back-requires-clause-known
-put_back-requires-clause-known c = c.requires.known.others ∙ ap span_of (sent-screened c.args.form.request.now c.requires.known.screened)
