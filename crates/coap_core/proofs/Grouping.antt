@@ -1,4 +1,4 @@
--- Sorted parts are grouped by address and by endpoint.
+-- Sorted holdings are grouped by address and by endpoint.
 use Rattle.std.proofs.Common.{◌≡◌, ℕ, suc, ◌+◌, ◌<◌, List, [], ◌∷◌, length, get_or, Bool, true, false, refl, sym, ap, ◌∙◌, subst, arith}
 use Rattle.std.specs.Cmp.{IsTotalOrder}
 use Rattle.std.specs.declared.cmp.Ordering.{Ordering}
@@ -14,16 +14,16 @@ use Rattle.coap_endpoint.specs.contracts.endpoint.IpOrd.TheImpl as ips
 use Rattle.coap_endpoint.specs.contracts.endpoint.IpOrd.TheImpl.Laws as ip_laws
 use Rattle.coap_endpoint.specs.contracts.endpoint.EndpointOrd.TheImpl as endpoints
 use Rattle.coap_endpoint.specs.contracts.endpoint.EndpointOrd.TheImpl.Laws as endpoint_laws
-use Rattle.coap_core.specs.contracts.most.PartOrd.TheImpl as parts
-use Rattle.coap_core.specs.contracts.most.PartOrd.TheImpl.Laws as part_laws
+use Rattle.coap_core.specs.contracts.most.HoldingOrd.TheImpl as holdings
+use Rattle.coap_core.specs.contracts.most.HoldingOrd.TheImpl.Laws as holding_laws
 use Rattle.coap_endpoint.specs.Alike.{endpoint_same, ip_itself, ip_same}
-use Rattle.coap_core.specs.declared.most.Part.{Part}
+use Rattle.coap_core.specs.declared.most.Holding.{Holding}
 use Rattle.coap_core.specs.Holders.{is_among}
-use Rattle.coap_core.specs.Parts.{AreGrouped, StartsGroup, ends, held_in}
+use Rattle.coap_core.specs.Holdings.{AreGrouped, StartsGroup, ends, held_in}
 
--- the orders of parts, of addresses and of endpoints
-part_cmp : Part → Part → Ordering
-part_cmp a b = parts.ghosts.cmp a b
+-- the orders of holdings, of addresses and of endpoints
+holding_cmp : Holding → Holding → Ordering
+holding_cmp a b = holdings.ghosts.cmp a b
 
 -- that of addresses
 ip_cmp : Ip → Ip → Ordering
@@ -43,10 +43,10 @@ endpoint-order : IsTotalOrder endpoint_cmp
 unfolding endpoint_cmp
 endpoint-order = endpoint_laws.total-law
 
--- and so is that of parts
-part-order : IsTotalOrder part_cmp
-unfolding part_cmp
-part-order = part_laws.total-law
+-- and so is that of holdings
+holding-order : IsTotalOrder holding_cmp
+unfolding holding_cmp
+holding-order = holding_laws.total-law
 
 -- what isn't less by the first of two orders and then the second, isn't by the first
 then-first : (o p : Ordering) → is_lt (ordering_then o p) ≡ false → is_lt o ≡ false
@@ -54,10 +54,10 @@ then-first Less p e = e
 then-first Equal p e = refl
 then-first Greater p e = refl
 
--- so a part that isn't lower has no lower endpoint
-part-endpoint : (a b : Part) → is_lt (part_cmp a b) ≡ false → is_lt (endpoint_cmp a.at b.at) ≡ false
-unfolding part_cmp endpoint_cmp
-part-endpoint a b e = then-first (endpoints.ghosts.cmp a.at b.at) _ e
+-- so a holding that isn't lower has no lower endpoint
+holding-endpoint : (a b : Holding) → is_lt (holding_cmp a b) ≡ false → is_lt (endpoint_cmp a.at b.at) ≡ false
+unfolding holding_cmp endpoint_cmp
+holding-endpoint a b e = then-first (endpoints.ghosts.cmp a.at b.at) _ e
 
 -- and no lower address
 endpoint-ip : (a b : Endpoint) → is_lt (endpoint_cmp a b) ≡ false → is_lt (ip_cmp a.ip b.ip) ≡ false
@@ -100,57 +100,57 @@ endpoint-between p q r low high e =
     let back : is_lt (endpoint_cmp p q) ≡ false = subst (λ x. is_lt (endpoint_cmp x q) ≡ false) same high in
     sym (endpoint-tied q p) ∙ tied endpoint-order q p low back
 
--- ---- sorted parts
+-- ---- sorted holdings
 
--- no part that follows is lower than this one
-abbrev AllUp : Part → List Part → Type 0
+-- no holding that follows is lower than this one
+abbrev AllUp : Holding → List Holding → Type 0
 AllUp p [] = Unit {0}
-AllUp p (q ∷ qs) = (is_lt (part_cmp q p) ≡ false) × AllUp p qs
+AllUp p (q ∷ qs) = (is_lt (holding_cmp q p) ≡ false) × AllUp p qs
 
-abbrev AreUp : List Part → Type 0
+abbrev AreUp : List Holding → Type 0
 AreUp [] = Unit {0}
 AreUp (p ∷ ps) = AllUp p ps × AreUp ps
 
--- no part is lower if none at any place is
-all-up : (p : Part) (ps : List Part) → ((k : ℕ) (d : Part) → k < length ps → is_lt (part_cmp (get_or ps k d) p) ≡ false) → AllUp p ps
+-- no holding is lower if none at any place is
+all-up : (p : Holding) (ps : List Holding) → ((k : ℕ) (d : Holding) → k < length ps → is_lt (holding_cmp (get_or ps k d) p) ≡ false) → AllUp p ps
 all-up p [] h = tt
 all-up p (q ∷ qs) h = (h 0 p (omega arith), all-up p qs (λ k d lt. h (suc k) d (omega arith)))
 
--- the rest of sorted parts is sorted
-sorted-rest : (p : Part) (ps : List Part) → IsSorted part_cmp (p ∷ ps) → IsSorted part_cmp ps
+-- the rest of sorted holdings is sorted
+sorted-rest : (p : Holding) (ps : List Holding) → IsSorted holding_cmp (p ∷ ps) → IsSorted holding_cmp ps
 sorted-rest p ps h = λ k d low high.
     let next : suc k + 1 ≡ suc (k + 1) = omega arith in
-    subst (λ n. is_lt (part_cmp (get_or (p ∷ ps) n d) (get_or ps k d)) ≡ false) next (h (suc k) d (omega arith) (omega arith))
+    subst (λ n. is_lt (holding_cmp (get_or (p ∷ ps) n d) (get_or ps k d)) ≡ false) next (h (suc k) d (omega arith) (omega arith))
 
--- so parts that are sorted rise throughout
-are-up : (ps : List Part) → IsSorted part_cmp ps → AreUp ps
+-- so holdings that are sorted rise throughout
+are-up : (ps : List Holding) → IsSorted holding_cmp ps → AreUp ps
 are-up [] h = tt
-are-up (p ∷ ps) h = (all-up p ps (λ k d lt. sorted_far (λ x y. is_lt (part_cmp x y)) (ranks_by part-order (λ x. x)) (p ∷ ps) h 0 (suc k) d (omega arith) (omega arith)), are-up ps (sorted-rest p ps h))
+are-up (p ∷ ps) h = (all-up p ps (λ k d lt. sorted_far (λ x y. is_lt (holding_cmp x y)) (ranks_by holding-order (λ x. x)) (p ∷ ps) h 0 (suc k) d (omega arith) (omega arith)), are-up ps (sorted-rest p ps h))
 
--- none after a part of another address is of the first one's address
-none-after : (p q : Part) (qs : List Part) → same_ip p.at.ip q.at.ip ≡ false → is_lt (part_cmp q p) ≡ false → AllUp q qs → held_in p.at.ip qs ≡ 0
+-- none after a holding of another address is of the first one's address
+none-after : (p q : Holding) (qs : List Holding) → same_ip p.at.ip q.at.ip ≡ false → is_lt (holding_cmp q p) ≡ false → AllUp q qs → held_in p.at.ip qs ≡ 0
 none-after p q [] other up ups = refl
 none-after p q (r ∷ rs) other up ups = go (same_ip r.at.ip p.at.ip) refl (none-after p q rs other up ups.1)
   where
     go : (b : Bool) → same_ip r.at.ip p.at.ip ≡ b → held_in p.at.ip rs ≡ 0 → held_in p.at.ip (r ∷ rs) ≡ 0
     go false e rest = rw e (omega arith)
     go true e rest = absurd (
-        let one = ip-between p.at.ip q.at.ip r.at.ip (endpoint-ip q.at p.at (part-endpoint q p up)) (endpoint-ip r.at q.at (part-endpoint r q ups.0)) e in
+        let one = ip-between p.at.ip q.at.ip r.at.ip (endpoint-ip q.at p.at (holding-endpoint q p up)) (endpoint-ip r.at q.at (holding-endpoint r q ups.0)) e in
         cc)
 
 -- nor of its endpoint
-no-more : (p q : Part) (qs : List Part) → same_endpoint q.at p.at ≡ false → is_lt (part_cmp q p) ≡ false → AllUp q qs → is_among p.at (ends qs) ≡ false
+no-more : (p q : Holding) (qs : List Holding) → same_endpoint q.at p.at ≡ false → is_lt (holding_cmp q p) ≡ false → AllUp q qs → is_among p.at (ends qs) ≡ false
 no-more p q [] other up ups = refl
 no-more p q (r ∷ rs) other up ups = go (same_endpoint r.at p.at) refl (no-more p q rs other up ups.1)
   where
     go : (b : Bool) → same_endpoint r.at p.at ≡ b → is_among p.at (ends rs) ≡ false → is_among p.at (ends (r ∷ rs)) ≡ false
     go false e rest = rw e rest
     go true e rest = absurd (
-        let one = endpoint-between p.at q.at r.at (part-endpoint q p up) (part-endpoint r q ups.0) e in
+        let one = endpoint-between p.at q.at r.at (holding-endpoint q p up) (holding-endpoint r q ups.0) e in
         cc)
 
--- so sorted parts are grouped
-starts : (p : Part) (ps : List Part) → AllUp p ps → AreUp ps → StartsGroup p ps
+-- so sorted holdings are grouped
+starts : (p : Holding) (ps : List Holding) → AllUp p ps → AreUp ps → StartsGroup p ps
 starts p [] ups rest = tt
 starts p (q ∷ qs) ups rest = (ip, endpoint)
   where
@@ -167,12 +167,12 @@ starts p (q ∷ qs) ups rest = (ip, endpoint)
     endpoint : same_endpoint q.at p.at ≡ false → is_among p.at (ends (q ∷ qs)) ≡ false
     endpoint e = rw e (no-more p q qs e ups.0 rest.0)
 
--- one part after another
-up-grouped : (ps : List Part) → AreUp ps → AreGrouped ps
+-- one holding after another
+up-grouped : (ps : List Holding) → AreUp ps → AreGrouped ps
 up-grouped [] ups = tt
 up-grouped (p ∷ ps) ups = (starts p ps ups.0 ups.1, up-grouped ps ups.1)
 
 -- as a sort leaves them
-pub sorted-grouped : (ps : List Part) → IsSorted (λ a b. parts.ghosts.cmp a b) ps → AreGrouped ps
-unfolding part_cmp
+pub sorted-grouped : (ps : List Holding) → IsSorted (λ a b. holdings.ghosts.cmp a b) ps → AreGrouped ps
+unfolding holding_cmp
 sorted-grouped ps h = up-grouped ps (are-up ps h)

@@ -1,4 +1,4 @@
--- What is listed of a table: one part for each record, or for each client.
+-- What is listed of a table: one holding for each record, or for each client.
 use Rattle.std.proofs.Common.{◌≡◌, ℕ, suc, zero, ◌+◌, ◌<◌, ◌≤◌, List, [], ◌∷◌, ◌++◌, length, map, slice_get, take, Bool, true, false, cond, Option, Some, None, refl, sym, ap, ◌∙◌, subst, arith}
 use Rattle.std.specs.Option.{option_map}
 use Rattle.coap_endpoint.specs.declared.endpoint.Endpoint.{Endpoint}
@@ -12,8 +12,8 @@ use Rattle.endpoint_counts.specs.Endpoints.{open_of}
 use Rattle.endpoint_counts.specs.Slots.{found, numbered, AreDistinct, AreGapless}
 use Rattle.endpoint_counts.specs.Slots as slots
 use Rattle.endpoint_counts.proofs.Slotting.{head-item, numbered-at, rest-item}
-use Rattle.coap_core.specs.declared.most.Part.{Part}
-use Rattle.coap_core.specs.Parts.{AreOf, AreSome, client_parts, had_by, parts_of, record_parts}
+use Rattle.coap_core.specs.declared.most.Holding.{Holding}
+use Rattle.coap_core.specs.Holdings.{AreOf, AreSome, client_holdings, had_by, holdings_of, record_holdings}
 use Rattle.coap_core.proofs.Totals.{of-some}
 
 -- ---- one after another
@@ -40,32 +40,32 @@ module _ {A : Type 0} where
   none-beyond (x ∷ xs) zero le = absurd (omega arith)
   none-beyond (x ∷ xs) (suc k) le = none-beyond xs k (omega arith)
 
--- the part of a record
-pub record-part : (rs : List Record) (place : ℕ) (found : Option Endpoint) → found ≡ option_map (λ r. r.from) (slice_get rs place) → slice_get (record_parts rs) place ≡ option_map (λ e. record { at = e; count = 1 }) found
-record-part [] place found e = rw e refl
-record-part (r ∷ rs) zero found e = rw e refl
-record-part (r ∷ rs) (suc k) found e = record-part rs k found e
+-- the holding of a record
+pub record-holding : (rs : List Record) (place : ℕ) (found : Option Endpoint) → found ≡ option_map (λ r. r.from) (slice_get rs place) → slice_get (record_holdings rs) place ≡ option_map (λ e. record { at = e; count = 1 }) found
+record-holding [] place found e = rw e refl
+record-holding (r ∷ rs) zero found e = rw e refl
+record-holding (r ∷ rs) (suc k) found e = record-holding rs k found e
 
 -- and that of a client
-entry-part : (xs : List (Numbered Entry)) (place : ℕ) → slice_get (client_parts xs) place ≡ option_map (λ x. record { at = x.peer; count = x.counts.all }) (slice_get (map (λ x. x.1) xs) place)
-entry-part [] place = refl
-entry-part (x ∷ xs) zero = refl
-entry-part (x ∷ xs) (suc k) = entry-part xs k
+entry-holding : (xs : List (Numbered Entry)) (place : ℕ) → slice_get (client_holdings xs) place ≡ option_map (λ x. record { at = x.peer; count = x.counts.all }) (slice_get (map (λ x. x.1) xs) place)
+entry-holding [] place = refl
+entry-holding (x ∷ xs) zero = refl
+entry-holding (x ∷ xs) (suc k) = entry-holding xs k
 
 -- as an entry is looked up by its number
-pub client-part : (xs : List (Numbered Entry)) (place : ℕ) (found : Option Entry) → AreGapless xs → found ≡ item_at (place + 1) xs → slice_get (client_parts xs) place ≡ option_map (λ x. record { at = x.peer; count = x.counts.all }) found
-client-part xs place found gapless e =
+pub client-holding : (xs : List (Numbered Entry)) (place : ℕ) (found : Option Entry) → AreGapless xs → found ≡ item_at (place + 1) xs → slice_get (client_holdings xs) place ≡ option_map (λ x. record { at = x.peer; count = x.counts.all }) found
+client-holding xs place found gapless e =
     let there : item_at (place + 1) xs ≡ slice_get (map (λ x. x.1) xs) place =
     ap (item_at (place + 1)) gapless ∙ numbered-at 0 place (place + 1) (map (λ x. x.1) xs) (omega arith) in
-    entry-part xs place ∙ ap (option_map (λ x. record { at = x.peer; count = x.counts.all })) (sym there ∙ sym e)
+    entry-holding xs place ∙ ap (option_map (λ x. record { at = x.peer; count = x.counts.all })) (sym there ∙ sym e)
 
--- there are as many parts as clients
-pub parts-length : (xs : List (Numbered Entry)) → length (client_parts xs) ≡ length xs
-parts-length [] = refl
-parts-length (x ∷ xs) = ap suc (parts-length xs)
+-- there are as many holdings as clients
+pub holdings-length : (xs : List (Numbered Entry)) → length (client_holdings xs) ≡ length xs
+holdings-length [] = refl
+holdings-length (x ∷ xs) = ap suc (holdings-length xs)
 
 -- as records
-pub records-length : (rs : List Record) → length (record_parts rs) ≡ length rs
+pub records-length : (rs : List Record) → length (record_holdings rs) ≡ length rs
 records-length [] = refl
 records-length (r ∷ rs) = ap suc (records-length rs)
 
@@ -76,20 +76,20 @@ owners-length who (x ∷ xs) = ap suc (owners-length who xs)
 
 -- ---- what each endpoint has
 
--- the parts of records are one for each owner
-record-owners : (rs : List Record) → record_parts rs ≡ parts_of (map (λ r. r.from) rs)
+-- the holdings of records are one for each owner
+record-owners : (rs : List Record) → record_holdings rs ≡ holdings_of (map (λ r. r.from) rs)
 record-owners [] = refl
-record-owners (r ∷ rs) = ap (λ (ps : List Part). record { at = r.from; count = 1 } ∷ ps) (record-owners rs)
+record-owners (r ∷ rs) = ap (λ (ps : List Holding). record { at = r.from; count = 1 } ∷ ps) (record-owners rs)
 
--- one part for each record
-pub are-records : (rs : List Record) → AreOf (map (λ r. r.from) rs) (record_parts rs)
+-- one holding for each record
+pub are-records : (rs : List Record) → AreOf (map (λ r. r.from) rs) (record_holdings rs)
 are-records rs = record {
   some = subst AreSome (sym (record-owners rs)) (of-some (map (λ r. r.from) rs));
   each = λ e. ap (had_by e) (record-owners rs);
 }
 
 -- an endpoint without an entry has nothing
-had-off : (e : Endpoint) (xs : List (Numbered Entry)) (least : ℕ) → IsRising least xs → ((n : ℕ) (y : Entry) → item_at n xs ≡ Some y → same_endpoint y.peer e ≡ false) → had_by e (client_parts xs) ≡ 0
+had-off : (e : Endpoint) (xs : List (Numbered Entry)) (least : ℕ) → IsRising least xs → ((n : ℕ) (y : Entry) → item_at n xs ≡ Some y → same_endpoint y.peer e ≡ false) → had_by e (client_holdings xs) ≡ 0
 had-off e [] least r off = refl
 had-off e (x ∷ xs) least r off =
     let here = off x.0 x.1 (head-item x xs) in
@@ -97,7 +97,7 @@ had-off e (x ∷ xs) least r off =
     rw here (omega arith)
 
 -- and one with an entry what it says
-had-found : (e : Endpoint) (xs : List (Numbered Entry)) (least : ℕ) → IsRising least xs → AreDistinct xs → had_by e (client_parts xs) ≡ open_of (found e xs)
+had-found : (e : Endpoint) (xs : List (Numbered Entry)) (least : ℕ) → IsRising least xs → AreDistinct xs → had_by e (client_holdings xs) ≡ open_of (found e xs)
 had-found e [] least r distinct = refl
 had-found e (x ∷ xs) least r distinct = go (same_endpoint x.1.peer e) refl (had-found e xs x.0 r.1 (λ n m u v f g. distinct n m u v (rest-item x xs n u r.1 f) (rest-item x xs m v r.1 g)))
   where
@@ -114,25 +114,25 @@ had-found e (x ∷ xs) least r distinct = go (same_endpoint x.1.peer e) refl (ha
             let none : item_at n xs ≡ None = none-least n x.0 xs (omega arith) r.1 in
             cc)
 
-    go : (b : Bool) → same_endpoint x.1.peer e ≡ b → had_by e (client_parts xs) ≡ open_of (found e xs) → had_by e (client_parts (x ∷ xs)) ≡ open_of (found e (x ∷ xs))
+    go : (b : Bool) → same_endpoint x.1.peer e ≡ b → had_by e (client_holdings xs) ≡ open_of (found e xs) → had_by e (client_holdings (x ∷ xs)) ≡ open_of (found e (x ∷ xs))
     go false f rest = rw f (omega arith)
     go true f rest =
         let none = had-off e xs x.0 r.1 (other f) in
         rw f (omega arith)
 
 -- no entry is empty
-some-entries : (xs : List (Numbered Entry)) (least : ℕ) → IsRising least xs → ((n : ℕ) (x : Entry) → item_at n xs ≡ Some x → 0 < x.counts.all) → AreSome (client_parts xs)
+some-entries : (xs : List (Numbered Entry)) (least : ℕ) → IsRising least xs → ((n : ℕ) (x : Entry) → item_at n xs ≡ Some x → 0 < x.counts.all) → AreSome (client_holdings xs)
 some-entries [] least r some = tt
 some-entries (x ∷ xs) least r some = (some x.0 x.1 (head-item x xs), some-entries xs x.0 r.1 (λ n y f. some n y (rest-item x xs n y r.1 f)))
 
 module _ {A : Type 0} (who : A → Endpoint) where
-  -- an endpoint has as many items as it has parts of one each
-  count-had : (e : Endpoint) (items : List (Numbered A)) → count (λ a. same_endpoint (who a) e) items ≡ had_by e (parts_of (map (λ x. who x.1) items))
+  -- an endpoint has as many items as it has holdings of one each
+  count-had : (e : Endpoint) (items : List (Numbered A)) → count (λ a. same_endpoint (who a) e) items ≡ had_by e (holdings_of (map (λ x. who x.1) items))
   count-had e [] = refl
   count-had e (x ∷ xs) = ap (λ n. cond (same_endpoint (who x.1) e) 1 0 + n) (count-had e xs)
 
-  -- one part for each client
-  pub are-clients : (t : Table Entry) (items : List (Numbered A)) → IsTable t → AreDistinct t.items → slots.AreSome t.items → ((e : Endpoint) → open_of (found e t.items) ≡ count (λ a. same_endpoint (who a) e) items) → AreOf (map (λ x. who x.1) items) (client_parts t.items)
+  -- one holding for each client
+  pub are-clients : (t : Table Entry) (items : List (Numbered A)) → IsTable t → AreDistinct t.items → slots.AreSome t.items → ((e : Endpoint) → open_of (found e t.items) ≡ count (λ a. same_endpoint (who a) e) items) → AreOf (map (λ x. who x.1) items) (client_holdings t.items)
   are-clients t items is distinct some counts = record {
     some = some-entries t.items 0 is.rising some;
     each = λ e. had-found e t.items 0 is.rising distinct ∙ counts e ∙ count-had e items;

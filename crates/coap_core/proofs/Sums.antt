@@ -1,4 +1,4 @@
--- What the addresses of parts have, counted from the last part on.
+-- What the addresses of holdings have, counted from the last holding on.
 use Rattle.std.proofs.Common.{◌≡◌, ℕ, suc, zero, ◌+◌, ◌-◌, ◌<◌, ◌≤◌, List, [], ◌∷◌, length, drop, get_or, Bool, true, false, cond, Option, Some, None, IfSome, refl, sym, ap, ◌∙◌, subst, arith, eq-eqb}
 use Rattle.std.specs.Prelude.{◌==◌, nat_lt}
 use Rattle.std.proofs.Math.Seq.{drop-cons}
@@ -7,33 +7,33 @@ use Rattle.coap_endpoint.specs.declared.endpoint.Endpoint.{Endpoint}
 use Rattle.coap_endpoint.specs.declared.endpoint.Ip.{Ip}
 use Rattle.coap_endpoint.specs.Endpoint.{same_endpoint, same_ip}
 use Rattle.coap_endpoint.specs.Alike.{endpoint_itself, endpoint_same, ip_itself, ip_same}
-use Rattle.coap_core.specs.declared.most.Part.{Part}
+use Rattle.coap_core.specs.declared.most.Holding.{Holding}
 use Rattle.coap_core.specs.declared.most.Sum.{Sum}
 use Rattle.coap_core.specs.Holders.{is_among, ports_of}
-use Rattle.coap_core.specs.Parts.{AreGrouped, AreSome, IsGreatest, IsMost, IsOfFirst, StartsGroup, ends, held_in, greater_of, sum_with}
+use Rattle.coap_core.specs.Holdings.{AreGrouped, AreSome, IsGreatest, IsMost, IsOfFirst, StartsGroup, ends, held_in, greater_of, sum_with}
 
--- what an address has with one part more
-held-own : (p : Part) (ps : List Part) → held_in p.at.ip (p ∷ ps) ≡ p.count + held_in p.at.ip ps
+-- what an address has with one holding more
+held-own : (p : Holding) (ps : List Holding) → held_in p.at.ip (p ∷ ps) ≡ p.count + held_in p.at.ip ps
 held-own p ps = let one = ip_itself p.at.ip in rw one refl
 
 -- of another address it is as much
-held-other : (ip : Ip) (p : Part) (ps : List Part) → same_ip p.at.ip ip ≡ false → held_in ip (p ∷ ps) ≡ held_in ip ps
+held-other : (ip : Ip) (p : Holding) (ps : List Holding) → same_ip p.at.ip ip ≡ false → held_in ip (p ∷ ps) ≡ held_in ip ps
 held-other ip p ps e = rw e (omega arith)
 
 -- and how many ports
-ports-other : (ip : Ip) (p : Part) (ps : List Part) → same_ip p.at.ip ip ≡ false → ports_of ip (ends (p ∷ ps)) ≡ ports_of ip (ends ps)
+ports-other : (ip : Ip) (p : Holding) (ps : List Holding) → same_ip p.at.ip ip ≡ false → ports_of ip (ends (p ∷ ps)) ≡ ports_of ip (ends ps)
 ports-other ip p ps e = rw e (omega arith)
 
 -- a port more, if its endpoint is new
-ports-new : (p : Part) (ps : List Part) → is_among p.at (ends ps) ≡ false → ports_of p.at.ip (ends (p ∷ ps)) ≡ 1 + ports_of p.at.ip (ends ps)
+ports-new : (p : Holding) (ps : List Holding) → is_among p.at (ends ps) ≡ false → ports_of p.at.ip (ends (p ∷ ps)) ≡ 1 + ports_of p.at.ip (ends ps)
 ports-new p ps e = let one = ip_itself p.at.ip in rw one (rw e refl)
 
 -- and none more, if it isn't
-ports-known : (p : Part) (ps : List Part) → is_among p.at (ends ps) ≡ true → ports_of p.at.ip (ends (p ∷ ps)) ≡ ports_of p.at.ip (ends ps)
+ports-known : (p : Holding) (ps : List Holding) → is_among p.at (ends ps) ≡ true → ports_of p.at.ip (ends (p ∷ ps)) ≡ ports_of p.at.ip (ends ps)
 ports-known p ps e = let one = ip_itself p.at.ip in rw one (rw e (omega arith))
 
 -- an address has at least one of each of its ports
-pub ports-most : (ip : Ip) (ps : List Part) → AreSome ps → ports_of ip (ends ps) ≤ held_in ip ps
+pub ports-most : (ip : Ip) (ps : List Holding) → AreSome ps → ports_of ip (ends ps) ≤ held_in ip ps
 ports-most ip [] some = omega arith
 ports-most ip (p ∷ ps) some = go (same_ip p.at.ip ip) refl (is_among p.at (ends ps)) refl (ports-most ip ps some.1)
   where
@@ -43,29 +43,29 @@ ports-most ip (p ∷ ps) some = go (same_ip p.at.ip ip) refl (is_among p.at (end
     go true e false f most = rw (e, f) (let h = some.0 in omega arith)
 
 -- an address that has nothing has no ports
-ports-none : (ip : Ip) (ps : List Part) → AreSome ps → held_in ip ps ≡ 0 → ports_of ip (ends ps) ≡ 0
+ports-none : (ip : Ip) (ps : List Holding) → AreSome ps → held_in ip ps ≡ 0 → ports_of ip (ends ps) ≡ 0
 ports-none ip ps some e = let most = ports-most ip ps some in omega arith
 
--- an address has no more among the parts from a place on
-pub held-drop : (ip : Ip) (k : ℕ) (ps : List Part) → held_in ip (drop k ps) ≤ held_in ip ps
+-- an address has no more among the holdings from a place on
+pub held-drop : (ip : Ip) (k : ℕ) (ps : List Holding) → held_in ip (drop k ps) ≤ held_in ip ps
 held-drop ip zero ps = omega arith
 held-drop ip (suc k) [] = omega arith
 held-drop ip (suc k) (p ∷ ps) = let rest = held-drop ip k ps in omega arith
 
 -- which are grouped, and none is empty
-pub grouped-drop : (k : ℕ) (ps : List Part) → AreGrouped ps → AreGrouped (drop k ps)
+pub grouped-drop : (k : ℕ) (ps : List Holding) → AreGrouped ps → AreGrouped (drop k ps)
 grouped-drop zero ps h = h
 grouped-drop (suc k) [] h = tt
 grouped-drop (suc k) (p ∷ ps) h = grouped-drop k ps h.1
 
 -- that are from a place on
-pub some-drop : (k : ℕ) (ps : List Part) → AreSome ps → AreSome (drop k ps)
+pub some-drop : (k : ℕ) (ps : List Holding) → AreSome ps → AreSome (drop k ps)
 some-drop zero ps h = h
 some-drop (suc k) [] h = tt
 some-drop (suc k) (p ∷ ps) h = some-drop k ps h.1
 
--- the sum of the first one's address, with one part more
-pub first-more : (p : Part) (ps : List Part) (sum : Option Sum) → AreSome ps → StartsGroup p ps → IsOfFirst ps sum → IsOfFirst (p ∷ ps) (Some (sum_with sum p))
+-- the sum of the first one's address, with one holding more
+pub first-more : (p : Holding) (ps : List Holding) (sum : Option Sum) → AreSome ps → StartsGroup p ps → IsOfFirst ps sum → IsOfFirst (p ∷ ps) (Some (sum_with sum p))
 first-more p [] None some starts is = (refl, omega (arith, held-own p []), omega (arith, ports-new p [] refl))
 first-more p [] (Some s) some starts is = absurd is
 first-more p (q ∷ qs) None some starts is = absurd is
@@ -122,9 +122,9 @@ first-more p (q ∷ qs) (Some s) some starts is = go (same_ip p.at.ip q.at.ip) r
     go false e = rw (ip-is, e) (other e)
     go true e = rw (ip-is, port-is, e) (own e (p.at.port == q.at.port) refl)
 
--- one more of the first one's address, and of its ports, is what it has of all parts at most
+-- one more of the first one's address, and of its ports, is what it has of all holdings at most
 pub fits-more :
-    (p : Part) (ps : List Part) (sum : Option Sum) (most : ℕ)
+    (p : Holding) (ps : List Holding) (sum : Option Sum) (most : ℕ)
     → AreSome (p ∷ ps)
     → IsOfFirst ps sum
     → ((ip : Ip) → held_in ip (p ∷ ps) < most)
@@ -142,7 +142,7 @@ fits-more p (q ∷ qs) (Some s) most some is few = λ e.
     let one = some.0 in
     (omega arith, omega arith)
 
-module _ (p : Part) (ps : List Part) (s : Sum) (is : IsOfFirst (p ∷ ps) (Some s)) where
+module _ (p : Holding) (ps : List Holding) (s : Sum) (is : IsOfFirst (p ∷ ps) (Some s)) where
   -- the sum is that of its address
   sum-held : s.held ≡ held_in s.last.ip (p ∷ ps)
   sum-held = subst (λ (x : Ip). s.held ≡ held_in x (p ∷ ps)) (sym (ap (λ (e : Endpoint). e.ip) is.0)) is.1
@@ -189,7 +189,7 @@ module _ (p : Part) (ps : List Part) (s : Sum) (is : IsOfFirst (p ∷ ps) (Some 
 
 -- the greater of two sums is that of an address that has most
 pub most-more :
-    (p : Part) (ps : List Part) (most : Option Sum) (s : Sum)
+    (p : Holding) (ps : List Holding) (most : Option Sum) (s : Sum)
     → IsOfFirst (p ∷ ps) (Some s)
     → IsMost ps most
     → IsMost (p ∷ ps) (greater_of most s)
@@ -197,15 +197,15 @@ most-more p [] most s is are = rw are (most-new p [] s is (λ ip. omega arith))
 most-more p (q ∷ qs) None s is are = absurd are
 most-more p (q ∷ qs) (Some it) s is are = most-either p (q ∷ qs) s is it are (nat_lt s.held it.held) refl
 
--- the parts from one place before on
-drop-first : (k : ℕ) (ps : List Part) (d : Part) → 0 < k → k ≤ length ps → drop (k - 1) ps ≡ get_or ps (k - 1) d ∷ drop k ps
+-- the holdings from one place before on
+drop-first : (k : ℕ) (ps : List Holding) (d : Holding) → 0 < k → k ≤ length ps → drop (k - 1) ps ≡ get_or ps (k - 1) d ∷ drop k ps
 drop-first k ps d some within =
     let next : suc (k - 1) ≡ k = omega arith in
     drop-cons ps (k - 1) d (omega arith) ∙ ap (λ n. get_or ps (k - 1) d ∷ drop n ps) next
 
 -- a step of the loop: the sum of the first one's address, and that of the one that has most
 pub step-first :
-    (k : ℕ) (ps : List Part) (d : Part) (sum : Option Sum)
+    (k : ℕ) (ps : List Holding) (d : Holding) (sum : Option Sum)
     → 0 < k → k ≤ length ps
     → AreGrouped ps → AreSome ps
     → IsOfFirst (drop k ps) sum
@@ -217,7 +217,7 @@ step-first k ps d sum low high grouped some is =
 
 -- and the sum that is most
 pub step-most :
-    (k : ℕ) (ps : List Part) (d : Part) (most : Option Sum) (s : Sum)
+    (k : ℕ) (ps : List Holding) (d : Holding) (most : Option Sum) (s : Sum)
     → 0 < k → k ≤ length ps
     → IsOfFirst (drop (k - 1) ps) (Some s)
     → IsMost (drop k ps) most
@@ -228,7 +228,7 @@ step-most k ps d most s low high is are =
 
 -- and no number in it is too great
 pub step-fits :
-    (k : ℕ) (ps : List Part) (d : Part) (sum : Option Sum) (most : ℕ)
+    (k : ℕ) (ps : List Holding) (d : Holding) (sum : Option Sum) (most : ℕ)
     → 0 < k → k ≤ length ps
     → AreSome ps
     → ((ip : Ip) → held_in ip ps < most)

@@ -1,4 +1,4 @@
--- Parts of which each endpoint has as much are the same to each address.
+-- Holdings of which each endpoint has as much are the same to each address.
 use Rattle.std.proofs.Common.{◌≡◌, ℕ, suc, zero, ◌+◌, ◌<◌, ◌≤◌, List, [], ◌∷◌, length, Bool, true, false, not, cond, refl, sym, ap, ◌∙◌, subst, arith, eq-eqb}
 use Rattle.std.specs.Prelude.{◌==◌, if◌then◌else◌, nat_lt}
 use Rattle.std.proofs.lemmas.Bool.{eqb-true, lt-ltb, ne_eqb}
@@ -6,9 +6,9 @@ use Rattle.coap_endpoint.specs.declared.endpoint.Endpoint.{Endpoint}
 use Rattle.coap_endpoint.specs.declared.endpoint.Ip.{Ip}
 use Rattle.coap_endpoint.specs.Endpoint.{same_endpoint, same_ip}
 use Rattle.coap_endpoint.specs.Alike.{ip_same}
-use Rattle.coap_core.specs.declared.most.Part.{Part}
+use Rattle.coap_core.specs.declared.most.Holding.{Holding}
 use Rattle.coap_core.specs.Holders.{held_by, is_among, ports_of}
-use Rattle.coap_core.specs.Parts.{AreOf, AreSome, ends, had_by, held_in, parts_of}
+use Rattle.coap_core.specs.Holdings.{AreOf, AreSome, ends, had_by, held_in, holdings_of}
 
 -- ---- sums over numbers below a bound
 
@@ -66,12 +66,12 @@ abbrev at_port : Ip → ℕ → Endpoint
 at_port ip q = record { ip = ip; port = q }
 
 -- more than any port of these
-abbrev above : List Part → ℕ
+abbrev above : List Holding → ℕ
 above [] = 0
 above (p ∷ ps) = suc p.at.port + above ps
 
 -- what an address has is what its ports have
-held-by-port : (ip : Ip) (ps : List Part) (n : ℕ) → above ps ≤ n → held_in ip ps ≡ sum_below n (λ q. had_by (at_port ip q) ps)
+held-by-port : (ip : Ip) (ps : List Holding) (n : ℕ) → above ps ≤ n → held_in ip ps ≡ sum_below n (λ q. had_by (at_port ip q) ps)
 held-by-port ip [] n le = sym (sum-none n (λ q. 0) (λ q. refl))
 held-by-port ip (p ∷ ps) n le = go (same_ip p.at.ip ip) refl (held-by-port ip ps n (omega arith))
   where
@@ -90,8 +90,8 @@ held-by-port ip (p ∷ ps) n le = go (same_ip p.at.ip ip) refl (held-by-port ip 
 if_among : Bool → ℕ
 if_among b = if b then 1 else 0
 
--- an endpoint is among those of the parts exactly if it has something of them
-among-any : (e : Endpoint) (ps : List Part) → AreSome ps → is_among e (ends ps) ≡ nat_lt 0 (had_by e ps)
+-- an endpoint is among those of the holdings exactly if it has something of them
+among-any : (e : Endpoint) (ps : List Holding) → AreSome ps → is_among e (ends ps) ≡ nat_lt 0 (had_by e ps)
 among-any e [] some = refl
 among-any e (p ∷ ps) some = go (same_endpoint p.at e) refl (among-any e ps some.1)
   where
@@ -105,7 +105,7 @@ among-any e (p ∷ ps) some = go (same_endpoint p.at e) refl (among-any e ps som
         rw f (rw same rest)
 
 -- its ports are counted one by one
-ports-by-port : (ip : Ip) (ps : List Part) (n : ℕ) → above ps ≤ n → ports_of ip (ends ps) ≡ sum_below n (λ q. cond (is_among (at_port ip q) (ends ps)) 1 0)
+ports-by-port : (ip : Ip) (ps : List Holding) (n : ℕ) → above ps ≤ n → ports_of ip (ends ps) ≡ sum_below n (λ q. cond (is_among (at_port ip q) (ends ps)) 1 0)
 ports-by-port ip [] n le = sym (sum-none n (λ q. 0) (λ q. refl))
 ports-by-port ip (p ∷ ps) n le = go (same_ip p.at.ip ip) refl (is_among p.at (ends ps)) refl (ports-by-port ip ps n (omega arith))
   where
@@ -135,9 +135,9 @@ ports-by-port ip (p ∷ ps) n le = go (same_ip p.at.ip ip) refl (is_among p.at (
         let none : ports_of ip (ends (p ∷ ps)) ≡ ports_of ip (ends ps) = rw e (omega arith) in
         none ∙ rest ∙ sym same
 
--- ---- two lists of parts
+-- ---- two lists of holdings
 
-module _ (ps qs : List Part) (same : (e : Endpoint) → had_by e ps ≡ had_by e qs) where
+module _ (ps qs : List Holding) (same : (e : Endpoint) → had_by e ps ≡ had_by e qs) where
   -- each address has as much of both
   alike-held : (ip : Ip) → held_in ip ps ≡ held_in ip qs
   alike-held ip =
@@ -153,30 +153,30 @@ module _ (ps qs : List Part) (same : (e : Endpoint) → had_by e ps ≡ had_by e
       (λ q. ap (λ b. cond b 1 0) (among-any (at_port ip q) ps left ∙ ap (λ k. nat_lt 0 k) (same (at_port ip q)) ∙ sym (among-any (at_port ip q) qs right)))
       ∙ sym (ports-by-port ip qs (above ps + above qs) (omega arith))
 
--- ---- one part for each
+-- ---- one holding for each
 
--- parts of one each count the items
-of-held : (ip : Ip) (es : List Endpoint) → held_in ip (parts_of es) ≡ held_by ip es
+-- holdings of one each count the items
+of-held : (ip : Ip) (es : List Endpoint) → held_in ip (holdings_of es) ≡ held_by ip es
 of-held ip [] = refl
 of-held ip (e ∷ es) = ap (λ n. cond (same_ip e.ip ip) 1 0 + n) (of-held ip es)
 
 -- they are the items' own endpoints
-of-ends : (es : List Endpoint) → ends (parts_of es) ≡ es
+of-ends : (es : List Endpoint) → ends (holdings_of es) ≡ es
 of-ends [] = refl
 of-ends (e ∷ es) = ap (λ (xs : List Endpoint). e ∷ xs) (of-ends es)
 
 -- and none is empty
-pub of-some : (es : List Endpoint) → AreSome (parts_of es)
+pub of-some : (es : List Endpoint) → AreSome (holdings_of es)
 of-some [] = tt
 of-some (e ∷ es) = (omega arith, of-some es)
 
--- so parts of items are as many as the items, of each address
-pub held-of : (es : List Endpoint) (ps : List Part) → AreOf es ps → (ip : Ip) → held_in ip ps ≡ held_by ip es
-held-of es ps are ip = alike-held ps (parts_of es) are.each ip ∙ of-held ip es
+-- so holdings of items are as many as the items, of each address
+pub held-of : (es : List Endpoint) (ps : List Holding) → AreOf es ps → (ip : Ip) → held_in ip ps ≡ held_by ip es
+held-of es ps are ip = alike-held ps (holdings_of es) are.each ip ∙ of-held ip es
 
 -- and of as many ports
-pub ports-of : (es : List Endpoint) (ps : List Part) → AreOf es ps → (ip : Ip) → ports_of ip (ends ps) ≡ ports_of ip es
-ports-of es ps are ip = alike-ports ps (parts_of es) are.each are.some (of-some es) ip ∙ ap (ports_of ip) (of-ends es)
+pub ports-of : (es : List Endpoint) (ps : List Holding) → AreOf es ps → (ip : Ip) → ports_of ip (ends ps) ≡ ports_of ip es
+ports-of es ps are ip = alike-ports ps (holdings_of es) are.each are.some (of-some es) ip ∙ ap (ports_of ip) (of-ends es)
 
 -- an address has no more than there are items
 pub held-length : (ip : Ip) (es : List Endpoint) → held_by ip es ≤ length es

@@ -3,7 +3,7 @@ pub mod Events
 pub mod Examples
 pub mod Forms
 pub mod Holders
-pub mod Parts
+pub mod Holdings
 pub mod Settings
 pub mod Asked
 pub mod Done

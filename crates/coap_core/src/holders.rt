@@ -5,11 +5,11 @@ ghost use Rattle.coap_model.specs.State.{records_of};
 ghost use Rattle.endpoint_counts.specs.Slots.{AreGapless};
 ghost use Rattle.coap_core.specs.Events.{seen};
 ghost use Rattle.coap_core.specs.Holders as spec;
-ghost use Rattle.coap_core.specs.Parts.{AreOf, IsGreatestOf, client_parts, record_parts};
+ghost use Rattle.coap_core.specs.Holdings.{AreOf, IsGreatestOf, client_holdings, record_holdings};
 ghost use Rattle.coap_core.specs.Told.{told};
 
 use crate::event::Event;
-use crate::most::{Part, Sum, most_of};
+use crate::most::{Holding, Sum, most_of};
 use crate::proxy::Core;
 use crate::watch::WatchedTurn;
 use coap_endpoint::{Endpoint, Ip};
@@ -67,7 +67,7 @@ pub struct Holder {
 #[derive(Drop)]
 pub struct Holders {
     /// What each endpoint has, while somebody is looked for.
-    parts: Vec<Part>,
+    holdings: Vec<Holding>,
     room: usize,
     /// The moment from which on somebody is looked for, in milliseconds.
     next: Moment,
@@ -93,7 +93,7 @@ impl Model for Holders {
           waiters = h.waiters;
         } };
 
-    ghost invariant = { λ h. h.room ≤ vec_capacity h.parts };
+    ghost invariant = { λ h. h.room ≤ vec_capacity h.holdings };
 }
 
 impl Holders {
@@ -107,7 +107,7 @@ impl Holders {
         let records = limits.con_records.max(limits.non_records);
         let room = records.max(limits.exchanges).max(limits.waiters) as usize;
         Ok(Holders {
-            parts: Vec::with_capacity(alloc, room)?,
+            holdings: Vec::with_capacity(alloc, room)?,
             room,
             next: 0,
             con_records: None,
@@ -185,7 +185,7 @@ impl Holders {
             return None;
         }
         self.next = now.saturating_add(PAUSE);
-        let most = greatest(&mut self.parts, self.room, table, core)?;
+        let most = greatest(&mut self.holdings, self.room, table, core)?;
         let holder = Holder {
             table,
             count,
@@ -203,81 +203,91 @@ impl Holders {
 /// Which address has more of a table than any other; of equal ones, the lowest. The vector has room
 /// for what each endpoint has of the table.
 fn greatest<S: Store + Drop>(
-    parts: &mut Vec<Part>,
+    holdings: &mut Vec<Holding>,
     room: usize,
     table: SharedTable,
     core: &Core<S>,
 ) -> Option<Sum>
-    requires room { room ≤ vec_capacity parts.old }
+    requires room { room ≤ vec_capacity holdings.old }
     requires fits { spec.limit_of table core.now.setting.limits ≤ room }
-    ensures capacity { vec_capacity parts.new ≡ vec_capacity parts.old }
+    ensures capacity { vec_capacity holdings.new ≡ vec_capacity holdings.old }
     ensures none { IfNone result (spec.owners table core.now ≡ []) }
     ensures most { IfSome result (λ sum. IsGreatestOf (spec.owners table core.now) sum) }
 {
     core.tables_fit();
-    parts.clear();
-    list(parts, room, table, core);
-    parts.sort_unstable();
-    most_of(parts.as_slice())
+    holdings.clear();
+    list(holdings, room, table, core);
+    holdings.sort_unstable();
+    most_of(holdings.as_slice())
 }
 
 /// Lists what each endpoint has of a table.
-fn list<S: Store + Drop>(parts: &mut Vec<Part>, room: usize, table: SharedTable, core: &Core<S>)
-    requires room { room ≤ vec_capacity parts.old }
-    requires empty { parts.old.items ≡ [] }
-    requires len { vec_len parts.old ≡ 0 }
+fn list<S: Store + Drop>(
+    holdings: &mut Vec<Holding>,
+    room: usize,
+    table: SharedTable,
+    core: &Core<S>,
+)
+    requires room { room ≤ vec_capacity holdings.old }
+    requires empty { holdings.old.items ≡ [] }
+    requires len { vec_len holdings.old ≡ 0 }
     requires fits { length (spec.owners table core.now) ≤ room }
-    ensures capacity { vec_capacity parts.new ≡ vec_capacity parts.old }
-    ensures listed { AreOf (spec.owners table core.now) parts.new.items }
+    ensures capacity { vec_capacity holdings.new ≡ vec_capacity holdings.old }
+    ensures listed { AreOf (spec.owners table core.now) holdings.new.items }
 {
     match table {
-        SharedTable::ConRecords => list_records(parts, room, Kind::Con, core),
-        SharedTable::NonRecords => list_records(parts, room, Kind::Non, core),
+        SharedTable::ConRecords => list_records(holdings, room, Kind::Con, core),
+        SharedTable::NonRecords => list_records(holdings, room, Kind::Non, core),
         SharedTable::Exchanges => {
             let clients = core.openers();
             clients.laws();
-            list_clients(parts, room, clients);
+            list_clients(holdings, room, clients);
         }
         SharedTable::Waiters => {
             let clients = core.waiting_clients();
             clients.laws();
-            list_clients(parts, room, clients);
+            list_clients(holdings, room, clients);
         }
     }
 }
 
 /// Lists one for each record of messages of a type.
-fn list_records<S: Store + Drop>(parts: &mut Vec<Part>, room: usize, kind: Kind, core: &Core<S>)
-    requires room { room ≤ vec_capacity parts.old }
-    requires empty { parts.old.items ≡ [] }
-    requires len { vec_len parts.old ≡ 0 }
+fn list_records<S: Store + Drop>(
+    holdings: &mut Vec<Holding>,
+    room: usize,
+    kind: Kind,
+    core: &Core<S>,
+)
+    requires room { room ≤ vec_capacity holdings.old }
+    requires empty { holdings.old.items ≡ [] }
+    requires len { vec_len holdings.old ≡ 0 }
     requires fits { length (records_of kind core.now).items ≤ room }
-    ensures capacity { vec_capacity parts.new ≡ vec_capacity parts.old }
-    ensures listed { parts.new.items ≡ record_parts (records_of kind core.now).items }
+    ensures capacity { vec_capacity holdings.new ≡ vec_capacity holdings.old }
+    ensures listed { holdings.new.items ≡ record_holdings (records_of kind core.now).items }
 {
     for place in 0..room {
         let Some(at) = core.record_source(kind, place) else {
             return;
         };
-        parts.push_reserved(Part { at, count: 1 });
+        holdings.push_reserved(Holding { at, count: 1 });
     }
 }
 
 /// Lists what each client has.
-fn list_clients(parts: &mut Vec<Part>, room: usize, clients: &EndpointMap)
-    requires room { room ≤ vec_capacity parts.old }
-    requires empty { parts.old.items ≡ [] }
-    requires len { vec_len parts.old ≡ 0 }
+fn list_clients(holdings: &mut Vec<Holding>, room: usize, clients: &EndpointMap)
+    requires room { room ≤ vec_capacity holdings.old }
+    requires empty { holdings.old.items ≡ [] }
+    requires len { vec_len holdings.old ≡ 0 }
     requires fits { length clients.now.items ≤ room }
     requires gapless { AreGapless clients.now.items }
-    ensures capacity { vec_capacity parts.new ≡ vec_capacity parts.old }
-    ensures listed { parts.new.items ≡ client_parts clients.now.items }
+    ensures capacity { vec_capacity holdings.new ≡ vec_capacity holdings.old }
+    ensures listed { holdings.new.items ≡ client_holdings clients.now.items }
 {
     for place in 0..room {
         let Some(entry) = clients.entry(place as u64 + 1) else {
             return;
         };
-        parts.push_reserved(Part {
+        holdings.push_reserved(Holding {
             at: entry.peer.endpoint(),
             count: entry.counts.all as u64,
         });

@@ -2,13 +2,13 @@
 ghost use Rattle.std.specs.Prelude.{◌≡◌, ℕ, ◌<◌, ◌+◌, ◌^◌, [], true, IfNone, IfSome};
 ghost use Rattle.coap_endpoint.specs.declared.endpoint.Ip.{Ip};
 ghost use Rattle.coap_endpoint.specs.Endpoint.{same_ip};
-ghost use Rattle.coap_core.specs.Parts.{AreGrouped, IsGreatest, greater_of, held_in, sum_with, AreSome};
+ghost use Rattle.coap_core.specs.Holdings.{AreGrouped, IsGreatest, greater_of, held_in, sum_with, AreSome};
 
 use coap_endpoint::Endpoint;
 
 /// What an endpoint has of a table, or some of it.
 #[derive(Clone, Copy, Debug, PartialEq, Eq, PartialOrd, Ord)]
-pub(crate) struct Part {
+pub(crate) struct Holding {
     pub(crate) at: Endpoint,
     pub(crate) count: u64,
 }
@@ -21,25 +21,25 @@ pub(crate) struct Sum {
     pub(crate) ports: u64,
 }
 
-/// The sum with one part more: of the same address, or the first of another.
-fn sum_with(sum: Option<Sum>, part: Part) -> Sum
-    requires { IfSome sum (λ s. same_ip part.at.ip s.last.ip ≡ true
-        → (s.held + part.count < 2 ^ 64) × (s.ports + 1 < 2 ^ 64)) }
-    ensures { result ≡ sum_with sum part }
+/// The sum with one holding more: of the same address, or the first of another.
+fn sum_with(sum: Option<Sum>, holding: Holding) -> Sum
+    requires { IfSome sum (λ s. same_ip holding.at.ip s.last.ip ≡ true
+        → (s.held + holding.count < 2 ^ 64) × (s.ports + 1 < 2 ^ 64)) }
+    ensures { result ≡ sum_with sum holding }
 {
     match sum {
-        Some(sum) if part.at.ip == sum.last.ip => Sum {
-            last: part.at,
-            held: sum.held + part.count,
-            ports: if part.at.port == sum.last.port {
+        Some(sum) if holding.at.ip == sum.last.ip => Sum {
+            last: holding.at,
+            held: sum.held + holding.count,
+            ports: if holding.at.port == sum.last.port {
                 sum.ports
             } else {
                 sum.ports + 1
             },
         },
         Some(_) | None => Sum {
-            last: part.at,
-            held: part.count,
+            last: holding.at,
+            held: holding.count,
             ports: 1,
         },
     }
@@ -56,17 +56,17 @@ fn greater_of(most: Option<Sum>, sum: Sum) -> Option<Sum>
 }
 
 /// The address that has more than any other; of equal ones, the lowest.
-pub(crate) fn most_of(parts: &[Part]) -> Option<Sum>
-    requires grouped { AreGrouped parts.now }
-    requires some { AreSome parts.now }
-    requires few { (ip : Ip) → held_in ip parts.now < 2 ^ 64 }
-    ensures none { IfNone result (parts.now ≡ []) }
-    ensures most { IfSome result (λ s. IsGreatest parts.now s) }
+pub(crate) fn most_of(holdings: &[Holding]) -> Option<Sum>
+    requires grouped { AreGrouped holdings.now }
+    requires some { AreSome holdings.now }
+    requires few { (ip : Ip) → held_in ip holdings.now < 2 ^ 64 }
+    ensures none { IfNone result (holdings.now ≡ []) }
+    ensures most { IfSome result (λ s. IsGreatest holdings.now s) }
 {
     let mut most: Option<Sum> = None;
     let mut sum = None;
-    for place in (0..parts.len()).rev() {
-        let next = sum_with(sum, parts[place]);
+    for place in (0..holdings.len()).rev() {
+        let next = sum_with(sum, holdings[place]);
         sum = Some(next);
         most = greater_of(most, next);
     }

@@ -110,7 +110,7 @@ impl Gap {
 
 /// A part of a target, and the gap before it.
 #[derive(Drop)]
-struct Part<'a> {
+struct TargetPart<'a> {
     gap: Gap,
     values: PartValues<'a>,
 }
@@ -207,7 +207,7 @@ fn put_part(
     room: usize,
     before: u16,
     form: Form<'_, '_, '_>,
-    part: Part<'_>,
+    part: TargetPart<'_>,
 ) -> Result<u16, Full>
     requires room { room ≤ out.old.room }
     requires held { length out.old.bytes ≤ room }
@@ -225,7 +225,7 @@ fn put_part(
     ensures below { IfOk result (λ last. last ≤ end_of part.entry.gap) }
     ensures in_order { AreOptions 0 form.entry.request.now.options }
 {
-    let Part { gap, values } = part;
+    let TargetPart { gap, values } = part;
     let last = put_others(out, room, before, form, gap)?;
     put_values(out, room, last, gap.end(), values)
 }
@@ -245,14 +245,14 @@ fn put_front(out: &mut Datagram, room: usize, form: Form<'_, '_, '_>) -> Result<
     ensures in_order { AreOptions 0 form.entry.request.now.options }
 {
     let target = form.target;
-    let host = Part {
+    let host = TargetPart {
         gap: Gap::BeforeHost,
         values: host_of(target),
     };
     let last = put_part(out, room, 0, form, host)?;
     let last = put_values(out, room, last, numbers::ETAG, PartValues::Given(form.tag))?;
     let bytes = u64::from(target.port.unwrap_or(0)).to_be_bytes();
-    let port = Part {
+    let port = TargetPart {
         gap: Gap::BeforePort,
         values: port_of(target.port, without_zeros(&bytes)),
     };
@@ -275,17 +275,17 @@ fn put_back(
         (unit_of result) }
 {
     let target = form.target;
-    let path = Part {
+    let path = TargetPart {
         gap: Gap::BeforePath,
         values: PartValues::Kept(target.path.iter()),
     };
     let last = put_part(out, room, before, form, path)?;
-    let query = Part {
+    let query = TargetPart {
         gap: Gap::BeforeQuery,
         values: PartValues::Kept(target.query.iter()),
     };
     let last = put_part(out, room, last, form, query)?;
-    let scheme = Part {
+    let scheme = TargetPart {
         gap: Gap::BeforeScheme,
         values: scheme_of(target),
     };

@@ -7,6 +7,6 @@ pub mod Tags
 pub mod Picked
 pub mod Renewals
 pub mod AroundMaxAge
-pub mod PartWriting
+pub mod PickedWriting
 pub mod Measures
 pub mod Updates

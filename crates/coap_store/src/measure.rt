@@ -8,9 +8,9 @@ ghost use Rattle.coap_option.specs.declared.numbers.TheConstants.{MAX_AGE};
 ghost use Rattle.coap_store.specs.Measuring.{Leaves};
 ghost use Rattle.coap_store.specs.Renewing.{max_age_option, with_max_age};
 ghost use Rattle.coap_store.specs.Showing.{addressed, aged};
-ghost use Rattle.coap_store.specs.Writing.{floor_of, part_of};
+ghost use Rattle.coap_store.specs.Writing.{floor_of, side_of};
 
-use crate::show::Part;
+use crate::show::MaxAgeSide;
 use coap_message::{Message, Options, Token, without_zeros};
 use coap_option::numbers;
 
@@ -40,25 +40,30 @@ fn behind_aged(message: &Message, token: &Token, left: u64, room: usize) -> Opti
 fn behind_options(room: usize, options: &Options<'_>, left: u64) -> Option<usize>
     ensures { Leaves room (options_length 0 (with_max_age left options.now)) result }
 {
-    let (room, before) = behind_part(room, 0, options, Part::Before)?;
+    let (room, before) = behind_side(room, 0, options, MaxAgeSide::Before)?;
     let room = behind_max_age(room, before, left)?;
-    let (room, _) = behind_part(room, numbers::MAX_AGE, options, Part::After)?;
+    let (room, _) = behind_side(room, numbers::MAX_AGE, options, MaxAgeSide::After)?;
     Some(room)
 }
 
-/// The room behind those options that stand in this part, after one of the number `before`, and the
+/// The room behind those options that stand on this side, after one of the number `before`, and the
 /// number of the last.
-fn behind_part(room: usize, before: u16, options: &Options<'_>, part: Part) -> Option<(usize, u16)>
-    requires { before ≤ floor_of part }
-    ensures left { Leaves room (options_length before (part_of part options.now))
+fn behind_side(
+    room: usize,
+    before: u16,
+    options: &Options<'_>,
+    side: MaxAgeSide,
+) -> Option<(usize, u16)>
+    requires { before ≤ floor_of side }
+    ensures left { Leaves room (options_length before (side_of side options.now))
         (option_map (λ behind. behind.0) result) }
     ensures last { IfSome result (λ behind.
-        behind.1 ≡ last_number before (part_of part options.now)) }
+        behind.1 ≡ last_number before (side_of side options.now)) }
 {
     let mut behind = room;
     let mut last = before;
     for option in options.iter() {
-        if part.has(option.number) {
+        if side.has(option.number) {
             behind = behind.checked_sub(option_length(last, option.number, option.value))?;
             last = option.number;
         }

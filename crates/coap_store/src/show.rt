@@ -9,7 +9,7 @@ ghost use Rattle.coap_option.specs.declared.numbers.TheConstants.{ETAG, MAX_AGE}
 ghost use Rattle.coap_store.specs.Renewing.{max_age_option, with_max_age};
 ghost use Rattle.coap_store.specs.Envelopes.{enclosed, shown_to};
 ghost use Rattle.coap_store.specs.Showing.{addressed, aged, shown, shows_max_age, aged_or_valid};
-ghost use Rattle.coap_store.specs.Writing.{floor_of, is_in, part_of};
+ghost use Rattle.coap_store.specs.Writing.{floor_of, is_in, side_of};
 
 use crate::envelope::Envelope;
 use crate::tag::held_tag;
@@ -206,52 +206,52 @@ fn put_aged_options(
     ensures { Appends out.old out.new room (options_spelling 0 (with_max_age left options.now))
         result }
 {
-    let before = put_part(out, room, 0, options, Part::Before)?;
+    let before = put_side(out, room, 0, options, MaxAgeSide::Before)?;
     put_max_age(out, room, before, left)?;
-    put_part(out, room, numbers::MAX_AGE, options, Part::After)?;
+    put_side(out, room, numbers::MAX_AGE, options, MaxAgeSide::After)?;
     Ok(())
 }
 
-/// Where an option goes, by its number.
+/// On which side of a Max-Age an option goes, by its number.
 #[derive(Clone, Copy)]
-pub(crate) enum Part {
+pub(crate) enum MaxAgeSide {
     /// Before a Max-Age.
     Before,
     /// After it.
     After,
 }
 
-impl Part {
+impl MaxAgeSide {
     /// Whether an option with this number goes there.
     pub(crate) fn has(self, number: u16) -> bool
         ensures { result ≡ is_in self number }
     {
         match self {
-            Part::Before => number < numbers::MAX_AGE,
-            Part::After => numbers::MAX_AGE < number,
+            MaxAgeSide::Before => number < numbers::MAX_AGE,
+            MaxAgeSide::After => numbers::MAX_AGE < number,
         }
     }
 }
 
-/// Adds the options that go in this part, after one with the number `before`. Returns the number of
+/// Adds the options that go on this side, after one with the number `before`. Returns the number of
 /// the last.
-fn put_part(
+fn put_side(
     out: &mut Datagram,
     room: usize,
     before: u16,
     options: &Options<'_>,
-    part: Part,
+    side: MaxAgeSide,
 ) -> Result<u16, Full>
     requires room { room ≤ out.old.room }
     requires held { length out.old.bytes ≤ room }
-    requires above { before ≤ floor_of part }
+    requires above { before ≤ floor_of side }
     ensures written { Appends out.old out.new room
-        (options_spelling before (part_of part options.now)) (unit_of result) }
-    ensures last { IfOk result (λ last. last ≡ last_number before (part_of part options.now)) }
+        (options_spelling before (side_of side options.now)) (unit_of result) }
+    ensures last { IfOk result (λ last. last ≡ last_number before (side_of side options.now)) }
 {
     let mut last = before;
     for option in options.iter() {
-        if part.has(option.number) {
+        if side.has(option.number) {
             put_option(out, room, last, option.number, option.value)?;
             last = option.number;
         }

@@ -1,6 +1,6 @@
 use Rattle.std.proofs.Common.{◌^◌, arith}
 use Rattle.coap_core.specs.Holders.{owners}
-use Rattle.coap_core.specs.Parts.{AreOf}
+use Rattle.coap_core.specs.Holdings.{AreOf}
 use Rattle.coap_core.proofs.Greatest.{are-permuted, few-of, greatest-there, none-there}
 use Rattle.coap_core.proofs.Grouping.{sorted-grouped}
 use Rattle.coap_core.proofs.holders.greatest.Given.{Over}

@@ -11,7 +11,7 @@ use Rattle.coap_message.specs.Spelling.{option_spelling, options_spelling}
 use Rattle.coap_message.proofs.Appending.{Appends-part}
 use Rattle.coap_option.specs.Selection.{goes_on}
 use Rattle.coap_forward.specs.Gaps.{end_of, is_in, meets, others_in}
-use Rattle.coap_store.proofs.PartWriting.{picked, written-all, written-next}
+use Rattle.coap_store.proofs.PickedWriting.{picked, written-all, written-next}
 use Rattle.coap_forward.proofs.Gaps.{AreOptions-others, last-others, known-others, no-others, whole-gap}
 use Rattle.coap_forward.proofs.form.put_others.Goals as goal
 

@@ -1,4 +1,4 @@
--- Options of a part, written one after the other.
+-- Options that are picked, written one after the other.
 use Rattle.std.proofs.Common.{◌≡◌, ℕ, ◌+◌, ◌≤◌, Bool, true, List, [], ◌∷◌, ◌++◌, length, filter, refl, sym, ap, ◌∙◌, append_assoc, append-nil, arith}
 use Rattle.std.proofs.lemmas.List.{length-append}
 use Rattle.coap_message.specs.declared.options.Opt.{Opt}
