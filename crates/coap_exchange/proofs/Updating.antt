@@ -7,9 +7,9 @@ use Rattle.endpoint_counts.specs.Clients.{AreOfClients, AreWithin, Clients, coun
 use Rattle.coap_pending.specs.Exchanges.{is_queued_to, is_with, changed_by, is_queued, is_sent_to, AreExchanges, CanChange, CanUpdate, is_sent, is_sent_after}
 use Rattle.endpoint_counts.specs.Endpoints.{open_in, queued_in, sent_in, Endpoints}
 use Rattle.coap_exchange.specs.Counted.{AreCounted, IsRecounted}
-use Rattle.coap_exchange.specs.SendQueue.{is_moved, mover}
+use Rattle.coap_exchange.specs.SendQueue.{is_moved, head_may_change_at}
 use Rattle.coap_pending.specs.Table.{Numbered, Table, IsTable, count, item_at, passes}
-use Rattle.coap_exchange.specs.Updates.{leaver, updated, updated_at, Allows}
+use Rattle.coap_exchange.specs.Updates.{client_of_removed, updated, updated_at, Allows}
 use Rattle.endpoint_counts.proofs.ByClient.{of_clients-changed, of_clients-without, whose, within-changed, within-without}
 use Rattle.coap_pending.proofs.Changes.{changed_at-is}
 use Rattle.coap_pending.proofs.Counts.{one_if}
@@ -47,7 +47,7 @@ module _ {A C : Type 0} (made : C → A → A) (n : ℕ) where
 
     module _ (who : A → Endpoint) (stays : (c : C) (x : A) → who (made c x) ≡ who x) where
       -- each client has as many items as are counted
-      pub of_clients-updated : (change : Option C) (old new : Clients) → ((e : Endpoint) → count_of new e ≡ count_of old e - one_of (leaver who change (item_at n t.items)) e) → AreOfClients (whose who) t.items old → AreOfClients (whose who) (updated_at made change n t.items) new
+      pub of_clients-updated : (change : Option C) (old new : Clients) → ((e : Endpoint) → count_of new e ≡ count_of old e - one_of (client_of_removed who change (item_at n t.items)) e) → AreOfClients (whose who) t.items old → AreOfClients (whose who) (updated_at made change n t.items) new
       of_clients-updated None old new less are = of_clients-without who n t old new is less are
       of_clients-updated (Some c) old new less are = λ e. omega (arith, less e, of_clients-changed who n (made c) t.items old (stays c) are e)
 
@@ -85,22 +85,22 @@ unmoved-queued true other e = absurd cc
 unmoved-queued false other e = refl
 
 -- an exchange that changes leaves other endpoints as they are
-mover-stays : (change : Option Change) (o : Option Exchange) → Allows (λ c x. is_queued (changed_by c x) ≡ false) change o → StaysElsewhere (mover change o) o (updated changed_by change o)
-mover-stays None None off = λ e other. (refl, refl)
-mover-stays (Some c) None off = λ e other. (refl, refl)
-mover-stays None (Some x) off = λ e other. (
+head_may_change_at-stays : (change : Option Change) (o : Option Exchange) → Allows (λ c x. is_queued (changed_by c x) ≡ false) change o → StaysElsewhere (head_may_change_at change o) o (updated changed_by change o)
+head_may_change_at-stays None None off = λ e other. (refl, refl)
+head_may_change_at-stays (Some c) None off = λ e other. (refl, refl)
+head_may_change_at-stays None (Some x) off = λ e other. (
   elsewhere x.key.target.at e (is_moved None x) (is_sent x) false (unmoved-sent (is_queued x) (is_sent x) false) other,
   elsewhere x.key.target.at e (is_moved None x) (is_queued x) false (unmoved-queued (is_queued x) _) other,
 )
-mover-stays (Some c) (Some x) off = λ e other. (
+head_may_change_at-stays (Some c) (Some x) off = λ e other. (
   ap (λ (b : Bool). b && same_endpoint (changed_by c x).key.target.at e) (sends-is c x) ∙ ap (λ (d : Endpoint). is_sent_after c (is_sent x) && same_endpoint d e) (endpoint-after c x) ∙ elsewhere x.key.target.at e (is_moved (Some c) x) (is_sent x) (is_sent_after c (is_sent x)) (unmoved-sent (is_queued x) (is_sent x) (is_sent_after c (is_sent x))) other,
   ap (λ (b : Bool). b && same_endpoint (changed_by c x).key.target.at e) off ∙ elsewhere x.key.target.at e (is_moved (Some c) x) (is_queued x) false (unmoved-queued (is_queued x) _) other,
 )
 
--- how many are sent to its endpoint is how many are sent to the mover's
-pub mover-sent : (change : Option Change) (o : Option Exchange) (sent : ℕ) (xs : List (Numbered Exchange)) (endpoints : Endpoints) → AreCounted xs endpoints → IfSome o (λ x. sent ≡ sent_in endpoints x.key.target.at) → IfSome (mover change o) (λ at. sent ≡ count (is_sent_to at) xs)
-mover-sent change None sent xs endpoints are is = tt
-mover-sent change (Some x) sent xs endpoints are is = go (is_moved change x)
+-- how many are sent to its endpoint is how many are sent to where the head may change
+pub head_may_change_at-sent : (change : Option Change) (o : Option Exchange) (sent : ℕ) (xs : List (Numbered Exchange)) (endpoints : Endpoints) → AreCounted xs endpoints → IfSome o (λ x. sent ≡ sent_in endpoints x.key.target.at) → IfSome (head_may_change_at change o) (λ at. sent ≡ count (is_sent_to at) xs)
+head_may_change_at-sent change None sent xs endpoints are is = tt
+head_may_change_at-sent change (Some x) sent xs endpoints are is = go (is_moved change x)
   where
     go : (b : Bool) → IfSome (cond b (Some x.key.target.at) None) (λ at. sent ≡ count (is_sent_to at) xs)
     go true = is ∙ are.sent x.key.target.at
@@ -124,9 +124,9 @@ module _ (n : ℕ) where
   updated-off None xs can = without-off n xs
   updated-off (Some c) xs can = changed-off n (changed_by c) xs can.2
 
-  -- the heads of other endpoints than the mover's stay
-  pub stays-updated : (change : Option Change) (xs : List (Numbered Exchange)) → CanUpdate change (item_at n xs) → StaysElsewhere (mover change (item_at n xs)) (item_at n xs) (item_at n (updated_at changed_by change n xs))
-  stays-updated change xs can = subst (StaysElsewhere (mover change (item_at n xs)) (item_at n xs)) (sym (updated-at changed_by n change xs)) (mover-stays change (item_at n xs) (never-queued change (item_at n xs) can))
+  -- the heads stay elsewhere than where one may change
+  pub stays-updated : (change : Option Change) (xs : List (Numbered Exchange)) → CanUpdate change (item_at n xs) → StaysElsewhere (head_may_change_at change (item_at n xs)) (item_at n xs) (item_at n (updated_at changed_by change n xs))
+  stays-updated change xs can = subst (StaysElsewhere (head_may_change_at change (item_at n xs)) (item_at n xs)) (sym (updated-at changed_by n change xs)) (head_may_change_at-stays change (item_at n xs) (never-queued change (item_at n xs) can))
 
   module _ (t : Table Exchange) (is : IsTable t) where
     -- what is there was there, and was admitted at the same moment

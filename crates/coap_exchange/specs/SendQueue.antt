@@ -39,9 +39,9 @@ is_moved change x =
     else is_sent_then change (is_sent x))
 
 -- the endpoint of which the head may be another after a change
-abbrev pub mover : Option Change → Option Exchange → Option Endpoint
-mover change None = None
-mover change (Some x) = if is_moved change x then Some x.key.target.at else None
+abbrev pub head_may_change_at : Option Change → Option Exchange → Option Endpoint
+head_may_change_at change None = None
+head_may_change_at change (Some x) = if is_moved change x then Some x.key.target.at else None
 
 -- the index holds the heads of all endpoints, and nothing else
 pub record AreHeads (items : List (Numbered Exchange)) (heads : OrderedIndex) : Type 0 where

@@ -21,6 +21,6 @@ Allows can None found = Unit {0}
 Allows can (Some change) found = IfSome found (can change)
 
 -- the client that has one item less, if an item is removed
-abbrev pub leaver : {A C : Type 0} → (A → Endpoint) → Option C → Option A → Option Endpoint
-leaver client None found = option_map client found
-leaver client (Some change) found = None
+abbrev pub client_of_removed : {A C : Type 0} → (A → Endpoint) → Option C → Option A → Option Endpoint
+client_of_removed client None found = option_map client found
+client_of_removed client (Some change) found = None

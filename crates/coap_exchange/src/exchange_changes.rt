@@ -8,12 +8,12 @@ ghost use Rattle.coap_exchange.specs.Index.{keys_at, AreIndexed};
 ghost use Rattle.endpoint_counts.specs.Endpoints.{open_in, queued_in, sent_in};
 ghost use Rattle.coap_exchange.specs.Counted.{AreCounted, IsRecounted};
 ghost use Rattle.coap_pending.specs.Table.{item_at, changed_at, all_changed, count, passes, IsTable};
-ghost use Rattle.coap_exchange.specs.Updates.{leaver, updated, updated_at, Allows};
+ghost use Rattle.coap_exchange.specs.Updates.{client_of_removed, updated, updated_at, Allows};
 
 use crate::exchanges::Exchanges;
 use crate::index::{ExchangeKeys, Index, keys_at, keys_in, keys_of};
 use crate::indexed_exchange::{IndexedExchange, client_of};
-use crate::send_queue::{head_of, mover_of};
+use crate::send_queue::{head_may_change_at, head_of};
 use crate::table::{Items, Table, place_in};
 use coap_endpoint::Target;
 use coap_pending::{Change, ExchangeNumber};
@@ -31,11 +31,11 @@ impl Exchanges {
             ≡ record self.old { items = updated_at changed_by change number self.old.items } }
     {
         let found = self.table.get(number);
-        let at = mover_of(found, &change);
+        let at = head_may_change_at(found, &change);
         let sent = recount(&mut self.endpoints, &self.table, number, found, &change);
         let head = head_of(&self.table, &self.index, self.queued, &at, sent.was);
         let queued = queued_without(self.queued, &self.table, number, found);
-        depart(&mut self.clients, leaver_of(found, &change));
+        depart(&mut self.clients, client_of_removed(found, &change));
         let secret = self.index.secret;
         let was = keys_in(found, secret);
         self.queued = queued;
@@ -240,15 +240,15 @@ fn recount(
                 sent: change.is_sent_after(was.sent),
                 queued: false,
             };
-            move_one(endpoints, listed.peer(), was, is)
+            move_one(endpoints, listed.origin(), was, is)
         }
-        None => close_one(endpoints, listed.peer(), was),
+        None => close_one(endpoints, listed.origin(), was),
     }
 }
 
 /// The client that opened an exchange which is removed, if it is and there is one.
-fn leaver_of(found: Option<&IndexedExchange>, change: &Option<Change>) -> Option<Peer>
-    ensures exact { result ≡ leaver (λ x. x.client) change.now (option_copied found.entry) }
+fn client_of_removed(found: Option<&IndexedExchange>, change: &Option<Change>) -> Option<Peer>
+    ensures exact { result ≡ client_of_removed (λ x. x.client) change.now (option_copied found.entry) }
 {
     match change {
         Some(_) => None,

@@ -327,7 +327,7 @@ impl Exchanges {
         ensures ok { OnOk result (self.new ≡ admitted_to listed self.old) }
         ensures err { OnErr result (self.new ≡ self.old) }
     {
-        let (opener, at) = (listed.client(), listed.peer());
+        let (opener, at) = (listed.client(), listed.origin());
         let now = listed.exchange().admitted;
         self.table.laws();
         self.send_queue.heads.laws();

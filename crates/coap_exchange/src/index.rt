@@ -248,7 +248,7 @@ fn queue_of(listed: &IndexedExchange) -> Option<u64>
 {
     let exchange = listed.exchange();
     if exchange.is_queued() {
-        Some(listed.peer().digest())
+        Some(listed.origin().digest())
     } else {
         None
     }

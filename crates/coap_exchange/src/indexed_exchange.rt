@@ -22,7 +22,7 @@ pub(crate) struct IndexedExchange {
     /// The client that opened it.
     client: Peer,
     /// The endpoint that its request is sent to.
-    peer: Peer,
+    origin: Peer,
 }
 
 impl Model for IndexedExchange {
@@ -34,7 +34,7 @@ impl Model for IndexedExchange {
     ghost view = { λ l. l.exchange };
 
     ghost invariant = { λ l.
-        (l.client ≡ l.exchange.client) × (l.peer ≡ l.exchange.key.target.at) };
+        (l.client ≡ l.exchange.client) × (l.origin ≡ l.exchange.key.target.at) };
 }
 
 impl IndexedExchange {
@@ -49,11 +49,11 @@ impl IndexedExchange {
         ensures exact { IfOk result (λ exchange. exchange ≡ opened opening.entry) }
     {
         let client = opening.client;
-        let peer = Peer::new(opening.key.key().target.at);
+        let origin = Peer::new(opening.key.key().target.at);
         Ok(IndexedExchange {
             exchange: opening.opened(alloc)?,
             client,
-            peer,
+            origin,
         })
     }
 
@@ -72,10 +72,10 @@ impl IndexedExchange {
     }
 
     /// The endpoint that its request is sent to.
-    pub(crate) fn peer(&self) -> Peer
+    pub(crate) fn origin(&self) -> Peer
         ensures exact { result ≡ self.now.key.target.at }
     {
-        self.peer
+        self.origin
     }
 
     /// What of it is counted for its endpoint.

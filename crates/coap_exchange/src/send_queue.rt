@@ -4,7 +4,7 @@ ghost use Rattle.std.specs.Option.{option_copied};
 ghost use Rattle.coap_pending.specs.Exchanges.{is_queued, is_sent_to};
 ghost use Rattle.coap_pending.specs.Table.{count};
 ghost use Rattle.coap_exchange.specs.Index.{AreIndexed};
-ghost use Rattle.coap_exchange.specs.SendQueue.{head_in, head_with, lower, mover, noted, IsSendQueue, IsLowestUnder};
+ghost use Rattle.coap_exchange.specs.SendQueue.{head_in, head_with, lower, head_may_change_at, noted, IsSendQueue, IsLowestUnder};
 
 use crate::index::{Index, Sought, first_sought};
 use crate::indexed_exchange::IndexedExchange;
@@ -81,8 +81,11 @@ fn lower(first: Option<ExchangeNumber>, number: ExchangeNumber) -> Option<Exchan
 /// The endpoint of which the head may be another after a change of this exchange, or, without a
 /// change, once it is removed. It is that of an exchange that waits for its turn, or that enters or
 /// leaves the sent state.
-pub(crate) fn mover_of(found: Option<&IndexedExchange>, change: &Option<Change>) -> Option<Peer>
-    ensures exact { result ≡ mover change.now (option_copied found.entry) }
+pub(crate) fn head_may_change_at(
+    found: Option<&IndexedExchange>,
+    change: &Option<Change>,
+) -> Option<Peer>
+    ensures exact { result ≡ head_may_change_at change.now (option_copied found.entry) }
 {
     let listed = found?;
     let was = listed.stage();
@@ -91,7 +94,7 @@ pub(crate) fn mover_of(found: Option<&IndexedExchange>, change: &Option<Change>)
         None => false,
     };
     if was.queued || was.sent != sent {
-        Some(listed.peer())
+        Some(listed.origin())
     } else {
         None
     }

@@ -102,7 +102,7 @@ impl Table<IndexedExchange> {
             ≡ due_row (turn_among nstart self.now.items) (number, listed.now) }
     {
         let exchange = listed.exchange();
-        if exchange.is_queued() && counts_of(endpoints, listed.peer()).sent < nstart {
+        if exchange.is_queued() && counts_of(endpoints, listed.origin()).sent < nstart {
             Some((exchange.admitted, number))
         } else {
             None

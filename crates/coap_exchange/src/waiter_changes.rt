@@ -6,7 +6,7 @@ ghost use Rattle.indexmap.specs.IndexMap.{get};
 ghost use Rattle.coap_exchange.specs.WaiterIndex.{waiter_keys_at};
 ghost use Rattle.coap_pending.specs.Table.{item_at, changed_at, count, passes, IsTable};
 ghost use Rattle.coap_pending.specs.Waiters.{changed_by, is_waiting, CanChange, CanUpdate};
-ghost use Rattle.coap_exchange.specs.Updates.{leaver, updated, updated_at, Allows};
+ghost use Rattle.coap_exchange.specs.Updates.{client_of_removed, updated, updated_at, Allows};
 
 use crate::table::{Items, Table, place_in};
 use crate::waiter_index::{WaiterKeys, waiter_keys_in, waiter_keys_of};
@@ -26,7 +26,7 @@ impl Waiters {
     {
         let found = self.table.get(number);
         let waiting = waiting_without(self.waiting, &self.table, number, found);
-        depart(&mut self.clients, leaver_of(found, &change));
+        depart(&mut self.clients, client_of_removed(found, &change));
         let was = waiter_keys_in(found);
         self.waiting = waiting;
         let is = self.table.update(number, change, self.alloc);
@@ -121,8 +121,8 @@ fn waiting_without(
 }
 
 /// The client of a waiter that is removed, if it is and there is one.
-fn leaver_of(found: Option<&Waiter>, change: &Option<WaiterChange>) -> Option<Peer>
-    ensures exact { result ≡ leaver (λ w. w.client) change.now (option_copied found.entry) }
+fn client_of_removed(found: Option<&Waiter>, change: &Option<WaiterChange>) -> Option<Peer>
+    ensures exact { result ≡ client_of_removed (λ w. w.client) change.now (option_copied found.entry) }
 {
     match (found, change) {
         (Some(waiter), None) => Some(Peer::new(waiter.client)),

@@ -22,20 +22,20 @@ next-is c =
     let t = c.self.inside.table in
     let waits : is_queued c.args.listed ≡ true = rw c.requires.state refl in
     let unsent : is_sent c.args.listed ≡ false = rw c.requires.state refl in
-    c.head_with-next.ensures.exact ∙ (rw (c.head_of-head.ensures.exact, c.in-Ok.ensures.number, c.peer-at.ensures.exact) (head-push t.items (t.admitted + 1) c.args.listed c.open_one-sent.result waits unsent (rw c.peer-at.ensures.exact at c.open_one-sent.ensures.exact ∙ c.self.invariant.1.sent c.args.listed.key.target.at)))
+    c.head_with-next.ensures.exact ∙ (rw (c.head_of-head.ensures.exact, c.in-Ok.ensures.number, c.origin-at.ensures.exact) (head-push t.items (t.admitted + 1) c.args.listed c.open_one-sent.result waits unsent (rw c.origin-at.ensures.exact at c.open_one-sent.ensures.exact ∙ c.self.invariant.1.sent c.args.listed.key.target.at)))
 
 pub head_of-head-requires-clause-sent : goal.head_of-head-requires-clause-sent
-head_of-head-requires-clause-sent c = c.open_one-sent.ensures.exact ∙ c.self.invariant.1.sent c.peer-at.result
+head_of-head-requires-clause-sent c = c.open_one-sent.ensures.exact ∙ c.self.invariant.1.sent c.origin-at.result
 
 pub open_one-sent-requires-clause-all : goal.open_one-sent-requires-clause-all
 open_one-sent-requires-clause-all c =
     let room = rw (← c.self.view_is) at c.requires.room in
-    omega (arith, room, count-length (is_with c.peer-at.result) c.self.inside.table.items, c.self.invariant.1.all c.peer-at.result, c.laws.ensures.fits)
+    omega (arith, room, count-length (is_with c.origin-at.result) c.self.inside.table.items, c.self.invariant.1.all c.origin-at.result, c.laws.ensures.fits)
 
 pub open_one-sent-requires-clause-queued : goal.open_one-sent-requires-clause-queued
 open_one-sent-requires-clause-queued c =
     let room = rw (← c.self.view_is) at c.requires.room in
-    omega (arith, room, queued-less c.self.inside.endpoints c.self.inside.table.items c.peer-at.result c.self.invariant.1, count-length (is_with c.peer-at.result) c.self.inside.table.items, c.self.invariant.1.all c.peer-at.result, c.laws.ensures.fits)
+    omega (arith, room, queued-less c.self.inside.endpoints c.self.inside.table.items c.origin-at.result c.self.invariant.1, count-length (is_with c.origin-at.result) c.self.inside.table.items, c.self.invariant.1.all c.origin-at.result, c.laws.ensures.fits)
 
 pub enter-requires-clause-few : goal.enter-requires-clause-few
 enter-requires-clause-few c =
@@ -71,7 +71,7 @@ replace-requires-clause-free c =
     let is = c.laws.ensures.sound in
     let t = c.self.inside.table in
     let room : length t.items < t.limit = rw (← c.self.view_is) at c.requires.room in
-    rw (c.head_of-head.ensures.exact, next-is (goal.at.replace-requires-clause-free c).After-head_with-next, c.peer-at.ensures.exact)
+    rw (c.head_of-head.ensures.exact, next-is (goal.at.replace-requires-clause-free c).After-head_with-next, c.origin-at.ensures.exact)
     (admitted-free t _ is room c.self.inside.send_queue c.self.invariant.3 (heads-room t c.self.inside.send_queue is room c.self.invariant.3 c.laws-2.ensures c.self.invariant.6.for_heads))
 
 pub replace-requires-clause-room : goal.replace-requires-clause-room
@@ -90,13 +90,13 @@ invariant_of-self c =
     let room : length t.items < t.limit = rw (← c.self.view_is) at c.requires.room in
     let own_room : count (is_opened_by c.args.listed.client) t.items < t.per_client = rw (← c.self.view_is) at c.requires.client_room in
     let passed = rw (c.keys_in-was.ensures.exact, c.keys_of-is.ensures.exact, c.in-Ok.ensures.number) at c.rekey.ensures.exact in
-    let len = rw (c.head_of-head.ensures.exact, next-is (goal.at.invariant_of-self c).After-head_with-next, c.peer-at.ensures.exact) at c.replace.ensures.length in
-    let replaced = rw (c.head_of-head.ensures.exact, next-is (goal.at.invariant_of-self c).After-head_with-next, c.peer-at.ensures.exact) at c.replace.ensures.replaced in
+    let len = rw (c.head_of-head.ensures.exact, next-is (goal.at.invariant_of-self c).After-head_with-next, c.origin-at.ensures.exact) at c.replace.ensures.length in
+    let replaced = rw (c.head_of-head.ensures.exact, next-is (goal.at.invariant_of-self c).After-head_with-next, c.origin-at.ensures.exact) at c.replace.ensures.replaced in
     let waits : is_queued c.args.listed ≡ true = rw c.requires.state refl in
     let unsent : is_sent c.args.listed ≡ false = rw c.requires.state refl in
     rw (c.in-Ok.ensures.ok, c.note.ensures.exact, c.exchange.ensures.exact) (
       exchanges-push t.items c.self.inside.queued _ waits c.requires.now c.requires.sending c.self.invariant.0,
-      counted-push t.items c.self.inside.endpoints c.open_one-sent.new.endpoints _ _ unsent waits c.self.invariant.1 (rw c.peer-at.ensures.exact at c.open_one-sent.ensures.all) c.open_one-sent.ensures.sent (rw c.peer-at.ensures.exact at c.open_one-sent.ensures.queued),
+      counted-push t.items c.self.inside.endpoints c.open_one-sent.new.endpoints _ _ unsent waits c.self.invariant.1 (rw c.origin-at.ensures.exact at c.open_one-sent.ensures.all) c.open_one-sent.ensures.sent (rw c.origin-at.ensures.exact at c.open_one-sent.ensures.queued),
       have-passed-as (t.admitted + 1) t.limit t.items (admitted_to x t).items c.self.inside.index (moves-admitted t x is) c.self.invariant.2 _ _ (item_at-fresh t is) (item_at-last t.admitted (t.admitted + 1) t.items x (omega arith) is.below) c.rekey.new.self passed (admitted-is t x is room).rising,
       send_queue-more t _ is room c.self.inside.send_queue c.self.invariant.3 (heads-room t c.self.inside.send_queue is room c.self.invariant.3 c.laws-2.ensures c.self.invariant.6.for_heads) c.replace.new.self c.replace.ensures.limit len replaced,
       of_clients-push (λ (x : Exchange). x.client) t.items c.self.inside.clients c.enter.new.clients (t.admitted + 1) x (rw c.client-opener.ensures.exact at c.enter.ensures.exact) c.self.invariant.4,
@@ -106,26 +106,26 @@ invariant_of-self c =
 
 pub close_one-requires-clause-all : goal.close_one-requires-clause-all
 close_one-requires-clause-all c =
-    let more = c.open_one-sent.ensures.all c.peer-at.result in
-    let one = one-itself c.peer-at.result in
+    let more = c.open_one-sent.ensures.all c.origin-at.result in
+    let one = one-itself c.origin-at.result in
     omega (arith, more, one)
 
 pub close_one-requires-clause-sent : goal.close_one-requires-clause-sent
 close_one-requires-clause-sent c =
-    let more = c.open_one-sent.ensures.all c.peer-at.result in
-    let one = one-itself c.peer-at.result in
-    let same = c.open_one-sent.ensures.sent c.peer-at.result in
-    omega (arith, more, one, same, sent-less c.self.inside.endpoints c.self.inside.table.items c.peer-at.result c.self.invariant.1)
+    let more = c.open_one-sent.ensures.all c.origin-at.result in
+    let one = one-itself c.origin-at.result in
+    let same = c.open_one-sent.ensures.sent c.origin-at.result in
+    omega (arith, more, one, same, sent-less c.self.inside.endpoints c.self.inside.table.items c.origin-at.result c.self.invariant.1)
 
 pub close_one-requires-clause-queued : goal.close_one-requires-clause-queued
 close_one-requires-clause-queued c =
-    let all = c.open_one-sent.ensures.all c.peer-at.result in
-    let queued = c.open_one-sent.ensures.queued c.peer-at.result in
-    let one = one-itself c.peer-at.result in
-    omega (arith, all, queued, one, queued-less c.self.inside.endpoints c.self.inside.table.items c.peer-at.result c.self.invariant.1)
+    let all = c.open_one-sent.ensures.all c.origin-at.result in
+    let queued = c.open_one-sent.ensures.queued c.origin-at.result in
+    let one = one-itself c.origin-at.result in
+    omega (arith, all, queued, one, queued-less c.self.inside.endpoints c.self.inside.table.items c.origin-at.result c.self.invariant.1)
 
 pub replace-requires-clause-there : goal.replace-requires-clause-there
-replace-requires-clause-there c = rw c.head_of-head.ensures.exact (head-among c.self.inside.table.items c.self.inside.send_queue.heads c.self.invariant.3.heads (Some c.peer-at.result))
+replace-requires-clause-there c = rw c.head_of-head.ensures.exact (head-among c.self.inside.table.items c.self.inside.send_queue.heads c.self.invariant.3.heads (Some c.origin-at.result))
 
 pub invariant_of-self-in-Err : goal.invariant_of-self-in-Err
 invariant_of-self-in-Err c =
@@ -133,7 +133,7 @@ invariant_of-self-in-Err c =
     let same = c.in-Err.ensures.err in
     rw same (
       c.self.invariant.0,
-      counted-undone t.items c.self.inside.endpoints c.open_one-sent.new.endpoints c.close_one.new.endpoints c.peer-at.result c.self.invariant.1 c.open_one-sent.ensures.all c.open_one-sent.ensures.sent c.open_one-sent.ensures.queued c.close_one.ensures.all c.close_one.ensures.sent c.close_one.ensures.queued,
+      counted-undone t.items c.self.inside.endpoints c.open_one-sent.new.endpoints c.close_one.new.endpoints c.origin-at.result c.self.invariant.1 c.open_one-sent.ensures.all c.open_one-sent.ensures.sent c.open_one-sent.ensures.queued c.close_one.ensures.all c.close_one.ensures.sent c.close_one.ensures.queued,
       c.self.invariant.2,
       c.self.invariant.3,
       of_clients-undone (λ (x : Exchange). x.client) t.items c.self.inside.clients c.enter.new.clients c.depart.new.clients c.client-opener.result c.enter.ensures.exact c.depart.ensures.exact c.self.invariant.4,

@@ -11,4 +11,4 @@ invariant_of-self c =
     let l = c.self.inside in
     let client = ap (λ (x : Exchange). x.client) c.taint.ensures.exact ∙ client-tainted c.args.target.now l.exchange in
     let key = ap (λ (x : Exchange). x.key) c.taint.ensures.exact ∙ key-tainted c.args.target.now l.exchange in
-    (subst (λ (e : Endpoint). l.client ≡ e) (sym client) c.self.invariant.0, subst (λ (k : CacheKey). l.peer ≡ k.target.at) (sym key) c.self.invariant.1)
+    (subst (λ (e : Endpoint). l.client ≡ e) (sym client) c.self.invariant.0, subst (λ (k : CacheKey). l.origin ≡ k.target.at) (sym key) c.self.invariant.1)

@@ -30,7 +30,7 @@ invariant_of-self c =
       waiters-updated n t is c.args.change c.self.inside.waiting c.waiting_without-waiting.result c.self.inside.index.awaited.pairs c.rekey.new.self.awaited.pairs c.self.invariant.0 can c.waiting_without-waiting.ensures.fewer passed.counts,
       keys-passed n t (record t { items = updated_at changed_by c.args.change n t.items }) (step-updated t is changed_by c.args.change n) c.self.inside.index c.self.invariant.1 _ _ refl (updated-at changed_by n c.args.change t.items) c.rekey.new.self passed,
       updated-is changed_by n t is c.args.change,
-      of_clients-updated changed_by n t is (λ (w : Waiter). w.client) client-after c.args.change c.self.inside.clients c.depart.new.clients (rw (c.leaver_of.ensures.exact, c.get-found.ensures.exact) at c.depart.ensures.exact) c.self.invariant.3,
+      of_clients-updated changed_by n t is (λ (w : Waiter). w.client) client-after c.args.change c.self.inside.clients c.depart.new.clients (rw (c.client_of_removed.ensures.exact, c.get-found.ensures.exact) at c.depart.ensures.exact) c.self.invariant.3,
       within-updated changed_by n t is (λ (w : Waiter). w.client) client-after c.args.change c.self.invariant.4,
       c.depart.ensures.limit ∙ c.self.invariant.5,
     )
