@@ -27,16 +27,16 @@ verdict_seen (RefusedWith code) key = verdicts.refused_with code
 verdict_seen MayAsk key = verdicts.may_ask key
 
 -- a request may be forwarded for what it asks for: to its target
-pub record IsForwardable (m : Message) (asked : CacheQuery) : Type 0 where
+pub record IsForwardable (m : Message) (query : CacheQuery) : Type 0 where
   pub method : is_method m.code ≡ true
-  pub survey : IsSurvey m asked.survey
-  pub target : IsTarget asked.key.target
+  pub survey : IsSurvey m query.survey
+  pub target : IsTarget query.key.target
 
 -- the request may be forwarded: this is what it asks for
-pub record IsAsked (w : State) (m : Message) (asked : CacheQuery) : Type 0 where
-  pub key : verdicts.verdict_of w.setting.routes m ≡ verdicts.may_ask asked.key
-  pub tags : asked.tags ≡ tags_of m
-  pub survey : IsSurvey m asked.survey
+pub record IsAsked (w : State) (m : Message) (query : CacheQuery) : Type 0 where
+  pub key : verdicts.verdict_of w.setting.routes m ≡ verdicts.may_ask query.key
+  pub tags : query.tags ≡ tags_of m
+  pub survey : IsSurvey m query.survey
 
 -- what is stored for the key of a request: only a GET is answered from the store, or validates
 abbrev pub held_for : State → Message → CacheKey → Option Stored

@@ -72,21 +72,21 @@ impl<S: Store + Drop> State<S> {
     pub(crate) fn on_miss(
         &mut self,
         arrival: Arrival<'_, '_>,
-        asked: &CacheQuery,
+        query: &CacheQuery,
         miss: Miss,
         out: &mut Datagram,
     ) -> Result<Report, OutOfMemory>
-        requires ask { CanAsk arrival asked.now miss self.old }
-        requires can { CanDo (of_arrival (missed_step self.old) arrival asked.now.key)
+        requires ask { CanAsk arrival query.now miss self.old }
+        requires can { CanDo (of_arrival (missed_step self.old) arrival query.now.key)
             arrival.now self.old out.old }
         ensures { IsDoneFor arrival.entry
-            (of_arrival (missed_step self.old) arrival.entry asked.now.key)
+            (of_arrival (missed_step self.old) arrival.entry query.now.key)
             result out.old out.new self.old self.new }
     {
         let exchanges = self.under_way.exchanges();
-        match exchanges.joinable_as(&asked.key) {
-            Some(exchange) => self.on_joinable(arrival, exchange, asked, out),
-            None => self.on_exchange_needed(arrival, asked, miss, out),
+        match exchanges.joinable_as(&query.key) {
+            Some(exchange) => self.on_joinable(arrival, exchange, query, out),
+            None => self.on_exchange_needed(arrival, query, miss, out),
         }
     }
 
@@ -95,12 +95,12 @@ impl<S: Store + Drop> State<S> {
         &mut self,
         arrival: Arrival<'_, '_>,
         exchange: ExchangeNumber,
-        asked: &CacheQuery,
+        query: &CacheQuery,
         out: &mut Datagram,
     ) -> Result<Report, OutOfMemory>
         requires can { CanSend (of_arrival (joinable_step self.old) arrival exchange)
             arrival self.old out.old }
-        requires tags { asked.now.tags ≡ tags_of arrival.message.now }
+        requires tags { query.now.tags ≡ tags_of arrival.message.now }
         ensures { IsDoneFor arrival.entry
             (of_arrival (joinable_step self.old) arrival.entry exchange)
             result out.old out.new self.old self.new }
@@ -109,7 +109,7 @@ impl<S: Store + Drop> State<S> {
         if !self.has_room_to_join(arrival.now, client) {
             return self.overload(arrival, out);
         }
-        let tags = asked.tags.clone()?;
+        let tags = query.tags.clone()?;
         self.join(arrival, client, exchange, tags, out)
     }
 
@@ -119,18 +119,18 @@ impl<S: Store + Drop> State<S> {
     pub(crate) fn on_exchange_needed(
         &mut self,
         arrival: Arrival<'_, '_>,
-        asked: &CacheQuery,
+        query: &CacheQuery,
         miss: Miss,
         out: &mut Datagram,
     ) -> Result<Report, OutOfMemory>
-        requires ask { CanAsk arrival asked.now miss self.old }
-        requires can { CanDo (of_arrival (needing_step self.old) arrival asked.now.key)
+        requires ask { CanAsk arrival query.now miss self.old }
+        requires can { CanDo (of_arrival (needing_step self.old) arrival query.now.key)
             arrival.now self.old out.old }
         ensures { IsDoneFor arrival.entry
-            (of_arrival (needing_step self.old) arrival.entry asked.now.key)
+            (of_arrival (needing_step self.old) arrival.entry query.now.key)
             result out.old out.new self.old self.new }
     {
-        if self.put_request(arrival.message, asked, None, out).is_err() {
+        if self.put_request(arrival.message, query, None, out).is_err() {
             let code = Code::REQUEST_ENTITY_TOO_LARGE;
             return self.refuse(arrival, code, out);
         }
@@ -138,11 +138,11 @@ impl<S: Store + Drop> State<S> {
         if !self.has_room_to_open(arrival.now, client) {
             return self.overload(arrival, out);
         }
-        let copy = self.put_validating(arrival.message, asked, miss, out)?;
+        let copy = self.put_validating(arrival.message, query, miss, out)?;
         let new = NewExchange {
             client,
-            key: &asked.key,
-            tags: asked.tags.clone()?,
+            key: &query.key,
+            tags: query.tags.clone()?,
             copy,
         };
         self.open(arrival, new, out)
@@ -155,45 +155,45 @@ impl<S: Store + Drop> State<S> {
     fn put_validating(
         &self,
         request: &MessageRef<'_>,
-        asked: &CacheQuery,
+        query: &CacheQuery,
         miss: Miss,
         out: &mut Datagram,
     ) -> Result<Option<Stored>, OutOfMemory>
         requires can { CanGoOn self.now }
-        requires missed { IsMissed self.now request.now asked.now.key miss }
+        requires missed { IsMissed self.now request.now query.now.key miss }
         requires room { self.now.setting.limits.datagram ≤ out.old.room }
-        requires forwardable { IsForwardable request.now asked.now }
-        requires fits { form_fits self.now.setting.limits.datagram asked.now.key.target None
+        requires forwardable { IsForwardable request.now query.now }
+        requires fits { form_fits self.now.setting.limits.datagram query.now.key.target None
             request.now
             ≡ true }
         requires written { out.old.bytes
-            ≡ spelling (forwarded (next_token self.now) asked.now.key.target None request.now 0) }
+            ≡ spelling (forwarded (next_token self.now) query.now.key.target None request.now 0) }
         ensures copy { IfOk result (λ copy.
             copy
-            ≡ copy_of self.now.setting.limits.datagram asked.now.key.target request.now
-            (held_for self.now request.now asked.now.key)) }
+            ≡ copy_of self.now.setting.limits.datagram query.now.key.target request.now
+            (held_for self.now request.now query.now.key)) }
         ensures form { OnOk result
             (out.new.bytes
             ≡ spelling
-            (forwarded (next_token self.now) asked.now.key.target
-            (tag_carried self.now.setting.limits.datagram asked.now.key.target request.now
-            (held_for self.now request.now asked.now.key))
+            (forwarded (next_token self.now) query.now.key.target
+            (tag_carried self.now.setting.limits.datagram query.now.key.target request.now
+            (held_for self.now request.now query.now.key))
             request.now 0)) }
         ensures kept { out.new.room ≡ out.old.room }
     {
         if let Miss::Nothing = miss {
             return Ok(None);
         }
-        let Some(stored) = self.store.peek(&asked.key) else {
+        let Some(stored) = self.store.peek(&query.key) else {
             unreachable!()
         };
         let Some(tag) = validating_tag(request, &stored.response) else {
             return Ok(None);
         };
-        if self.put_request(request, asked, Some(tag), out).is_ok() {
+        if self.put_request(request, query, Some(tag), out).is_ok() {
             return Ok(Some(copy_of_stored(stored)?));
         }
-        if self.put_request(request, asked, None, out).is_err() {
+        if self.put_request(request, query, None, out).is_err() {
             unreachable!();
         }
         Ok(None)
@@ -206,21 +206,21 @@ impl<S: Store + Drop> State<S> {
     fn put_request(
         &self,
         request: &MessageRef<'_>,
-        asked: &CacheQuery,
+        query: &CacheQuery,
         tag: Option<&[u8]>,
         out: &mut Datagram,
     ) -> Result<(), Full>
         requires can { CanGoOn self.now }
         requires room { self.now.setting.limits.datagram ≤ out.old.room }
-        requires forwardable { IsForwardable request.now asked.now }
+        requires forwardable { IsForwardable request.now query.now }
         requires short { IfSome tag (λ tag. length tag.now ≤ 8) }
         ensures exact { is_ok result
-            ≡ form_fits self.now.setting.limits.datagram asked.now.key.target
+            ≡ form_fits self.now.setting.limits.datagram query.now.key.target
             (option_map (λ tag. tag.now) tag.entry) request.now }
         ensures form { OnOk result
             (out.new.bytes
             ≡ spelling
-            (forwarded (next_token self.now) asked.now.key.target
+            (forwarded (next_token self.now) query.now.key.target
             (option_map (λ tag. tag.now) tag.entry)
             request.now 0)) }
         ensures kept { out.new.room ≡ out.old.room }
@@ -229,8 +229,8 @@ impl<S: Store + Drop> State<S> {
         let room = self.setting.limits.values().datagram as usize;
         let form = Form {
             request,
-            survey: asked.survey,
-            target: &asked.key.key().target,
+            survey: query.survey,
+            target: &query.key.key().target,
             tag,
         };
         put_forwarded(&token, form, out, room)

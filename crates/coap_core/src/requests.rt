@@ -56,11 +56,11 @@ fn is_method(code: Code) -> bool
 impl<S: Store + Drop> State<S> {
     /// Handles a request. A duplicate gets the kept reply again if it is Confirmable, and otherwise
     /// nothing (RFC 7252, 4.5). A new request is remembered, and its reply only if it is
-    /// Confirmable. What it asks for is read into `asked`.
+    /// Confirmable. What it asks for is read into `query`.
     pub(crate) fn on_request(
         &mut self,
         arrival: Arrival<'_, '_>,
-        asked: &mut CacheQuery,
+        query: &mut CacheQuery,
         out: &mut Datagram,
     ) -> Result<Report, OutOfMemory>
         requires can { CanDo (of_arrival (on_request self.old) arrival)
@@ -78,14 +78,14 @@ impl<S: Store + Drop> State<S> {
         if !self.has_record_room(arrival.now, arrival.from, arrival.message.kind()) {
             return Ok(self.drop_message(arrival.now, out));
         }
-        self.on_new(arrival, asked, out)
+        self.on_new(arrival, query, out)
     }
 
     /// Handles a new request: refuses it, or looks up its key, if a reply can be sent to it.
     fn on_new(
         &mut self,
         arrival: Arrival<'_, '_>,
-        asked: &mut CacheQuery,
+        query: &mut CacheQuery,
         out: &mut Datagram,
     ) -> Result<Report, OutOfMemory>
         requires new { CanRemember arrival.now arrival.from arrival.message.now self.old }
@@ -97,27 +97,27 @@ impl<S: Store + Drop> State<S> {
         if !self.can_reply(arrival.now, arrival.message.kind()) {
             return self.lack_id(arrival, out);
         }
-        match self.verdict_of(arrival.message, asked)? {
+        match self.verdict_of(arrival.message, query)? {
             Verdict::RefusedWith(code) => self.refuse(arrival, code, out),
-            Verdict::MayAsk => self.on_key(arrival, asked, out),
+            Verdict::MayAsk => self.on_key(arrival, query, out),
         }
     }
 
     /// The verdict on a request, by its method, its options and its target, in this order. If none
-    /// is at fault, what it asks for is read into `asked`.
+    /// is at fault, what it asks for is read into `query`.
     #[tactic(auto, unfolding(coap_model::specs::Verdicts::verdict_of))]
     fn verdict_of(
         &self,
         request: &MessageRef<'_>,
-        asked: &mut CacheQuery,
+        query: &mut CacheQuery,
     ) -> Result<Verdict, OutOfMemory>
         requires { CanGoOn self.now }
         ensures exact { IfOk result (λ verdict.
-            verdict_of self.now.setting.routes request.now ≡ verdict_seen verdict asked.new.key) }
+            verdict_of self.now.setting.routes request.now ≡ verdict_seen verdict query.new.key) }
         ensures tags { IfOk result (λ verdict.
-            verdict ≡ verdicts.MayAsk → asked.new.tags ≡ tags_of request.now) }
+            verdict ≡ verdicts.MayAsk → query.new.tags ≡ tags_of request.now) }
         ensures survey { IfOk result (λ verdict.
-            verdict ≡ verdicts.MayAsk → IsSurvey request.now asked.new.survey) }
+            verdict ≡ verdicts.MayAsk → IsSurvey request.now query.new.survey) }
     {
         if !is_method(request.code()) {
             return Ok(Verdict::RefusedWith(Code::METHOD_NOT_ALLOWED));
@@ -127,7 +127,7 @@ impl<S: Store + Drop> State<S> {
         };
         match self.target_of(request, survey) {
             Ok(target) => {
-                asked.read(&target, request, survey, self.store.secret())?;
+                query.read(&target, request, survey, self.store.secret())?;
                 Ok(Verdict::MayAsk)
             }
             Err(TargetError::BadUri) => Ok(Verdict::RefusedWith(Code::BAD_REQUEST)),
@@ -142,27 +142,27 @@ impl<S: Store + Drop> State<S> {
     fn on_key(
         &mut self,
         arrival: Arrival<'_, '_>,
-        asked: &CacheQuery,
+        query: &CacheQuery,
         out: &mut Datagram,
     ) -> Result<Report, OutOfMemory>
         requires reply { CanReplyTo arrival self.old }
-        requires asked { IsAsked self.old arrival.message.now asked.now }
-        requires can { CanDo (of_arrival (on_key self.old) arrival asked.now.key)
+        requires asked { IsAsked self.old arrival.message.now query.now }
+        requires can { CanDo (of_arrival (on_key self.old) arrival query.now.key)
             arrival.now self.old out.old }
         ensures { IsDoneFor arrival.entry
-            (of_arrival (on_key self.old) arrival.entry asked.now.key)
+            (of_arrival (on_key self.old) arrival.entry query.now.key)
             result out.old out.new self.old self.new }
     {
         if !is_get(arrival.message.code()) {
-            return self.on_exchange_needed(arrival, asked, Miss::Nothing, out);
+            return self.on_exchange_needed(arrival, query, Miss::Nothing, out);
         }
-        match self.put_usable(arrival, asked, out) {
+        match self.put_usable(arrival, query, out) {
             Ok(()) => {
                 let report = self.reply(arrival, Outcome::Hit, out)?;
-                self.store.touch(&asked.key);
+                self.store.touch(&query.key);
                 Ok(report)
             }
-            Err(miss) => self.on_miss(arrival, asked, miss, out),
+            Err(miss) => self.on_miss(arrival, query, miss, out),
         }
     }
 
@@ -173,24 +173,24 @@ impl<S: Store + Drop> State<S> {
     fn put_usable(
         &self,
         arrival: Arrival<'_, '_>,
-        asked: &CacheQuery,
+        query: &CacheQuery,
         out: &mut Datagram,
     ) -> Result<(), Miss>
         requires get { is_get arrival.message.now.code ≡ true }
         requires ids { can_reply self.now arrival.now arrival.message.now.kind ≡ true }
-        requires tags { asked.now.tags ≡ tags_of arrival.message.now }
-        requires fits { length (of_arrival (on_key self.now) arrival asked.now.key).bytes
+        requires tags { query.now.tags ≡ tags_of arrival.message.now }
+        requires fits { length (of_arrival (on_key self.now) arrival query.now.key).bytes
             ≤ out.old.room }
         ensures usable { is_ok result
-            ≡ has_usable asked.now.key arrival.entry.now self.now.store }
+            ≡ has_usable query.now.key arrival.entry.now self.now.store }
         ensures missed { IfErr result
-            (IsMissed self.now arrival.entry.message.now asked.now.key) }
+            (IsMissed self.now arrival.entry.message.now query.now.key) }
         ensures shown { OnOk result
             (out.new
-            ≡ holding out.old (of_arrival (on_key self.now) arrival.entry asked.now.key).bytes) }
+            ≡ holding out.old (of_arrival (on_key self.now) arrival.entry query.now.key).bytes) }
         ensures kept { out.new.room ≡ out.old.room }
     {
-        match self.store.peek(&asked.key) {
+        match self.store.peek(&query.key) {
             Some(stored) if stored.is_usable(arrival.now) => {
                 let id = self.reply_id(arrival.message);
                 let kind = reply_kind(arrival.message.kind());
@@ -199,7 +199,7 @@ impl<S: Store + Drop> State<S> {
                     kind,
                     id,
                     token: &token,
-                    tags: &asked.tags,
+                    tags: &query.tags,
                 };
                 put_stored(arrival.now, stored, envelope, out);
                 Ok(())

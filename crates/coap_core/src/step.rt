@@ -25,14 +25,14 @@ use coap_store::Store;
 
 impl<S: Store + Drop> State<S> {
     /// One step. `due` is the item that is due first, as `first_due` returns it; what a request
-    /// asks for is read into `asked`. If it runs out of memory, nothing has happened, and `out` is
+    /// asks for is read into `query`. If it runs out of memory, nothing has happened, and `out` is
     /// empty.
     pub(crate) fn step(
         &mut self,
         timing: Timing,
         event: Event<'_>,
         due: Option<DueItem>,
-        asked: &mut CacheQuery,
+        query: &mut CacheQuery,
         out: &mut Datagram,
     ) -> Result<Report, OutOfMemory>
         requires due { due ≡ item_due self.old }
@@ -54,7 +54,7 @@ impl<S: Store + Drop> State<S> {
     {
         let done = match event {
             Event::Datagram { from, bytes } => {
-                self.on_datagram(timing.now, from, bytes, asked, out)
+                self.on_datagram(timing.now, from, bytes, query, out)
             }
             Event::Tick => self.on_tick(timing, due, out),
         };
@@ -69,7 +69,7 @@ impl<S: Store + Drop> State<S> {
         now: Moment,
         source: Endpoint,
         bytes: &[u8],
-        asked: &mut CacheQuery,
+        query: &mut CacheQuery,
         out: &mut Datagram,
     ) -> Result<Report, OutOfMemory>
         requires can { CanDo (on_datagram self.old now true source bytes.now) now self.old out.old }
@@ -86,7 +86,7 @@ impl<S: Store + Drop> State<S> {
                 from: source,
                 message: &message,
             };
-            return self.on_message(arrival, asked, out);
+            return self.on_message(arrival, query, out);
         }
         match head_of(bytes) {
             Some(head) => Ok(self.unprocessed(now, source, head, out)),
@@ -109,7 +109,7 @@ impl<S: Store + Drop> State<S> {
     fn on_message(
         &mut self,
         arrival: Arrival<'_, '_>,
-        asked: &mut CacheQuery,
+        query: &mut CacheQuery,
         out: &mut Datagram,
     ) -> Result<Report, OutOfMemory>
         requires can { CanDo (of_grown (on_message self.old) arrival true)
@@ -121,7 +121,7 @@ impl<S: Store + Drop> State<S> {
     {
         match arrival.message.kind() {
             Kind::Con | Kind::Non if arrival.message.code().is_request() => {
-                self.on_request(arrival, asked, out)
+                self.on_request(arrival, query, out)
             }
             Kind::Con | Kind::Non | Kind::Ack if arrival.message.code().is_response() => {
                 self.on_response(arrival, out)

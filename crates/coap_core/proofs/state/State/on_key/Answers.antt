@@ -13,14 +13,14 @@ on_miss-requires-clause-can g c =
     record {
       ready = c.requires.can.ready;
       room = rw c.put_usable.ensures.kept c.requires.can.room;
-      fits = fits-as (missed c.args.self.now c.args.arrival.now c.args.arrival.from m c.args.asked.now.key get (sym c.in-Err.ensures.usable)) c.put_usable.ensures.kept c.requires.can.fits;
+      fits = fits-as (missed c.args.self.now c.args.arrival.now c.args.arrival.from m c.args.query.now.key get (sym c.in-Err.ensures.usable)) c.put_usable.ensures.kept c.requires.can.fits;
     }
 
 pub returns-in-Err : goal.returns-in-Err
 returns-in-Err g c =
     let m = c.args.arrival.message.now in
     let get : is_get m.code ≡ true = rw (← c.code.ensures.exact) (sym c.if-not-is_get.ensures) in
-    remembered-as c.args.arrival (missed c.args.self.now c.args.arrival.now c.args.arrival.from m c.args.asked.now.key get (sym c.in-Err.ensures.usable)) c.put_usable.ensures.kept c.on_miss.ensures
+    remembered-as c.args.arrival (missed c.args.self.now c.args.arrival.now c.args.arrival.from m c.args.query.now.key get (sym c.in-Err.ensures.usable)) c.put_usable.ensures.kept c.on_miss.ensures
 
 pub put_usable-requires-clause-ids : goal.put_usable-requires-clause-ids
 put_usable-requires-clause-ids g c = c.requires.reply.ids

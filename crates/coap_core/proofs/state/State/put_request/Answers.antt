@@ -9,4 +9,4 @@ returns-clause-exact g c =
     let token = c.token_of-token.result in
     let eight : length token ≡ 8 = ap length c.token_of-token.ensures ∙ length-token_of _ _ in
     rw (← c.self.view_is, ← c.values.ensures.exact)
-    (form-fits c.args.out.now c.put_forwarded.new.out _ token c.args.asked.now.key.target (option_map (λ t. t.now) c.args.tag) c.args.request.now c.put_forwarded.result eight (rw c.key.ensures at c.put_forwarded.ensures))
+    (form-fits c.args.out.now c.put_forwarded.new.out _ token c.args.query.now.key.target (option_map (λ t. t.now) c.args.tag) c.args.request.now c.put_forwarded.result eight (rw c.key.ensures at c.put_forwarded.ensures))
