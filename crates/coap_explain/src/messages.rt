@@ -72,8 +72,8 @@ pub(crate) fn put_endpoint<W: Write>(line: &mut W, endpoint: Endpoint) -> io::Re
     write!(line, ":{port}")
 }
 
-/// The name of a type (RFC 7252, 4.2 and 4.3).
-fn kind_name(kind: Kind) -> &'static str
+/// The word for a type (RFC 7252, 4.2 and 4.3).
+fn kind_word(kind: Kind) -> &'static str
     ensures { result.now ≡ spec.kind_word kind }
 {
     match kind {
@@ -108,7 +108,7 @@ pub(crate) fn put_kind<W: Write>(line: &mut W, message: &MessageRef<'_>) -> io::
     ensures { OnOk result (Appends (W.contents line.old) (W.contents line.new)
         (spec.kind_text message.now)) }
 {
-    let kind = kind_name(message.kind());
+    let kind = kind_word(message.kind());
     write!(line, " {kind} ")?;
     put_code(line, message.code())
 }
