@@ -422,9 +422,14 @@ WORDS = (
     (["--map", "/t#a=coap://10.0.0.1/"], "map option",
      'map 1, "/t#a" to "coap://10.0.0.1/": the prefix doesn\'t begin with a slash, or has a ? or a #'),
     (["--explain"], "arguments", "--explain is for a replay, and --replay isn't given"),
+    (["--record-bytes", "1000"], "arguments", "--record-bytes is for a recording, and --record isn't given"),
+    (["--explain", "--record-bytes", "1000"], "arguments", "--explain is for a replay, and --replay isn't given"),
 )
 # What is for a socket, each beside --replay.
-FOR_SOCKETS = (["--record", "/nowhere/run.events"], ["--log"], ["--stats", "60"], ["--stats-file", "/nowhere/counts"])
+FOR_SOCKETS = (
+    ["--record", "/nowhere/run.events"], ["--record-bytes", "1000"], ["--log"], ["--stats", "60"],
+    ["--stats-file", "/nowhere/counts"],
+)
 CONFIGURATIONS = (
     ("version = 1\nnames = [\n", "config: syntax", "line 3: "),
     ("version = 1\nnames = ['a', 'b,c']\n", "config: routes", 'name 2, "b,c": no name'),

@@ -9,12 +9,24 @@ use coap_config::{
 };
 use std::alloc::Global;
 
-/// Which options don't go together: one is for a socket, the other for a replay.
+/// Which options don't go together: one is for a socket, the other for a replay; or which is
+/// lacking, where one is given that another needs.
 fn arguments_cause(settings: &Settings) -> &'static str {
-    if !settings.replay {
+    if settings.replay {
+        socket_cause(settings)
+    } else if settings.explain {
         "--explain is for a replay, and --replay isn't given"
-    } else if settings.recording.is_some() {
+    } else {
+        "--record-bytes is for a recording, and --record isn't given"
+    }
+}
+
+/// Which option that is for a socket is given beside `--replay`.
+fn socket_cause(settings: &Settings) -> &'static str {
+    if settings.recording.is_some() {
         "--record is for a socket, and --replay has none"
+    } else if settings.record_bytes.is_some() {
+        "--record-bytes is for a socket, and --replay has none"
     } else if settings.log {
         "--log is for a socket, and --replay has none"
     } else if settings.stats.is_some() {
