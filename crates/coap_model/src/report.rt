@@ -2,7 +2,8 @@
 use coap_endpoint::Endpoint;
 use coap_message::Code;
 
-/// What the cache did with an answer.
+/// What became of an answer in the cache: what the store did with it, as `Store::put` says, or that
+/// it wasn't given to it.
 #[derive(Clone, Copy, Debug, PartialEq, Eq)]
 pub enum Storing {
     /// It was put in front of the cache.

@@ -14,7 +14,7 @@ use coap_endpoint::Target;
 use coap_message::{Moment, OutOfMemory};
 use std::alloc::Global;
 
-/// What happened to a response that was to be stored.
+/// What a store did with an entry that it was given.
 #[derive(Clone, Copy, Debug, PartialEq, Eq)]
 pub enum Put {
     /// It is stored, unless the store has room for no entries. What no longer fitted was dropped.
