@@ -113,9 +113,9 @@ impl<S: Store + Drop> State<S> {
         self.join(arrival, client, exchange, tags, out)
     }
 
-    /// Opens an exchange for a key, if the forwarded request isn't too long, and then if there is
-    /// room. What the request asks for is only copied when an exchange is opened, with no spare
-    /// capacity.
+    /// Opens an exchange for a key. Replies 4.13 if the forwarded request is too long for a
+    /// datagram, and otherwise 5.03 if there is no room. The key and the tags are copied, without
+    /// spare capacity, only once both tests have passed.
     pub(crate) fn on_exchange_needed(
         &mut self,
         arrival: Arrival<'_, '_>,
@@ -236,8 +236,9 @@ impl<S: Store + Drop> State<S> {
         put_forwarded(&token, form, out, room)
     }
 
-    /// Replies 5.03, because a table is full, the client has its share of it, or Message IDs are
-    /// short. The Max-Age of the reply says in how many seconds to try again (RFC 7252, 5.9.3.4).
+    /// Replies 5.03, because a table is full, the client has its share of it, or too few Message IDs
+    /// are free. The Max-Age of the reply says in how many seconds to try again (RFC 7252,
+    /// 5.9.3.4).
     fn overload(
         &mut self,
         arrival: Arrival<'_, '_>,
@@ -276,7 +277,8 @@ impl<S: Store + Drop> State<S> {
         Ok(Report { send, outcome })
     }
 
-    /// Opens an exchange, and has the client wait for it. `out` holds the forwarded request.
+    /// Opens an exchange, and has the client wait for it. `out` holds the forwarded request. If
+    /// memory runs out, what was put into the tables is taken back.
     fn open(
         &mut self,
         arrival: Arrival<'_, '_>,
@@ -319,9 +321,9 @@ impl<S: Store + Drop> State<S> {
         };
         let number = self.under_way.open(opening)?;
         let joining = joining_of(arrival, tags, number);
-        if let Err(refused) = self.under_way.join(joining, client) {
+        if let Err(error) = self.under_way.join(joining, client) {
             self.under_way.withdraw_exchange();
-            return Err(refused);
+            return Err(error);
         }
         let done = self.accept_request(arrival, Outcome::Opened, out);
         if done.is_err() {

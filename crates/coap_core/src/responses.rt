@@ -1,5 +1,5 @@
 //! The step of a response: piggybacked in an acknowledgement, or separate in a message of its own
-//! (RFC 7252, 5.2.1, 5.2.2 and 5.3.2).
+//! (RFC 7252, 5.2.1 to 5.2.3 and 5.3.2).
 ghost use Rattle.std.specs.Prelude.{◌≡◌, ◌≤◌, ◌&&◌, [], ◌∷◌, true, false, length, option_map, IfOk, IfSome, OnOk, OnErr};
 ghost use Rattle.coap_message.specs.Datagram.{holding};
 ghost use Rattle.coap_endpoint.specs.Endpoint.{same_endpoint};
@@ -92,6 +92,7 @@ fn changed_by(
 }
 
 impl<S: Store + Drop> State<S> {
+    /// Handles a response, by whether it is Confirmable.
     pub(crate) fn on_response(
         &mut self,
         arrival: Arrival<'_, '_>,

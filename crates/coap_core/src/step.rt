@@ -64,6 +64,7 @@ impl<S: Store + Drop> State<S> {
         done
     }
 
+    /// Handles a datagram: the message that it encodes, or what has only a head, or nothing.
     fn on_datagram(
         &mut self,
         now: Moment,

@@ -199,8 +199,8 @@ impl<S: Store + Drop> State<S> {
         out.put(exchange.form.as_slice());
     }
 
-    /// Answers the exchange numbered `number` with the proxy's own answer, because none came in
-    /// time (RFC 7252, 5.7.1).
+    /// Answers the exchange numbered `number` with 5.04, because no answer came in time (RFC 7252,
+    /// 5.7.1 and 5.9.3.5).
     fn give_up(&mut self, now: Moment, number: ExchangeNumber, out: &mut Datagram) -> Report
         requires events { self.old.events < 2 ^ 63 }
         requires open { IfSome (item_at number self.old.exchanges) (λ x. is_done x ≡ false) }
