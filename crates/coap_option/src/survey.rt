@@ -39,7 +39,7 @@ fn widened(span: Option<Span>, number: u16) -> Option<Span>
     })
 }
 
-/// What a pass over the options of a request tells, if it rejects none of them.
+/// What a pass over the options of a request tells, if it refuses none of them.
 #[derive(Clone, Copy)]
 pub struct Survey {
     /// The target is given as a URI, by a Proxy-Uri or a Proxy-Scheme (RFC 7252, 5.10.2).
@@ -86,6 +86,7 @@ impl Survey {
         let number = option.number;
         let withheld = known && is_for_proxy(code, number);
         let is_uri = number == numbers::PROXY_URI || number == numbers::PROXY_SCHEME;
+        // By the code, as `tags_of` has it: no clause here says that the code is a method.
         let is_tag = number == numbers::ETAG
             && option_recognised(Side::of(code), option, before, row);
         Survey {
@@ -146,7 +147,7 @@ impl Survey {
 }
 
 /// Adds to an empty list the options of a request that are part of its cache key, given that none
-/// of its options is refused: then each shows by itself.
+/// of its options is refused: then an option's place doesn't matter (`goes_on`).
 fn push_key_options(list: &mut OptionList, request: &MessageRef<'_>) -> Result<(), OutOfMemory>
     requires empty { list.old ≡ [] }
     requires screened { first_refused Side.Request request.now.options ≡ None }
@@ -162,7 +163,7 @@ fn push_key_options(list: &mut OptionList, request: &MessageRef<'_>) -> Result<(
     Ok(())
 }
 
-/// Goes over the options of a request once, and rejects it because of its first option that is
+/// Goes over the options of a request once, and refuses it because of its first option that is
 /// unsafe and not recognised (RFC 7252, 5.7.1), as `screen_request_ref` does.
 ///
 /// # Errors
