@@ -173,7 +173,8 @@ impl Due {
     }
 }
 
-/// A response that came for an exchange, and why a client gets 5.02, if it does.
+/// A response that came for an exchange, and why a client gets 5.02, if it does. What becomes of
+/// the response isn't found here, as `Answering` finds it for `--explain`: that may allocate.
 #[derive(Clone, Copy, Debug, PartialEq, Eq)]
 pub(crate) struct Came {
     pub(crate) origin: Endpoint,

@@ -34,7 +34,7 @@ pub(crate) struct Lack {
 /// What of a message's needs is lacking, if anything is: at most five shares.
 pub(crate) type Lacks = [Option<Lack>; 5];
 
-/// The number of Message IDs that are given in 247 seconds (RFC 7252, 4.4): half of all.
+/// The most Message IDs that are given in a window of 247 seconds (RFC 7252, 4.4): half of all.
 const IDS: u64 = 32_768;
 
 /// How much is taken, of all and of one client, with the limits, and how many Message IDs are free.

@@ -179,7 +179,8 @@ impl<W: Write> Logger<W> {
             return;
         };
         match came.cause {
-            // That is what is left if no other cause is known, and here it may be no cause at all.
+            // `Came::of` says so of every response that has no other fault, also of those that are
+            // passed on; `cause_of` falls back on it.
             BadGateway::TooLong => {}
             BadGateway::Reset | BadGateway::Option(_) | BadGateway::Tag => {
                 self.causes.note(NotedCause {

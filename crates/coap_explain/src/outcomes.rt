@@ -27,7 +27,8 @@ pub(crate) struct Before<'a> {
     pub(crate) target: &'a [u8],
     /// What is made of a response.
     pub(crate) answering: Answering,
-    /// Whether a GET with the key of the last request could have shared an exchange's answer.
+    /// Whether a GET with the key of the last request could have shared an exchange's answer: found
+    /// after the step.
     pub(crate) joins: bool,
 }
 

@@ -175,7 +175,8 @@ pub struct SentRequest<'c> {
 /// The answer that a message which came for a request makes (RFC 7252, 5.7.1). A response that may
 /// be passed on is copied. A 2.03 to a GET renews the stored response whose tag the request had
 /// (RFC 7252, 5.6.2). A Reset, a response that may not be passed on or wouldn't fit a datagram of
-/// `most` bytes, and a 2.03 that renews nothing give 5.02; a Reset doesn't allocate.
+/// `most` bytes, and a 2.03 that renews nothing give 5.02; a Reset doesn't allocate (the core
+/// answers one by `bad_gateway` itself).
 ///
 /// # Errors
 /// Out of memory.

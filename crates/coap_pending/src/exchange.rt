@@ -164,7 +164,8 @@ impl Exchange {
         }
     }
 
-    /// The number of the event in which the request was first sent; 0 before that.
+    /// The number of the event in which the request was first sent; 0 before that, when nobody asks
+    /// for it.
     pub fn asked(&self) -> EventNumber
         ensures exact { result ≡ asked_of self.now.sending }
     {

@@ -84,7 +84,9 @@ pub fn put_response(
     Ok(())
 }
 
-/// Whether a response with this code is sent with a Max-Age (RFC 7252, 5.10.5).
+/// Whether a response with this code may be cached, and so is sent with a Max-Age: 2.05, 4.xx and
+/// 5.xx (RFC 7252, 5.9.1.5, 5.9.2, 5.9.3 and 5.10.5). A 2.03 to a GET doesn't get here: it renews
+/// what is stored, or becomes 5.02.
 pub fn shows_max_age(code: Code) -> bool
     ensures { result ≡ shows_max_age code }
 {
