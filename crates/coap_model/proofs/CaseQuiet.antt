@@ -9,7 +9,7 @@ use Rattle.coap_pending.specs.Ids.{given_in}
 use Rattle.coap_model.specs.Cached.{leaves, IsStoreOf}
 use Rattle.coap_model.specs.State.{State, reserved, later}
 use Rattle.coap_model.specs.History.{no_item, moves, serves, Action, opens_one, admits_one, takes, gives_id, last_of}
-use Rattle.coap_model.specs.Standing.{Standing, Open, standing_by, open_by, standing_in, open_in}
+use Rattle.coap_model.specs.Standing.{WaiterStanding, Open, standing_by, open_by, standing_in, open_in}
 use Rattle.coap_model.specs.Schedules.{is_sending}
 use Rattle.coap_model.specs.Justified.{AllJustified}
 use Rattle.coap_model.specs.Remembered.{is_remembered}
@@ -26,10 +26,10 @@ pub record IsQuiet (e : Action) : Type 0 where
   pub admits : admits_one e.observation.report.outcome ≡ 0
   pub sends : is_sending e.observation.report.outcome ≡ false
   pub takes : takes e.observation.report.outcome ≡ false
-  pub leaves_open : (standing : List Standing) (xs : List Open) → open_by e.observation.report.outcome e.act e.observation.event e.observation.report.send standing xs ≡ xs
-  pub stands : (standing : List Standing) → standing_by e.observation.report.outcome e.act e.observation.event e.observation.bytes standing ≡ standing
+  pub leaves_open : (standing : List WaiterStanding) (xs : List Open) → open_by e.observation.report.outcome e.act e.observation.event e.observation.report.send standing xs ≡ xs
+  pub stands : (standing : List WaiterStanding) → standing_by e.observation.report.outcome e.act e.observation.event e.observation.bytes standing ≡ standing
 
--- it acts on no exchange and on no client
+-- it acts on no exchange and on no waiter
 pub acts-on-none : (e : Action) → e.act ≡ no_item → (x : ℕ) → e.act ≢ moves x
 acts-on-none e act x same = let f = sym act ∙ same in cc
 

@@ -16,7 +16,7 @@ use Rattle.coap_model.proofs.Rules.{Rule, refusing, lacking, overloading, hittin
 use Rattle.coap_model.proofs.Turns.{turn-exchange}
 use Rattle.coap_model.proofs.CaseReplied.{request-came}
 use Rattle.coap_model.proofs.CaseDelivered.{served, ending-fits}
-use Rattle.coap_model.proofs.CaseClientChanged.{told-is}
+use Rattle.coap_model.proofs.CaseWaiterChanged.{delivering-is}
 use Rattle.coap_model.proofs.Acceptances.{taken-short}
 use Rattle.coap_model.proofs.OwnReplies.{own-short, busy-short}
 use Rattle.coap_model.proofs.CaseHit.{hit-fits}
@@ -76,7 +76,7 @@ rule_fits {w = w} history c are (giving_up at number x turn over) = omega arith
 rule_fits {w = w} {now = now} history c are (delivering at number exchange v x a left due found waits there answer told) =
     let s = served w history c number exchange v x a found waits there answer in
     ending-fits w v.kind x.is_get now (next_id w) exchange x.key s.done.ending a v.token v.tags w.setting.limits.datagram s.done.with s.short (are Datagram).0 (omega arith)
-rule_fits {w = w} {now = now} history c are (redelivering at number v bytes id timer turn fire) = (told-is w history c number id v bytes timer turn.found turn.state).short w.setting.limits.datagram (are Datagram).0 (omega arith)
+rule_fits {w = w} {now = now} history c are (redelivering at number v bytes id timer turn fire) = (delivering-is w history c number id v bytes timer turn.found turn.state).short w.setting.limits.datagram (are Datagram).0 (omega arith)
 rule_fits {w = w} history c are (abandoning at number v bytes id timer turn fire) = omega arith
 rule_fits {w = w} history c are (idling nothing) = omega arith
 rule_fits {w = w} history c are (stuck s) = omega arith

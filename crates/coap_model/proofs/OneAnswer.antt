@@ -219,7 +219,7 @@ one-exchange setting past all few d e turn a b = a.gets.act ∙ ap moves number 
         (λ (reset : p.message.kind ≡ Rst). by_reset reset)
         (token-or-reset p.message p.matches)
 
--- only one answer is sent to a client
+-- only one answer is sent to a waiter
 one-delivery : (setting : Setting) (past : List Action) → AllJustified setting past → (d e : Action) (id : ℕ) → Gives id d.observation → Gives id e.observation → IsDelivery setting past d → IsDelivery setting past e → d.act ≡ e.act → d.observation.now ≡ e.observation.now → SayTheSame d.observation e.observation
 one-delivery setting past all d e id g h j k act now =
     let p = j.to_serve in
@@ -273,7 +273,7 @@ given_up-silent setting past d (overdue y at acting is end come silent) = silent
 given_up-silent setting past d (unheard y at acting is repeat first come stops silent) = silent
 given_up-silent setting past d (unacknowledged v acting is again stops silent) = silent
 
--- a client that is due to be served isn't given up
+-- a waiter that is due to be served isn't given up
 served-kept : {A : Type 0} {setting : Setting} {past : List Action} {d : Action} {v m : ℕ} → d.act ≡ serves v → IsToServe setting past v m → IsGivingUp setting past d → A
 served-kept act to_serve (overdue y at acting is end come silent) = absurd (let f = sym act ∙ is in cc)
 served-kept act to_serve (unheard y at acting is repeat first come stops silent) = absurd (let f = sym act ∙ is in cc)

@@ -81,7 +81,7 @@ pub record IsAbout (w : State) (now : ℕ) (source : Endpoint) (m : Message) (x 
   pub found : item_at x.0 w.exchanges ≡ Some x.1
   pub sent : is_sent x.1 ≡ true
 
--- what an Empty message refers to otherwise: an answer that a client was sent
+-- what an Empty message refers to otherwise: an answer that a waiter was sent
 pub record IsOfAnswer (w : State) (now : ℕ) (source : Endpoint) (m : Message) (number : ℕ) : Type 0 where
   pub bare : is_bare m ≡ true
   pub first : first_that (waiters.was_sent_as source m.id now) w.waiters ≡ Some number
@@ -177,7 +177,7 @@ pub data IsTakenUp (source : Endpoint) (m : Message) : Option Endpoint → List 
 abbrev pub sending : Outcome → Option Endpoint → List ℕ → State → Step
 sending outcome send told w = record { report = record { send = send; outcome = outcome }; bytes = told; state = w }
 
--- a client waits for an exchange that existed
+-- a waiter waits for an exchange that existed
 abbrev pub joined_state : State → ℕ → Endpoint → Message → ℕ → State
 joined_state w now client m exchange =
     record (later w now) { waiters = w.waiters ++ new_waiter w client m exchange ∷ []; admitted = w.admitted + 1 }
@@ -187,13 +187,13 @@ abbrev pub opened_state : State → ℕ → Endpoint → Message → CacheKey �
 opened_state w now client m key stored =
     record (later w now) { exchanges = w.exchanges ++ new_exchange w now client m key stored ∷ []; waiters = w.waiters ++ new_waiter w client m (w.opened + 1) ∷ []; opened = w.opened + 1; admitted = w.admitted + 1 }
 
--- the clients that are left after one was sent this message: without it, or with it, until it
+-- the waiters that are left after one was sent this message: without it, or with it, until it
 -- acknowledges the message
 pub data IsTold (w : State) (now draw number : ℕ) (m : Message) : List (Numbered Waiter) → Type 0 where
   done_with : is_con m.kind ≡ false → IsTold w now draw number m (without number w.waiters)
   to_acknowledge : is_con m.kind ≡ true → IsTold w now draw number m (changed_at number (waiters.delivered (spelling m) m.id (started now draw)) w.waiters)
 
--- the client that is due first was sent its answer, and exists
+-- the waiter that is due first was sent its answer, and exists
 pub record IsTurnOfTold (w : State) (now at number : ℕ) (v : Waiter) (bytes : List ℕ) (id : ℕ) (timer : Timer) : Type 0 where
   pub due : if_due now (item_due w) ≡ Some (OfWaiter at number)
   pub found : item_at number w.waiters ≡ Some v
@@ -653,7 +653,7 @@ rule_exchange w now draw grown at number due (Some x) e = by_deadline (nat_le (d
     by_deadline true late = giving_up at number x turn (overdue (leb-true _ _ late))
     by_deadline false early = by_state (leb-false _ _ early) x.state refl
 
--- a client that is due is a case by its state: by the answer of its exchange, or by its timer
+-- a waiter that is due is a case by its state: by the answer of its exchange, or by its timer
 rule_waiter : (w : State) (now draw : ℕ) (grown : Bool) (at number : ℕ) → if_due now (item_due w) ≡ Some (OfWaiter at number) → (o : Option Waiter) → item_at number w.waiters ≡ o → Rule w now draw grown tick (on_waiter w now draw number o)
 rule_waiter w now draw grown at number due None e = stuck (no_waiter at number due e)
 rule_waiter w now draw grown at number due (Some v) e = by_state v.state refl

@@ -1,5 +1,5 @@
 -- What the traffic alone shows: which observation of a history opened an exchange, sent its
--- request, got its answer, or admitted a client. This file names no table. A history has its newest
+-- request, got its answer, or admitted a waiter. This file names no table. A history has its newest
 -- observation first.
 use Rattle.std.specs.Prelude.{◌≡◌, ◌⊎◌, ℕ, ◌+◌, ◌%◌, ◌≤◌, List, [], ◌∷◌, length, map, Bool, true, false, not, if◌then◌else◌, Some}
 use Rattle.coap_message.specs.declared.kind.Kind.TheVariants.{Ack, Rst}
@@ -338,7 +338,7 @@ pub record Serves (v : ℕ) (p : Position) : Type 0 where
   pub act : p.action.act ≡ serves v
   pub outcome : p.action.observation.report.outcome ≡ Delivered
 
--- a client is finished: its answer was acknowledged, or isn't retransmitted any more, or was sent
+-- a waiter is finished: its answer was acknowledged, or isn't retransmitted any more, or was sent
 -- in a message that isn't Confirmable
 abbrev pub closes_unused : Outcome → List ℕ → Bool
 closes_unused Ignored bytes = false

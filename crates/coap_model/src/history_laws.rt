@@ -14,7 +14,7 @@ ghost use Rattle.coap_model.specs.Justified.{HaveOneMemory, Comes, known_of, Has
 ghost use Rattle.coap_model.specs.Runs.{answer_at};
 ghost use Rattle.coap_model.specs.Examples.{to, from, client};
 ghost use Rattle.coap_model.specs.ResponseExamples.{no_room, request};
-ghost use Rattle.coap_model.specs.Standing.{sent, done, outstanding_to, HasRoomToJoin, HasRoomToOpen, told};
+ghost use Rattle.coap_model.specs.Standing.{sent, done, outstanding_to, HasRoomToJoin, HasRoomToOpen, delivering};
 ghost use Rattle.coap_model.specs.Schedules.{sends_by, IsSchedule};
 ghost use Rattle.coap_model.specs.Held.{held, most_held};
 ghost use Rattle.coap_model.specs.LimitExamples.{got};
@@ -253,9 +253,9 @@ pub fn what_is_owed_is_given()
         → JustifiedBy d.observation.report.outcome setting past d
         → Acknowledges setting past d.observation.now exchange d.observation.event
         → d.observation.report.outcome ≡ Acked }
-    ensures closed { (setting : Setting) (past : List Action) (d : Action) (client : ℕ)
+    ensures closed { (setting : Setting) (past : List Action) (d : Action) (waiter : ℕ)
         → JustifiedBy d.observation.report.outcome setting past d
-        → Closes setting past d.observation.now client d.observation.event
+        → Closes setting past d.observation.now waiter d.observation.event
         → d.observation.report.outcome ≡ Acked }
     ensures no_answer_room { (setting : Setting) (past : List Action) (d : Action) (exchange : ℕ)
         (awaited : IsAwaited setting past d.observation.now exchange d.observation.event)

@@ -206,7 +206,7 @@ pub fn what_is_carried_is_promised()
 {}
 
 /// The promise in short. A proxy keeps its promise for any history that it carries, at each
-/// position of it: pending exchanges, waiting clients, remembered messages and the cache are within
+/// position of it: exchanges in progress, waiters, remembered messages and the cache are within
 /// their shared and client limits; each reply from the cache is a response that was received for an
 /// equal key, only renewed by later validations, fresh, with its Max-Age reduced by its age, and
 /// with a target that wasn't changed since it was requested; each message that repeats one within

@@ -1,4 +1,4 @@
--- A step that changes one client that was sent its answer, or closes it, preserves what is carried.
+-- A step that changes one waiter that was sent its answer, or closes it, preserves what is carried.
 use Rattle.std.proofs.Common.{◌≡◌, ◌≢◌, inr, ⊎_elim, ℕ, ◌<◌, ◌≤◌, Bool, true, false, eqb, List, ◌∷◌, length, map, Some, refl, sym, ap, ◌∙◌, subst, arith}
 use Rattle.std.specs.Prelude.{not, if◌then◌else◌}
 use Rattle.std.specs.List.{AllByRecursion}
@@ -30,7 +30,7 @@ use Rattle.coap_model.specs.Step.{message_in}
 use Rattle.coap_model.specs.Runs.{observation_of}
 use Rattle.coap_model.specs.History.{moves, serves, Action, Position, IsPositionOf, Somewhere, opens_one, admits_one, admitted_in, takes, gives_id, Serves}
 use Rattle.coap_model.specs.Standing as stages
-use Rattle.coap_model.specs.Standing.{Standing, Open, open_by, standing_in, told, service_of}
+use Rattle.coap_model.specs.Standing.{WaiterStanding, Open, open_by, standing_in, delivering, service_of}
 use Rattle.coap_model.specs.Schedules.{IsSchedule, sends_by}
 use Rattle.coap_model.specs.Cached.{leaves}
 use Rattle.coap_model.specs.Remembered.{is_remembered}
@@ -39,10 +39,10 @@ use Rattle.coap_model.specs.Justified.{to_close, an_answer, answer_again, unackn
 use Rattle.coap_model.specs.Carries.{HasNumber, HasExchange, standing_seen, service_in, IsTimer, AreOfBytes, IsDelivering, IsWaiterIn, IsWaiterOf, AreSchedules, Bears}
 use Rattle.coap_model.proofs.DueByHistory.{timer-due, acting, turn-is, service-is, served-there}
 use Rattle.coap_model.proofs.CaseAnswered.{differ, last-now}
-use Rattle.coap_model.proofs.AwaitedByHistory.{told-delivered, closes-here}
-use Rattle.coap_model.proofs.Frames.{clock_frame, numbers_frame, exchanges_frame, waiter_frame, unused_frame, same_act-client, sends-grow, schedules_with, schedules_frame, opened-before, admitted-before}
+use Rattle.coap_model.proofs.AwaitedByHistory.{delivering-delivered, closes-here}
+use Rattle.coap_model.proofs.Frames.{clock_frame, numbers_frame, exchanges_frame, waiter_frame, unused_frame, same_act-waiter, sends-grow, schedules_with, schedules_frame, opened-before, admitted-before}
 use Rattle.coap_model.proofs.GivenIds.{ids-kept}
-use Rattle.coap_model.proofs.CaseIdle.{client-there}
+use Rattle.coap_model.proofs.CaseIdle.{waiter-there}
 use Rattle.coap_model.proofs.Lists.{Has, All-there, All-filter, All-map}
 use Rattle.coap_model.proofs.OneMeant.{one-meant}
 use Rattle.coap_model.proofs.Positions.{here, doing, admitted-later, same_serves, Never-at, admitted-number}
@@ -53,7 +53,7 @@ use Rattle.coap_model.proofs.NumbersAndStages.{gone-seen, served-seen}
 use Rattle.coap_model.proofs.Stores.{store-otherwise}
 use Rattle.coap_model.proofs.Tables.{item-Has, item-holds, Has-item, at-number, one-item, without-fewer, HasNumber-without, HasNumber-changed, changed-cases}
 
--- what must hold of an observation that acts on the client with this number
+-- what must hold of an observation that acts on the waiter with this number
 pub record IsService (n : ℕ) (e : Action) : Type 0 where
   pub act : e.act ≡ serves n
   pub opens : opens_one e.observation.report.outcome ≡ 0
@@ -61,9 +61,9 @@ pub record IsService (n : ℕ) (e : Action) : Type 0 where
   pub gives : gives_id e.observation ≡ 0
   pub takes : takes e.observation.report.outcome ≡ false
   pub leaving : leaves e.observation.report.outcome ≡ true
-  pub leaves_open : (standing : List Standing) (xs : List Open) → open_by e.observation.report.outcome e.act e.observation.event e.observation.report.send standing xs ≡ xs
+  pub leaves_open : (standing : List WaiterStanding) (xs : List Open) → open_by e.observation.report.outcome e.act e.observation.event e.observation.report.send standing xs ≡ xs
 
--- what is known of the remaining clients: as many wait for each exchange as before
+-- what is known of the remaining waiters: as many wait for each exchange as before
 pub record AreLeft (w : State) (left : List (Numbered Waiter)) : Type 0 where
   pub rising : IsRising 0 left
   pub fewer : length left ≤ length w.waiters
@@ -117,18 +117,18 @@ keeps_service w history c e n left s none onward served are seen there each numb
       past = past;
     }
 
--- ---- what was sent to a client
+-- ---- what was sent to a waiter
 
--- the client that is due was sent its answer
-pub told-is : (w : State) (history : List Action) (c : Bears history w) (n id : ℕ) (v : Waiter) (bytes : List ℕ) (timer : Timer) → item_at n w.waiters ≡ Some v → v.state ≡ Delivering bytes id timer → IsDelivering w.setting history (n, v) bytes id timer
-told-is w history c n id v bytes timer found state = subst (IsWaiterIn w.setting history (n, v)) state (item-holds (IsWaiterOf w.setting history) n w.waiters v c.waiters found)
+-- the waiter that is due was sent its answer
+pub delivering-is : (w : State) (history : List Action) (c : Bears history w) (n id : ℕ) (v : Waiter) (bytes : List ℕ) (timer : Timer) → item_at n w.waiters ≡ Some v → v.state ≡ Delivering bytes id timer → IsDelivering w.setting history (n, v) bytes id timer
+delivering-is w history c n id v bytes timer found state = subst (IsWaiterIn w.setting history (n, v)) state (item-holds (IsWaiterOf w.setting history) n w.waiters v c.waiters found)
 
 -- it is due to be sent it again when its timer is due
 pub to-serve-again : (w : State) (history : List Action) (c : Bears history w) (now at n id : ℕ) (v : Waiter) (bytes : List ℕ) (timer : Timer) → IsTurnOfTold w now at n v bytes id timer → IsToServeAgain history n at × (timer.due ≡ at) × (at ≤ now)
 to-serve-again w history c now at n id v bytes timer turn =
-    let g = told-is w history c n id v bytes timer turn.found turn.state in
+    let g = delivering-is w history c n id v bytes timer turn.found turn.state in
     let there = item-Has n w.waiters v turn.found in
-    let d = client-there w history c now at n turn.due in
+    let d = waiter-there w history c now at n turn.due in
     let here : due_after w.exchanges v ≡ Some at = subst (λ (u : Waiter). due_after w.exchanges u ≡ Some at) (one-item 0 w.waiters d.0 (n, v) c.whole.waiters_rise d.1 there d.2) d.3 in
     let moment : timer.due ≡ at = same_Some timer.due at (sym (ap (λ (s : WaiterState). due_in s w.exchanges) turn.state) ∙ here) in (
       record {
@@ -139,7 +139,7 @@ to-serve-again w history c now at n id v bytes timer turn =
       (turn-is w history c now (OfWaiter at n) turn.due).1,
     )
 
--- ---- the remaining clients
+-- ---- the remaining waiters
 
 module _ (w : State) (history : List Action) (c : Bears history w) (n : ℕ) where
   -- the others stay as they were
@@ -152,7 +152,7 @@ module _ (w : State) (history : List Action) (c : Bears history w) (n : ℕ) whe
       other : (m : ℕ) → not (eqb m n) ≡ true → m ≢ n
       other m t same = let f : false ≡ true = subst (λ (b : Bool). not b ≡ true) (eq-eqb m n same) t in cc
 
-  -- if a client that was sent its answer is removed, as many wait as before
+  -- if a waiter that was sent its answer is removed, as many wait as before
   pub left-gone : (v : Waiter) (bytes : List ℕ) (id : ℕ) (timer : Timer) → item_at n w.waiters ≡ Some v → v.state ≡ Delivering bytes id timer → AreLeft w (without n w.waiters)
   left-gone v bytes id timer found state =
       record {
@@ -191,17 +191,17 @@ module _ (w : State) (history : List Action) (c : Bears history w) (n : ℕ) whe
 
 -- ---- the rules
 
--- sending a client its answer again preserves what is carried
+-- sending a waiter its answer again preserves what is carried
 pub keeps_redelivering : (w : State) (history : List Action) (c : Bears history w) (now draw at n : ℕ) (v : Waiter) (bytes : List ℕ) (id : ℕ) (timer : Timer) → w.last ≤ now → IsTurnOfTold w now at n v bytes id timer → fire_of now timer ≡ Again
     → Bears (doing (serves n) (observation_of now draw tick (redelivers w now n v bytes)) ∷ history) (redelivers w now n v bytes).state
 keeps_redelivering w history c now draw at n v bytes id timer onward turn fire =
     let e = doing (serves n) (observation_of now draw tick (redelivers w now n v bytes)) in
-    let g = told-is w history c n id v bytes timer turn.found turn.state in
+    let g = delivering-is w history c n id v bytes timer turn.found turn.state in
     let t = to-serve-again w history c now at n id v bytes timer turn in
     let due = t.1 in
     let come = t.2 in
     let a = goes now timer (sends_by (serves n) history) v.client bytes e.observation refl g.timer_is g.bytes_are (omega (arith, due, come)) (goes-again now timer fire) refl refl (c.schedules (serves n)) in
-    let grown : sends_by (serves n) (e ∷ history) ≡ e.observation ∷ sends_by (serves n) history = sends-grow (serves n) history e (same_act-client n) refl in
+    let grown : sends_by (serves n) (e ∷ history) ≡ e.observation ∷ sends_by (serves n) history = sends-grow (serves n) history e (same_act-waiter n) refl in
     let there = item-Has n w.waiters v turn.found in
     let new : IsDelivering w.setting (e ∷ history) (n, fired_waiter now v) bytes id (fired now timer) = record {
       admitted = admitted-later e g.admitted;
@@ -253,12 +253,12 @@ keeps_redelivering w history c now draw at n v bytes id timer onward turn fire =
     still-so (Waiting exchange) = refl
     still-so (Delivering bytes id timer) = refl
 
--- and so does giving up a client
+-- and so does giving up a waiter
 pub keeps_abandoning : (w : State) (history : List Action) (c : Bears history w) (now draw at n : ℕ) (v : Waiter) (bytes : List ℕ) (id : ℕ) (timer : Timer) → w.last ≤ now → IsTurnOfTold w now at n v bytes id timer → fire_of now timer ≡ GiveUp
     → Bears (doing (serves n) (observation_of now draw tick (abandons w now n)) ∷ history) (abandons w now n).state
 keeps_abandoning w history c now draw at n v bytes id timer onward turn fire =
     let e = doing (serves n) (observation_of now draw tick (abandons w now n)) in
-    let g = told-is w history c n id v bytes timer turn.found turn.state in
+    let g = delivering-is w history c n id v bytes timer turn.found turn.state in
     let t = to-serve-again w history c now at n id v bytes timer turn in
     keeps_service w history c e n (without n w.waiters)
     (record { act = refl; opens = refl; admits = refl; gives = refl; takes = refl; leaving = refl; leaves_open = λ standing xs. refl })
@@ -272,18 +272,18 @@ keeps_abandoning w history c now draw at n v bytes id timer onward turn fire =
     (schedules_frame history e refl c.schedules)
     (unacknowledged n (acting w history c now (OfWaiter at n) turn.due e refl refl refl) refl t.0 (may-not now (sends_by (serves n) history) timer g.timer_is (goes-no_more now timer fire)) (record { sent = refl; bytes = refl }), c.past)
 
--- and so does closing a client that acknowledged its answer
+-- and so does closing a waiter that acknowledged its answer
 pub keeps_closing : (w : State) (history : List Action) (c : Bears history w) (now draw : ℕ) (source : Endpoint) (bytes : List ℕ) (m : Message) (n : ℕ) → w.last ≤ now → IsBytes bytes → message_in w.setting.limits.datagram bytes ≡ Some m → IsOfAnswer w now source m n
     → Bears (doing (serves n) (observation_of now draw (arrival source bytes) (closes w now n)) ∷ history) (closes w now n).state
 keeps_closing w history c now draw source bytes m n onward fits read about =
     let e = doing (serves n) (observation_of now draw (arrival source bytes) (closes w now n)) in
     let k = closes-here w history c now source bytes m n fits read about in
-    let f = at-number (λ u. IsWaiterOf w.setting history u × Has u w.waiters) n w.waiters (served-there w history c n told k.service) (All-there (IsWaiterOf w.setting history) w.waiters c.waiters) in
+    let f = at-number (λ u. IsWaiterOf w.setting history u × Has u w.waiters) n w.waiters (served-there w history c n delivering k.service) (All-there (IsWaiterOf w.setting history) w.waiters c.waiters) in
     let v = f.0 in
     let number = f.1 in
     let found : item_at n w.waiters ≡ Some v.1 = ap (λ (u : ℕ). item_at u w.waiters) number ∙ Has-item 0 w.waiters v c.whole.waiters_rise f.3 in
     let service = sym (service-is w history c v f.3) ∙ ap (λ (u : ℕ). service_of u history) (sym number) ∙ k.service in
-    let was = told-delivered w.setting history v f.2.0 (same_Some (service_in v.1.state) told service) in
+    let was = delivering-delivered w.setting history v f.2.0 (same_Some (service_in v.1.state) delivering service) in
     let below = (admitted-number was.delivering.admitted).1 in
     keeps_service w history c e n (without n w.waiters)
     (record { act = refl; opens = refl; admits = refl; gives = refl; takes = refl; leaving = refl; leaves_open = λ standing xs. refl })
