@@ -25,8 +25,8 @@ use Rattle.coap_explain.specs.declared.due.DueExchange.{DueExchange}
 use Rattle.coap_explain.specs.declared.lacks.Lack.{Lack}
 use Rattle.coap_explain.specs.declared.lacks.Usage.{Usage}
 use Rattle.coap_explain.specs.declared.outcomes.Before as program
-use Rattle.coap_explain.specs.declared.taken.Taken.{Taken}
-use Rattle.coap_explain.specs.declared.taken.Taken.TheVariants as ways
+use Rattle.coap_explain.specs.declared.routed.Routed.{Routed}
+use Rattle.coap_explain.specs.declared.routed.Routed.TheVariants as ways
 use Rattle.coap_explain.specs.Causes.{unprocessed_of}
 use Rattle.coap_explain.specs.Details.{dropped_text, refused_text}
 use Rattle.coap_explain.specs.Lacks.{to_join, to_open, usage_of}
@@ -73,10 +73,10 @@ abbrev pub message_text : Event → List ℕ
 message_text (arrival from bytes) = message_read (read_message bytes)
 message_text tick = []
 
-abbrev pub taken_text : Taken → List ℕ
-taken_text ways.Nowhere = []
-taken_text (ways.To target) = codes " " ++ target_text target
-taken_text ways.Unknown = codes " target: out of memory"
+abbrev pub routed_text : Routed → List ℕ
+routed_text ways.Nowhere = []
+routed_text (ways.To target) = codes " " ++ target_text target
+routed_text ways.Unknown = codes " target: out of memory"
 
 -- ---- what was noted before the step
 
@@ -208,14 +208,14 @@ details_of event None sent now w n = []
 details_of event (Some report) sent now w n = done_text event report sent now w n
 
 -- the line of a turn, at this time of day, whose request the routes take there
-abbrev pub line_of : Told → List ℕ → Taken → Noted → Line
-line_of t time taken n = record {
+abbrev pub line_of : Told → List ℕ → Routed → Noted → Line
+line_of t time routed n = record {
   number = t.state.events;
   moment = t.turn.now;
   time = time;
   source = source_text t.turn.event;
   message = message_text t.turn.event;
-  target = taken_text taken;
+  target = routed_text routed;
   outcome = outcome_text t.report;
   details = details_of t.turn.event t.report t.bytes t.turn.now t.state n;
 }

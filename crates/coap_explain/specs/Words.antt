@@ -81,7 +81,7 @@ share_key shares.Con = share_name shares.Con
 share_key shares.Non = share_name shares.Non
 share_key shares.Ids = share_name shares.Ids
 
--- how much of it is taken, and how much there may be
+-- how much of it is in use, and how much there may be
 abbrev pub lack_text : Option Lack → List ℕ
 lack_text None = []
 lack_text (Some l) =

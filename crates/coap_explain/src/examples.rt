@@ -8,7 +8,7 @@ ghost use Rattle.coap_explain.specs.declared.causes.BadGateway.TheVariants as ga
 ghost use Rattle.coap_explain.specs.declared.causes.Refusal.TheVariants as refusals;
 ghost use Rattle.coap_explain.specs.declared.causes.Unprocessed.TheVariants as unprocessed;
 ghost use Rattle.coap_explain.specs.declared.lacks.Share.TheVariants as shares;
-ghost use Rattle.coap_explain.specs.declared.taken.Taken.TheVariants as ways;
+ghost use Rattle.coap_explain.specs.declared.routed.Routed.TheVariants as ways;
 ghost use Rattle.coap_explain.specs.Causes.{refusal_of, unprocessed_of};
 ghost use Rattle.coap_model.specs.Examples as runs;
 ghost use Rattle.coap_explain.specs.Account.{line_of, line_text};

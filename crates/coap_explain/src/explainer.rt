@@ -12,7 +12,7 @@ use crate::causes::joins;
 use crate::due::Due;
 use crate::messages::{put_endpoint, put_kind, put_target};
 use crate::outcomes::{Before, put_outcome};
-use crate::taken::Taken;
+use crate::routed::Routed;
 use coap_core::{Core, Event, Watch, WatchedTurn};
 use coap_message::{MessageRef, Moment, OutOfMemory};
 use coap_store::Store;
@@ -129,15 +129,15 @@ fn put_head(line: &mut Vec<u8>, number: u64, now: Moment, time: &[u8]) -> io::Re
     line.write_all(time)
 }
 
-/// Adds what came, and where its request is taken.
-fn put_event(line: &mut Vec<u8>, event: Event<'_>, taken: &Taken) -> io::Result<()>
+/// Adds what came, and where its request is routed.
+fn put_event(line: &mut Vec<u8>, event: Event<'_>, routed: &Routed) -> io::Result<()>
     ensures { OnOk result (line.new.items
         ≡ line.old.items ++ spec.source_text (seen event.entry)
-        ++ spec.message_text (seen event.entry) ++ spec.taken_text taken.now) }
+        ++ spec.message_text (seen event.entry) ++ spec.routed_text routed.now) }
 {
     put_source(line, event)?;
     put_message(line, event)?;
-    taken.put(line)
+    routed.put(line)
 }
 
 /// What a line says beside its turn.
@@ -146,7 +146,7 @@ struct Beside<'a> {
     /// The time of day, with a blank behind it.
     time: &'a [u8],
     /// Where the routes take the request.
-    taken: &'a Taken,
+    routed: &'a Routed,
     before: Before<'a>,
 }
 
@@ -160,10 +160,10 @@ fn put_line<S: Store + Drop>(
     ensures { OnOk result (line.new.items
         ≡ line.old.items
         ++ spec.line_text (spec.line_of (told turn.entry core.now) beside.entry.time.now
-        beside.entry.taken.now (spec.noted_seen beside.entry.before))) }
+        beside.entry.routed.now (spec.noted_seen beside.entry.before))) }
 {
     put_head(line, core.events(), turn.now, beside.time)?;
-    put_event(line, turn.event, beside.taken)?;
+    put_event(line, turn.event, beside.routed)?;
     put_outcome(line, core, turn, beside.before)?;
     line.write_all(b"\n")
 }
@@ -210,10 +210,10 @@ impl<W: Write> Explainer<W> {
     {
         self.time.clear();
         put_time(&mut self.time, self.since, turn.now)?;
-        let taken = Taken::of(self.alloc, turn.event, core.routes());
+        let routed = Routed::of(self.alloc, turn.event, core.routes());
         let beside = Beside {
             time: self.time.as_slice(),
-            taken: &taken,
+            routed: &routed,
             before: Before {
                 due: self.due,
                 target: self.target.as_slice(),

@@ -23,7 +23,7 @@ pub(crate) enum Share {
     Ids,
 }
 
-/// A share of which too little is left: how much is taken, and how much there may be.
+/// A share of which too little is left: how much is in use, and how much there may be.
 #[derive(Clone, Copy, Debug, PartialEq, Eq)]
 pub(crate) struct Lack {
     pub(crate) share: Share,
@@ -37,7 +37,7 @@ pub(crate) type Lacks = [Option<Lack>; 5];
 /// The most Message IDs that are given in a window of 247 seconds (RFC 7252, 4.4): half of all.
 const IDS: u64 = 32_768;
 
-/// How much is taken, of all and of one client, with the limits, and how many Message IDs are free.
+/// How much is in use, of all and of one client, with the limits, and how many Message IDs are free.
 #[derive(Clone, Copy)]
 pub(crate) struct Usage {
     pub(crate) all: Counts,

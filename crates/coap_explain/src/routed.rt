@@ -16,7 +16,7 @@ use std::io;
 use std::io::Write;
 
 /// Where the routes take a request.
-pub(crate) enum Taken {
+pub(crate) enum Routed {
     /// Nowhere, or it is no request, or one of its options is refused.
     Nowhere,
     To(Target),
@@ -24,47 +24,47 @@ pub(crate) enum Taken {
     Unknown,
 }
 
-impl Drop for Taken {
+impl Drop for Routed {
     fn drop(self) {
         match self {
-            Taken::Nowhere | Taken::Unknown => {}
-            Taken::To(target) => {
+            Routed::Nowhere | Routed::Unknown => {}
+            Routed::To(target) => {
                 let _ = target;
             }
         }
     }
 }
 
-impl Taken {
+impl Routed {
     /// Where the routes take the request of an event.
-    pub(crate) fn of(alloc: Global, event: Event<'_>, routes: &Routes) -> Taken
+    pub(crate) fn of(alloc: Global, event: Event<'_>, routes: &Routes) -> Routed
         ensures { is_found result ≡ true
-            → result ≡ spec.taken_of routes.now (seen event.entry) }
+            → result ≡ spec.routed_of routes.now (seen event.entry) }
     {
         let Event::Datagram { bytes, .. } = event else {
-            return Taken::Nowhere;
+            return Routed::Nowhere;
         };
         match MessageRef::read(bytes) {
             Ok(message) if message.code().is_request() => {
-                Taken::of_request(alloc, &message, routes)
+                Routed::of_request(alloc, &message, routes)
             }
-            Ok(_) | Err(_) => Taken::Nowhere,
+            Ok(_) | Err(_) => Routed::Nowhere,
         }
     }
 
     /// Where the routes take a request.
-    fn of_request(alloc: Global, request: &MessageRef<'_>, routes: &Routes) -> Taken
+    fn of_request(alloc: Global, request: &MessageRef<'_>, routes: &Routes) -> Routed
         ensures { is_found result ≡ true
-            → result ≡ spec.taken_with routes.now request.now }
+            → result ≡ spec.routed_with routes.now request.now }
     {
         if screen_request_ref(request).is_err() {
-            return Taken::Nowhere;
+            return Routed::Nowhere;
         }
         match routes.target_of_ref(alloc, request) {
-            Ok(target) => Taken::To(target),
-            Err(TargetError::OutOfMemory) => Taken::Unknown,
+            Ok(target) => Routed::To(target),
+            Err(TargetError::OutOfMemory) => Routed::Unknown,
             Err(TargetError::BadUri | TargetError::NotProxied | TargetError::NotFound) => {
-                Taken::Nowhere
+                Routed::Nowhere
             }
         }
     }
@@ -72,15 +72,15 @@ impl Taken {
     /// Adds the target, if there is one, or that there was no memory to find it.
     pub(crate) fn put(&self, line: &mut Vec<u8>) -> io::Result<()>
         ensures { OnOk result
-            (line.new.items ≡ line.old.items ++ text.taken_text self.now) }
+            (line.new.items ≡ line.old.items ++ text.routed_text self.now) }
     {
         match self {
-            Taken::Nowhere => Ok(()),
-            Taken::To(target) => {
+            Routed::Nowhere => Ok(()),
+            Routed::To(target) => {
                 line.write_all(b" ")?;
                 put_target(line, target)
             }
-            Taken::Unknown => line.write_all(b" target: out of memory"),
+            Routed::Unknown => line.write_all(b" target: out of memory"),
         }
     }
 }
