@@ -5,7 +5,7 @@ ghost use Rattle.coap_message.specs.declared.code.Code.{Code};
 ghost use Rattle.coap_message.specs.declared.kind.Kind.{Kind};
 ghost use Rattle.coap_message.specs.declared.kind.Kind.TheVariants.{Non};
 ghost use Rattle.coap_option.specs.declared.numbers.TheConstants.{OBSERVE};
-ghost use Rattle.coap_forward.specs.Answers.{is_storable, without_observe, taken_of, validates, fits, answer_if_fits, answer_of, copy_in, validated, left_of, left_to_show, bad_gateway, gateway_timeout, origin_answer, own_answer};
+ghost use Rattle.coap_forward.specs.Answers.{is_storable, without_observe, passed_part, validates, fits, answer_if_fits, answer_of, copy_in, validated, left_of, left_to_show, bad_gateway, gateway_timeout, origin_answer, own_answer};
 
 use coap_message::{
     Code, Kind, Message, MessageRef, Moment, OptionList, Options, OutOfMemory, Seq, Token,
@@ -53,10 +53,14 @@ fn validates(to_get: bool, response: &MessageRef<'_>) -> bool
     to_get && response.code() == Code::VALID
 }
 
-/// A copy of what is taken from a response: it without Observe (RFC 7641, 2), and, if it validates,
+/// A copy of what is passed on of a response: it without Observe (RFC 7641, 2), and, if it validates,
 /// without its payload too.
-fn taken_of(alloc: Global, to_get: bool, response: &MessageRef<'_>) -> Result<Message, OutOfMemory>
-    ensures { IfOk result (λ message. message ≡ taken_of to_get response.now) }
+fn passed_part(
+    alloc: Global,
+    to_get: bool,
+    response: &MessageRef<'_>,
+) -> Result<Message, OutOfMemory>
+    ensures { IfOk result (λ message. message ≡ passed_part to_get response.now) }
 {
     let payload = if validates(to_get, response) {
         &[]
@@ -199,7 +203,7 @@ pub fn answer_of(
     if valid && request.copy.is_none() {
         return Ok(bad_gateway(alloc, now));
     }
-    let message = taken_of(alloc, request.is_get, response)?;
+    let message = passed_part(alloc, request.is_get, response)?;
     if !fits(&message, most) {
         return Ok(bad_gateway(alloc, now));
     }

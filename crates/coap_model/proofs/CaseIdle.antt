@@ -29,7 +29,7 @@ use Rattle.coap_model.proofs.Turns.{turn-due}
 pub keeps_idling : (w : State) (history : List Action) (c : Bears history w) (now draw : ℕ) → w.last ≤ now → if_due now (item_due w) ≡ None → Bears (doing no_item (observation_of now draw tick (idles w now)) ∷ history) (idles w now).state
 keeps_idling w history c now draw onward nothing =
     let e = doing no_item (observation_of now draw tick (idles w now)) in
-    keeps_quiet w history c e (record { act = refl; opens = refl; admits = refl; sends = refl; takes = refl; leaves_open = λ standing xs. refl; stands = λ standing. refl }) refl (λ k. refl) onward refl
+    keeps_quiet w history c e (record { act = refl; opens = refl; admits = refl; sends = refl; accepts_answer = refl; leaves_open = λ standing xs. refl; stands = λ standing. refl }) refl (λ k. refl) onward refl
     (record { act = refl; ticked = refl; nothing = idling-due w history c now nothing; silent = record { sent = refl; bytes = refl } }, c.past)
 
 -- the waiter that is due first exists, and is due from its moment on

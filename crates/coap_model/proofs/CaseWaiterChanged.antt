@@ -28,7 +28,7 @@ use Rattle.coap_model.specs.Ticks.{redelivers, abandons}
 use Rattle.coap_model.specs.Empties.{closes}
 use Rattle.coap_model.specs.Step.{message_in}
 use Rattle.coap_model.specs.Runs.{observation_of}
-use Rattle.coap_model.specs.History.{moves, serves, Action, Position, IsPositionOf, Somewhere, opens_one, admits_one, admitted_in, takes, gives_id, Serves}
+use Rattle.coap_model.specs.History.{moves, serves, Action, Position, IsPositionOf, Somewhere, opens_one, admits_one, admitted_in, accepts_answer, gives_id, Serves}
 use Rattle.coap_model.specs.Standing as stages
 use Rattle.coap_model.specs.Standing.{WaiterStanding, Open, open_by, standing_in, delivering, service_of}
 use Rattle.coap_model.specs.Schedules.{IsSchedule, sends_by}
@@ -59,7 +59,7 @@ pub record IsService (n : ℕ) (e : Action) : Type 0 where
   pub opens : opens_one e.observation.report.outcome ≡ 0
   pub admits : admits_one e.observation.report.outcome ≡ 0
   pub gives : gives_id e.observation ≡ 0
-  pub takes : takes e.observation.report.outcome ≡ false
+  pub accepts_answer : accepts_answer e.observation.report.outcome ≡ false
   pub leaving : leaves e.observation.report.outcome ≡ true
   pub leaves_open : (standing : List WaiterStanding) (xs : List Open) → open_by e.observation.report.outcome e.act e.observation.event e.observation.report.send standing xs ≡ xs
 
@@ -103,9 +103,9 @@ keeps_service w history c e n left s none onward served are seen there each numb
         unended = λ x was never. c.whole.unended x (opened-before history e x s.opens was) never.1;
         unserved = λ v x was never. there v (λ same. Never-at (Serves v) history served.position never.1 served.is_there (subst (λ (k : ℕ). Serves k served.position) (sym same) served.holds)) (c.whole.unserved v x (admitted-before history e v x s.admits was) never.1);
       };
-      exchanges = exchanges_frame w.setting history e w.exchanges s.takes unmoved c.exchanges;
+      exchanges = exchanges_frame w.setting history e w.exchanges s.accepts_answer unmoved c.exchanges;
       waiters = each;
-      store = store-otherwise w.setting history w.store e s.leaving s.takes c.store;
+      store = store-otherwise w.setting history w.store e s.leaving s.accepts_answer c.store;
       con_records = remembered.0;
       non_records = remembered.1;
       within = record {
@@ -222,7 +222,7 @@ keeps_redelivering w history c now draw at n v bytes id timer onward turn fire =
     } in
     let state : fired_state now v.state ≡ Delivering bytes id (fired now timer) = ap (fired_state now) turn.state in
     keeps_service w history c e n (changed_at n (fired_waiter now) w.waiters)
-    (record { act = refl; opens = refl; admits = refl; gives = refl; takes = refl; leaving = refl; leaves_open = λ standing xs. refl })
+    (record { act = refl; opens = refl; admits = refl; gives = refl; accepts_answer = refl; leaving = refl; leaves_open = λ standing xs. refl })
     (λ k. refl) onward
     (record { position = g.serving; is_there = g.was_served; holds = g.is_serving })
     (left-fired w history c n now)
@@ -261,7 +261,7 @@ keeps_abandoning w history c now draw at n v bytes id timer onward turn fire =
     let g = delivering-is w history c n id v bytes timer turn.found turn.state in
     let t = to-serve-again w history c now at n id v bytes timer turn in
     keeps_service w history c e n (without n w.waiters)
-    (record { act = refl; opens = refl; admits = refl; gives = refl; takes = refl; leaving = refl; leaves_open = λ standing xs. refl })
+    (record { act = refl; opens = refl; admits = refl; gives = refl; accepts_answer = refl; leaving = refl; leaves_open = λ standing xs. refl })
     (λ k. refl) onward
     (record { position = g.serving; is_there = g.was_served; holds = g.is_serving })
     (left-gone w history c n v bytes id timer turn.found turn.state)
@@ -286,7 +286,7 @@ keeps_closing w history c now draw source bytes m n onward fits read about =
     let was = delivering-delivered w.setting history v f.2.0 (same_Some (service_in v.1.state) delivering service) in
     let below = (admitted-number was.delivering.admitted).1 in
     keeps_service w history c e n (without n w.waiters)
-    (record { act = refl; opens = refl; admits = refl; gives = refl; takes = refl; leaving = refl; leaves_open = λ standing xs. refl })
+    (record { act = refl; opens = refl; admits = refl; gives = refl; accepts_answer = refl; leaving = refl; leaves_open = λ standing xs. refl })
     (λ kind. refl) onward
     (record { position = k.serving; is_there = k.was_served; holds = k.serves })
     (left-gone w history c n v.1 was.bytes was.id was.timer found was.state_is)

@@ -24,7 +24,7 @@ use Rattle.coap_model.specs.declared.report.Outcome.{Outcome}
 use Rattle.coap_model.specs.declared.report.Outcome.TheVariants.{Opened}
 use Rattle.coap_model.specs.Setting.{Setting}
 use Rattle.coap_model.specs.State.{State}
-use Rattle.coap_model.specs.History.{Act, no_item, admits, moves, serves, Action, Position, IsPositionOf, Somewhere, opens_one, admits_one, takes, Gets, opened_in, admitted_in, Opens, Admits}
+use Rattle.coap_model.specs.History.{Act, no_item, admits, moves, serves, Action, Position, IsPositionOf, Somewhere, opens_one, admits_one, accepts_answer, Gets, opened_in, admitted_in, Opens, Admits}
 use Rattle.coap_model.specs.Schedules.{same_act, is_sending, sends_for, sends_by, IsSchedule}
 use Rattle.coap_model.specs.Carries.{Clock, Numbers, IsTimer, AreOfBytes, WasAsked, WasSent, IsInFlight, IsState, IsExchangeOf, IsWaiterIn, IsWaiterOf, AreUnused, AreSchedules}
 use Rattle.coap_model.proofs.Positions.{here, index_below, opened-later, admitted-later}
@@ -195,12 +195,12 @@ exchange_tainted setting history e x b other taint f =
     }
 
 -- so it stays right without a taint if no answer is accepted
-pub exchange_frame : (setting : Setting) (history : List Action) (e : Action) (x : Numbered Exchange) → takes e.observation.report.outcome ≡ false → e.act ≢ moves x.0 → IsExchangeOf setting history x → IsExchangeOf setting (e ∷ history) x
+pub exchange_frame : (setting : Setting) (history : List Action) (e : Action) (x : Numbered Exchange) → accepts_answer e.observation.report.outcome ≡ false → e.act ≢ moves x.0 → IsExchangeOf setting history x → IsExchangeOf setting (e ∷ history) x
 exchange_frame setting history e x none other f =
     exchange_tainted setting history e x x.1.tainted other (record { flying = λ flying since at told. told-stays x.1.tainted setting x.1.key.target since history e none told; resting = λ resting. refl }) f
 
 -- all exchanges stay right at an observation that accepts no answer and acts on none of them
-pub exchanges_frame : (setting : Setting) (history : List Action) (e : Action) (xs : List (Numbered Exchange)) → takes e.observation.report.outcome ≡ false → ((x : ℕ) → e.act ≢ moves x)
+pub exchanges_frame : (setting : Setting) (history : List Action) (e : Action) (xs : List (Numbered Exchange)) → accepts_answer e.observation.report.outcome ≡ false → ((x : ℕ) → e.act ≢ moves x)
     → AllByRecursion (IsExchangeOf setting history) xs → AllByRecursion (IsExchangeOf setting (e ∷ history)) xs
 exchanges_frame setting history e xs none other all =
     All-weaken (IsExchangeOf setting history) (IsExchangeOf setting (e ∷ history)) xs (λ x f. exchange_frame setting history e x none (other x.0) f) all

@@ -15,7 +15,7 @@ use Rattle.coap_endpoint.specs.declared.target.Target.{Target}
 use Rattle.coap_forward.specs.Changes.{is_change, created_by, changed_by, concerns}
 use Rattle.coap_model.specs.Setting.{Setting}
 use Rattle.coap_model.specs.Keys.{key_sent}
-use Rattle.coap_model.specs.History.{Action, Position, index, Never, takes, Sends, Gets}
+use Rattle.coap_model.specs.History.{Action, Position, index, Never, accepts_answer, Sends, Gets}
 use Rattle.coap_model.specs.Changed.{asked_of, key_asked, to_get, Changes, ChangesAfter, Unchanged, WasChanged, IsTold}
 use Rattle.coap_message.proofs.WholeMessages.{one_message}
 use Rattle.coap_model.proofs.Positions.{here, index_below, same_moves, first-once, one-brought, never-from, Never-at}
@@ -58,11 +58,11 @@ one-getting {setting} {x} {y} {p} g h =
 -- ---- observations that accept no answer
 
 -- an observation that accepts no answer changes nothing
-pub quiet-unchanged : {setting : Setting} {history : List Action} {d : Action} {target : Target} → takes d.observation.report.outcome ≡ false → Changes setting target (here history d) → ⊥
+pub quiet-unchanged : {setting : Setting} {history : List Action} {d : Action} {target : Target} → accepts_answer d.observation.report.outcome ≡ false → Changes setting target (here history d) → ⊥
 quiet-unchanged none c = let e = sym none ∙ c.gets.outcome in absurd cc
 
 -- so what a mark says stays right
-pub told-stays : (told : Bool) (setting : Setting) (target : Target) (since : Position) (history : List Action) (d : Action) → takes d.observation.report.outcome ≡ false → IsTold told setting target since history → IsTold told setting target since (d ∷ history)
+pub told-stays : (told : Bool) (setting : Setting) (target : Target) (since : Position) (history : List Action) (d : Action) → accepts_answer d.observation.report.outcome ≡ false → IsTold told setting target since history → IsTold told setting target since (d ∷ history)
 told-stays false setting target since history d none t = ((λ c. quiet-unchanged none c.0), t)
 told-stays true setting target since history d none t = record { position = t.position; is_there = inr t.is_there; holds = t.holds }
 
@@ -92,7 +92,7 @@ pub told-contrary : {setting : Setting} {target : Target} (since : Position) {hi
 told-contrary {setting} {target} since {history} never was = Never-at (ChangesAfter setting target since) history was.position never was.is_there was.holds
 
 -- nothing was changed after the newest position
-pub newest-unchanged : (setting : Setting) (target : Target) (history : List Action) (d : Action) → takes d.observation.report.outcome ≡ false → Unchanged setting target (here history d) (d ∷ history)
+pub newest-unchanged : (setting : Setting) (target : Target) (history : List Action) (d : Action) → accepts_answer d.observation.report.outcome ≡ false → Unchanged setting target (here history d) (d ∷ history)
 newest-unchanged setting target history d none = ((λ c. quiet-unchanged none c.0), never-from (ChangesAfter setting target (here history d)) history (λ p at c. let lower = index_below history p at in let above = c.1 in omega (arith, lower, above)))
 
 -- ---- an answer that may be stored changes nothing

@@ -23,7 +23,7 @@ use Rattle.coap_model.specs.Events.{Event}
 use Rattle.coap_forward.specs.Messages.{is_con, brings_requests, acknowledgement, reset, own_reply, busy_reply, at_once, reply_kind, reply_id, token_of, is_get}
 use Rattle.coap_forward.specs.Forms.{forwarded, tag_for}
 use Rattle.coap_forward.specs.Answers.{stored_answer, shown, shown_as}
-use Rattle.coap_model.specs.History.{Observation, Act, no_item, admits, moves, serves, Action, Position, ids_in, opened_in, admitted_in, comes_con, ids_given, takes, Brings, Meets, Gets, Ends, Gives, IsRequestOf}
+use Rattle.coap_model.specs.History.{Observation, Act, no_item, admits, moves, serves, Action, Position, ids_in, opened_in, admitted_in, comes_con, ids_given, accepts_answer, Brings, Meets, Gets, Ends, Gives, IsRequestOf}
 use Rattle.coap_model.specs.Standing.{HasIds, HasRoomToJoin, HasRoomToOpen, queued, stage_of}
 use Rattle.coap_model.specs.Schedules.{sends_by, MayGoOn, SaysAsBefore}
 use Rattle.coap_model.specs.Due.{IsToEnd, IsToRepeat, IsToServe, IsDueAt, ComesBefore}
@@ -144,8 +144,8 @@ one-act setting past d e p q = ⊎_elim (λ (same : d.act ≡ e.act). same) (λ 
 ending-there : (setting : Setting) (x y : ℕ) (k l : CacheKey) (p : Position) (a b : Answer) → EndsWith setting x k p a → EndsWith setting y l p b → a ≡ b
 ending-there setting x y k l p a b (got g former was key is) (got h older before other also) =
     is ∙ one-gotten g h (one-former g h was before) ∙ sym also
-ending-there setting x y k l p a b (got g former was key is) (was_given_up h also) = absurd (let e = sym g.outcome ∙ ap takes h.outcome in cc)
-ending-there setting x y k l p a b (was_given_up g is) (got h older before other also) = absurd (let e = sym h.outcome ∙ ap takes g.outcome in cc)
+ending-there setting x y k l p a b (got g former was key is) (was_given_up h also) = absurd (let e = sym g.outcome ∙ ap accepts_answer h.outcome in cc)
+ending-there setting x y k l p a b (was_given_up g is) (got h older before other also) = absurd (let e = sym h.outcome ∙ ap accepts_answer g.outcome in cc)
 ending-there setting x y k l p a b (was_given_up g is) (was_given_up h also) = is ∙ sym also
 
 -- so it does at equal positions
@@ -310,9 +310,9 @@ same-action d e entry act = same
     same = rw (entry, act) refl
 
 -- an outcome that accepts an answer stores it in some way, or not
-taken-some : (o : Outcome) → takes o ≡ true → (s : Storing) × (o ≡ Answered s)
-taken-some (Answered s) e = (s, refl)
-taken-some _ e = absurd cc
+accepts_answer-some : (o : Outcome) → accepts_answer o ≡ true → (s : Storing) × (o ≡ Answered s)
+accepts_answer-some (Answered s) e = (s, refl)
+accepts_answer-some _ e = absurd cc
 
 -- actions that may follow the same actions at the same turn are equal
 pub one-answer : (setting : Setting) (past : List Action) (d e : Action) → AllJustified setting past → opened_in past < 2 ^ 64 → MayFollow setting past d → MayFollow setting past e → AreOfOneTurn d.observation e.observation → d ≡ e
@@ -392,7 +392,7 @@ one-answer setting past d e all few f g turn =
             given_no_room e.observation.report.outcome setting past e wanted.0 g.justified a (sym (ap (λ (m : Message). m.kind) one.1) ∙ con) ((λ i. known_of past e.observation.now (sym one.0 i) (sym one.1 i)) ∙ unknown) (subst (λ (to : Endpoint). ¬ HasRecordRoom setting past e.observation.now to a.meets.message) one.0 (subst (λ (m : Message). ¬ HasRecordRoom setting past e.observation.now j.source m) one.1 full))
 
     -- an answer is accepted by the other observation
-    answered_too : IsAnswer setting past d → takes e.observation.report.outcome ≡ true
+    answered_too : IsAnswer setting past d → accepts_answer e.observation.report.outcome ≡ true
     answered_too a =
         let t = turned (λ n event. (w : IsAwaited setting past n a.exchange event) × (w.meets.message.kind ≡ Con → IsNew setting past n w.meets.asks.sends.to w.meets.message)) (answer-awaited a, a.new) in
         given_answered e.observation.report.outcome setting past e a.exchange g.justified t.0 t.1
@@ -492,7 +492,7 @@ one-answer setting past d e all few f g turn =
         record { outcome = is ∙ sym o; act = j.act ∙ sym k.act; say = silent-same d.observation e.observation j.silent k.silent }
     by_outcome (Answered s) is j =
         let a = taken-so s setting past d j in
-        let some = taken-some e.observation.report.outcome (answered_too a) in
+        let some = accepts_answer-some e.observation.report.outcome (answered_too a) in
         let k = holds (Answered some.0) some.1 in
         let b = taken-so some.0 setting past e k in
         let act = one-exchange setting past all few d e turn a b in

@@ -18,7 +18,7 @@ use Rattle.coap_model.specs.Events.{Event, arrival, tick}
 use Rattle.coap_forward.specs.Messages.{is_recorded}
 use Rattle.coap_model.specs.Verdicts.{may_ask}
 use Rattle.coap_model.specs.Standing.{HasIds, HasRoomToJoin, HasRoomToOpen}
-use Rattle.coap_model.specs.History.{Act, moves, serves, Action, takes, Brings, IsRequestOf, Meets, Matches}
+use Rattle.coap_model.specs.History.{Act, moves, serves, Action, accepts_answer, Brings, IsRequestOf, Meets, Matches}
 use Rattle.coap_store.specs.Lists.{of_key}
 use Rattle.coap_model.specs.Cached.{Cached, cached_key, IsCacheOf}
 use Rattle.coap_model.proofs.Cached.{cache-unique}
@@ -394,10 +394,10 @@ module _ (o : Outcome) (setting : Setting) (past : List Action) (d : Action) (cl
 
 module _ (o : Outcome) (setting : Setting) (past : List Action) (d : Action) (x : ℕ) (j : JustifiedBy o setting past d) (a : IsAwaited setting past d.observation.now x d.observation.event) where
   -- an awaited answer is accepted; one in a Confirmable message if it is new
-  pub given_answered : (a.meets.message.kind ≡ Con → IsNew setting past d.observation.now a.meets.asks.sends.to a.meets.message) → takes o ≡ true
+  pub given_answered : (a.meets.message.kind ≡ Con → IsNew setting past d.observation.now a.meets.asks.sends.to a.meets.message) → accepts_answer o ≡ true
   given_answered new = go o j
     where
-      go : (p : Outcome) → JustifiedBy p setting past d → takes p ≡ true
+      go : (p : Outcome) → JustifiedBy p setting past d → accepts_answer p ≡ true
       go Ignored k = absurd (k.unprocessable.no_answer x a)
       go Rejected k = absurd (k.unprocessable.no_answer x a)
       go (Refused code) k = no_answer a.meets k.asked

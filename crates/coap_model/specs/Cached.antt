@@ -19,7 +19,7 @@ use Rattle.coap_model.specs.declared.report.Storing.{Storing}
 use Rattle.coap_model.specs.declared.report.Storing.TheVariants.{Kept, TooLarge, NoMemory, NotStored}
 use Rattle.coap_model.specs.Setting.{Setting}
 use Rattle.coap_model.specs.Keys.{request_key}
-use Rattle.coap_forward.specs.Answers.{answer_of, fits, is_passed_on, taken_of}
+use Rattle.coap_forward.specs.Answers.{answer_of, fits, is_passed_on, passed_part}
 use Rattle.coap_model.specs.History.{Action, Position, index, IsPositionOf, Brings, Opens, Gets}
 use Rattle.coap_model.specs.Changed.{asked_of, key_asked, to_get, Unchanged, IsTold}
 use Rattle.coap_model.specs.Pairs.{Pairs}
@@ -49,7 +49,7 @@ pub data IsObtained (setting : Setting) (key : CacheKey) : Message → Position 
     → Type 0 where
   first_hand : {response : Message} {asking getting : Position}
       (fetched : IsFetched setting key asking getting)
-      → response ≡ taken_of true fetched.gets.meets.message
+      → response ≡ passed_part true fetched.gets.meets.message
       → IsLasting response
       → IsObtained setting key response asking getting
   validated : {response old : Message} {asking getting old_asking old_getting : Position}
@@ -59,8 +59,8 @@ pub data IsObtained (setting : Setting) (key : CacheKey) : Message → Position 
       → IsPositionOf asking.before old_getting
       → tag_of old.options ≡ Some tag
       → tags_of (asked_of fetched.gets) ≡ tag ∷ []
-      → is_validated old (taken_of true fetched.gets.meets.message) ≡ true
-      → response ≡ renewed old (taken_of true fetched.gets.meets.message)
+      → is_validated old (passed_part true fetched.gets.meets.message) ≡ true
+      → response ≡ renewed old (passed_part true fetched.gets.meets.message)
       → fits setting.limits.datagram response ≡ true
       → IsLasting response
       → IsObtained setting key response asking getting

@@ -277,29 +277,29 @@ pub record Meets (setting : Setting) (x : ℕ) (past : List Action) (event : Eve
   pub matches : Matches (token_of setting.salt x) asks.sends.message.id message
 
 -- an answer is accepted, whether it is stored or not
-abbrev pub takes : Outcome → Bool
-takes Ignored = false
-takes Rejected = false
-takes Again = false
-takes NoRecordRoom = false
-takes (Refused code) = false
-takes Hit = false
-takes Joined = false
-takes Opened = false
-takes Overloaded = false
-takes NoId = false
-takes (Answered storing) = true
-takes Acked = false
-takes SentRequest = false
-takes Resent = false
-takes GaveUp = false
-takes Delivered = false
-takes Idle = false
+abbrev pub accepts_answer : Outcome → Bool
+accepts_answer Ignored = false
+accepts_answer Rejected = false
+accepts_answer Again = false
+accepts_answer NoRecordRoom = false
+accepts_answer (Refused code) = false
+accepts_answer Hit = false
+accepts_answer Joined = false
+accepts_answer Opened = false
+accepts_answer Overloaded = false
+accepts_answer NoId = false
+accepts_answer (Answered storing) = true
+accepts_answer Acked = false
+accepts_answer SentRequest = false
+accepts_answer Resent = false
+accepts_answer GaveUp = false
+accepts_answer Delivered = false
+accepts_answer Idle = false
 
 -- the answer of this exchange arrived there
 pub record Gets (setting : Setting) (x : ℕ) (p : Position) : Type 0 where
   pub act : p.action.act ≡ moves x
-  pub outcome : takes p.action.observation.report.outcome ≡ true
+  pub outcome : accepts_answer p.action.observation.report.outcome ≡ true
   pub meets : Meets setting x p.before p.action.observation.event
   pub bytes : IsBytes meets.brings.bytes
 

@@ -8,7 +8,7 @@ ghost use Rattle.coap_model.specs.declared.report.Storing.TheVariants.{Kept, Too
 ghost use Rattle.coap_model.specs.Verdicts.{may_ask};
 ghost use Rattle.coap_model.specs.Events.{tick, arrival, IsEvent};
 ghost use Rattle.coap_model.specs.State.{client_counts, counts, State};
-ghost use Rattle.coap_model.specs.History.{Act, serves, takes, opened_in, Action, Position, IsPositionOf, Somewhere, Sends, Ends, Serves, LetsGo, Never, last_of, IsInOrder, IsRequestOf, Observation, gives_id, ids_in, Gives};
+ghost use Rattle.coap_model.specs.History.{Act, serves, accepts_answer, opened_in, Action, Position, IsPositionOf, Somewhere, Sends, Ends, Serves, LetsGo, Never, last_of, IsInOrder, IsRequestOf, Observation, gives_id, ids_in, Gives};
 ghost use Rattle.coap_forward.specs.Messages.{kept_reply, brings_requests};
 ghost use Rattle.coap_model.specs.Justified.{HaveOneMemory, Comes, known_of, HasRecordRoom, Acknowledges, Closes, IsNew, IsUnprocessable, verdict_on, fits_on, IsMiss, IsJoinable, IsUnanswered, IsAwaited, IsActing, JustifiedBy, AllJustified, IsOwed, MayFollow, AreOfOneTurn, IsGet, IsUsable, HasIdFor, IsObtainedHere, size_here};
 ghost use Rattle.coap_model.specs.Runs.{answer_at};
@@ -167,7 +167,7 @@ pub fn what_is_owed_is_given_at_each_position()
     ensures not_stored { (history : List Observation) (w : State) (p : Promised history w)
         (position : Position)
         → IsPositionOf p.actions position
-        → takes position.action.observation.report.outcome ≡ true
+        → accepts_answer position.action.observation.report.outcome ≡ true
         → ¬ IsObtainedHere w.setting position.before position.action
         → position.action.observation.report.outcome ≡ Answered NotStored }
 {}
@@ -248,7 +248,7 @@ pub fn what_is_owed_is_given()
         → JustifiedBy d.observation.report.outcome setting past d
         → (awaited.meets.message.kind ≡ Con
         → IsNew setting past d.observation.now awaited.meets.asks.sends.to awaited.meets.message)
-        → takes d.observation.report.outcome ≡ true }
+        → accepts_answer d.observation.report.outcome ≡ true }
     ensures settled { (setting : Setting) (past : List Action) (d : Action) (exchange : ℕ)
         → JustifiedBy d.observation.report.outcome setting past d
         → Acknowledges setting past d.observation.now exchange d.observation.event
