@@ -236,8 +236,8 @@ impl<S: Store + Drop> State<S> {
         put_forwarded(&token, form, out, room)
     }
 
-    /// Replies 5.03, because a table is full, the client has its share of it, or too few Message IDs
-    /// are free. The Max-Age of the reply says in how many seconds to try again (RFC 7252,
+    /// Replies 5.03, because a table is full, the client has its share of it, or too few Message
+    /// IDs are free. The Max-Age of the reply says in how many seconds to try again (RFC 7252,
     /// 5.9.3.4).
     fn overload(
         &mut self,

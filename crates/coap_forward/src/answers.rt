@@ -53,8 +53,8 @@ fn validates(to_get: bool, response: &MessageRef<'_>) -> bool
     to_get && response.code() == Code::VALID
 }
 
-/// A copy of what is passed on of a response: it without Observe (RFC 7641, 2), and, if it validates,
-/// without its payload too.
+/// A copy of what is passed on of a response: it without Observe (RFC 7641, 2), and, if it
+/// validates, without its payload too.
 fn passed_part(
     alloc: Global,
     to_get: bool,
