@@ -24,7 +24,7 @@ use Rattle.coap_explain.specs.declared.due.DueClient.{DueClient}
 use Rattle.coap_explain.specs.declared.due.DueExchange.{DueExchange}
 use Rattle.coap_explain.specs.declared.lacks.Lack.{Lack}
 use Rattle.coap_explain.specs.declared.lacks.Usage.{Usage}
-use Rattle.coap_explain.specs.declared.outcomes.Before as program
+use Rattle.coap_explain.specs.declared.outcomes.Noted as program
 use Rattle.coap_explain.specs.declared.routed.Routed.{Routed}
 use Rattle.coap_explain.specs.declared.routed.Routed.TheVariants as ways
 use Rattle.coap_explain.specs.Causes.{unprocessed_of}
@@ -89,7 +89,7 @@ pub record Noted : Type 0 where
   -- a GET with the key of the last request could have shared an exchange's answer
   pub joins : Bool
 
-abbrev pub noted_seen : program.Before → Noted
+abbrev pub noted_seen : program.Noted → Noted
 noted_seen b =
     record { due = b.due; target = b.target.now; answering = b.answering; joins = b.joins }
 

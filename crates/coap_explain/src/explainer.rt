@@ -11,7 +11,7 @@ use crate::answering::Answering;
 use crate::causes::joins;
 use crate::due::Due;
 use crate::messages::{put_endpoint, put_kind, put_target};
-use crate::outcomes::{Before, put_outcome};
+use crate::outcomes::{Noted, put_outcome};
 use crate::routed::Routed;
 use coap_core::{Core, Event, Watch, WatchedTurn};
 use coap_message::{MessageRef, Moment, OutOfMemory};
@@ -147,7 +147,7 @@ struct Beside<'a> {
     time: &'a [u8],
     /// Where the routes take the request.
     routed: &'a Routed,
-    before: Before<'a>,
+    noted: Noted<'a>,
 }
 
 /// Adds the line of a turn.
@@ -160,11 +160,11 @@ fn put_line<S: Store + Drop>(
     ensures { OnOk result (line.new.items
         ≡ line.old.items
         ++ spec.line_text (spec.line_of (told turn.entry core.now) beside.entry.time.now
-        beside.entry.routed.now (spec.noted_seen beside.entry.before))) }
+        beside.entry.routed.now (spec.noted_seen beside.entry.noted))) }
 {
     put_head(line, core.events(), turn.now, beside.time)?;
     put_event(line, turn.event, beside.routed)?;
-    put_outcome(line, core, turn, beside.before)?;
+    put_outcome(line, core, turn, beside.noted)?;
     line.write_all(b"\n")
 }
 
@@ -214,7 +214,7 @@ impl<W: Write> Explainer<W> {
         let beside = Beside {
             time: self.time.as_slice(),
             routed: &routed,
-            before: Before {
+            noted: Noted {
                 due: self.due,
                 target: self.target.as_slice(),
                 answering: self.answering,
