@@ -22,7 +22,7 @@ use Rattle.coap_explain.specs.declared.answering.Answering.TheVariants.{Own, Pas
 use Rattle.coap_explain.specs.declared.causes.BadGateway.TheVariants.{Reset}
 use Rattle.coap_explain.specs.declared.causes.Silence.{Silence}
 use Rattle.coap_explain.specs.declared.causes.Silence.TheVariants.{NotSent, NotAcknowledged, NotAnswered}
-use Rattle.coap_explain.specs.declared.due.Came.{Came}
+use Rattle.coap_explain.specs.declared.due.ResponseCause.{ResponseCause}
 use Rattle.coap_explain.specs.declared.due.Due.{Due}
 use Rattle.coap_explain.specs.declared.due.Due.TheVariants as dues
 use Rattle.coap_explain.specs.declared.due.DueAnswer.{DueAnswer}
@@ -98,30 +98,30 @@ due_of w = due_in w (due_exchange w)
 
 -- ---- what came for an exchange, and why its clients get 5.02 if they do
 
-abbrev pub came_sent : Endpoint → Message → Exchange → Option Sending → Option Came
-came_sent from m x None = None
-came_sent from m x (Some s) =
+abbrev pub response_cause_sent : Endpoint → Message → Exchange → Option Sending → Option ResponseCause
+response_cause_sent from m x None = None
+response_cause_sent from m x (Some s) =
     Some (record { origin = from; id = s.id; cause = gateway_of m (Some x) })
 
-abbrev pub came_for : Endpoint → Message → Exchange → Option Came
-came_for from m x = came_sent from m x x.sending
+abbrev pub response_cause_for : Endpoint → Message → Exchange → Option ResponseCause
+response_cause_for from m x = response_cause_sent from m x x.sending
 
-abbrev pub came_awaited : Endpoint → Message → Option Exchange → Option Came
-came_awaited from m None = None
-came_awaited from m (Some x) = came_for from m x
+abbrev pub response_cause_awaited : Endpoint → Message → Option Exchange → Option ResponseCause
+response_cause_awaited from m None = None
+response_cause_awaited from m (Some x) = response_cause_for from m x
 
-abbrev pub came_with : State → Endpoint → Message → Option Came
-came_with w from m =
+abbrev pub response_cause_with : State → Endpoint → Message → Option ResponseCause
+response_cause_with w from m =
     if is_reset m.kind then Some (record { origin = from; id = m.id; cause = Reset })
-    else (if is_response m.code then came_awaited from m (awaited w from m) else None)
+    else (if is_response m.code then response_cause_awaited from m (awaited w from m) else None)
 
-abbrev pub came_read : State → Endpoint → Result Message DecodeError → Option Came
-came_read w from (Ok m) = came_with w from m
-came_read w from (Err e) = None
+abbrev pub response_cause_read : State → Endpoint → Result Message DecodeError → Option ResponseCause
+response_cause_read w from (Ok m) = response_cause_with w from m
+response_cause_read w from (Err e) = None
 
-abbrev pub came_of : State → Event → Option Came
-came_of w (arrival from bytes) = came_read w from (read_message bytes)
-came_of w tick = None
+abbrev pub response_cause_of : State → Event → Option ResponseCause
+response_cause_of w (arrival from bytes) = response_cause_read w from (read_message bytes)
+response_cause_of w tick = None
 
 -- ---- what is made of it
 

@@ -176,23 +176,23 @@ impl Due {
 /// A response that came for an exchange, and why a client gets 5.02, if it does. What becomes of
 /// the response isn't found here, as `Answering` finds it for `--explain`: that may allocate.
 #[derive(Clone, Copy, Debug, PartialEq, Eq)]
-pub(crate) struct Came {
+pub(crate) struct ResponseCause {
     pub(crate) origin: Endpoint,
     /// The Message ID of the exchange's request.
     pub(crate) id: u16,
     pub(crate) cause: BadGateway,
 }
 
-impl Came {
+impl ResponseCause {
     /// What an event brings to an exchange of a core, if it does.
-    pub(crate) fn of<S: Store + Drop>(event: Event<'_>, core: &Core<S>) -> Option<Came>
-        ensures { result ≡ spec.came_of core.now (seen event.entry) }
+    pub(crate) fn of<S: Store + Drop>(event: Event<'_>, core: &Core<S>) -> Option<ResponseCause>
+        ensures { result ≡ spec.response_cause_of core.now (seen event.entry) }
     {
         let Event::Datagram { from, bytes } = event else {
             return None;
         };
         match MessageRef::read(bytes) {
-            Ok(message) => Came::of_message(from, &message, core),
+            Ok(message) => ResponseCause::of_message(from, &message, core),
             Err(_) => None,
         }
     }
@@ -202,11 +202,11 @@ impl Came {
         from: Endpoint,
         message: &MessageRef<'_>,
         core: &Core<S>,
-    ) -> Option<Came>
-        ensures { result ≡ spec.came_with core.now from message.now }
+    ) -> Option<ResponseCause>
+        ensures { result ≡ spec.response_cause_with core.now from message.now }
     {
         if message.kind() == Kind::Rst {
-            return Some(Came {
+            return Some(ResponseCause {
                 origin: from,
                 id: message.id(),
                 cause: BadGateway::Reset,
@@ -216,15 +216,19 @@ impl Came {
             return None;
         }
         let exchange = core.awaited(from, message)?;
-        Came::for_exchange(from, message, exchange)
+        ResponseCause::for_exchange(from, message, exchange)
     }
 
     /// What a response brings to the exchange that awaits it.
-    fn for_exchange(from: Endpoint, response: &MessageRef<'_>, exchange: &Exchange) -> Option<Came>
-        ensures { result ≡ spec.came_for from response.now exchange.now }
+    fn for_exchange(
+        from: Endpoint,
+        response: &MessageRef<'_>,
+        exchange: &Exchange,
+    ) -> Option<ResponseCause>
+        ensures { result ≡ spec.response_cause_for from response.now exchange.now }
     {
         match exchange.sending {
-            Some(sending) => Some(Came {
+            Some(sending) => Some(ResponseCause {
                 origin: from,
                 id: sending.id,
                 cause: BadGateway::of(response, Some(exchange)),

@@ -1,7 +1,7 @@
 //! A watcher that logs what goes wrong.
 
 use crate::causes::{BadGateway, Silence, joins, overload_of};
-use crate::due::{Came, Due, DueAnswer, DueExchange};
+use crate::due::{Due, DueAnswer, DueExchange, ResponseCause};
 use crate::lacks::{Lacks, Usage};
 use crate::log_fields::{
     Cause, NotedCause, TargetText, put_cause, put_exchange, put_lacks, put_number, put_peer,
@@ -40,7 +40,7 @@ pub struct Logger<W: Write> {
     /// Whether the output took only a part of the last line.
     torn: bool,
     due: Due,
-    came: Option<Came>,
+    response: Option<ResponseCause>,
     causes: Ring<NotedCause>,
     silent: SilentOrigins,
     holders: Holders,
@@ -56,7 +56,7 @@ impl<W: Write + Drop> Drop for Logger<W> {
             left_out: _,
             torn: _,
             due: _,
-            came: _,
+            response: _,
             causes: _,
             silent: _,
             holders: _,
@@ -83,7 +83,7 @@ impl<W: Write + Drop> Logger<W> {
             left_out: 0,
             torn: false,
             due: Due::Nothing,
-            came: None,
+            response: None,
             causes: Ring::new(alloc, CAUSES)?,
             silent: SilentOrigins::new(alloc)?,
             holders: Holders::new(alloc, limits)?,
@@ -175,19 +175,19 @@ impl<W: Write> Logger<W> {
 
     /// Notes why an exchange got an answer of the proxy's own, if it is for what came.
     fn note_answer(&mut self, now: Moment) {
-        let Some(came) = self.came else {
+        let Some(response) = self.response else {
             return;
         };
-        match came.cause {
-            // `Came::of` says so of every response that has no other fault, also of those that are
-            // passed on; `cause_of` falls back on it.
+        match response.cause {
+            // `ResponseCause::of` says so of every response that has no other fault, also of those
+            // that are passed on; `cause_of` falls back on it.
             BadGateway::TooLong => {}
             BadGateway::Reset | BadGateway::Option(_) | BadGateway::Tag => {
                 self.causes.note(NotedCause {
-                    origin: came.origin,
-                    id: came.id,
+                    origin: response.origin,
+                    id: response.id,
                     got: now,
-                    cause: Cause::BadGateway(came.cause),
+                    cause: Cause::BadGateway(response.cause),
                 });
             }
         }
@@ -420,7 +420,7 @@ impl<W: Write> Watch for Logger<W> {
     fn foresee<S: Store + Drop>(&mut self, turn: WatchedTurn<'_>, core: &Core<S>) {
         match turn.event {
             Event::Tick => self.note_due(core, turn.now),
-            Event::Datagram { .. } => self.came = Came::of(turn.event, core),
+            Event::Datagram { .. } => self.response = ResponseCause::of(turn.event, core),
         }
     }
 
