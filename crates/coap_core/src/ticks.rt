@@ -37,7 +37,7 @@ pub(crate) fn moment_of(due: Option<DueItem>) -> Option<Moment>
 /// An exchange or a waiter that was found due: its number, and the endpoint that is sent its
 /// request, or its answer.
 #[derive(Clone, Copy)]
-pub(crate) struct Due {
+pub(crate) struct Addressed {
     number: u64,
     to: Endpoint,
 }
@@ -46,7 +46,7 @@ pub(crate) struct Due {
 /// this type.
 #[derive(Clone, Copy)]
 pub(crate) struct Delivery {
-    waiter: Due,
+    waiter: Addressed,
     kind: Kind,
     exchange: ExchangeNumber,
 }
@@ -128,7 +128,7 @@ impl<S: Store + Drop> State<S> {
             return self.give_up(timing.now, number, out);
         }
         let to = exchange.key.key().target.at;
-        let due = Due { number, to };
+        let due = Addressed { number, to };
         match &exchange.state {
             ExchangeState::Queued => self.send(timing, due, out),
             ExchangeState::Sent => self.on_request_timeout(timing.now, due, out),
@@ -146,7 +146,7 @@ impl<S: Store + Drop> State<S> {
 
     /// Sends the request of an exchange to its origin, with a new Message ID. It is to be sent
     /// again until it is acknowledged or answered (RFC 7252, 4.2).
-    fn send(&mut self, timing: Timing, due: Due, out: &mut Datagram) -> Report
+    fn send(&mut self, timing: Timing, due: Addressed, out: &mut Datagram) -> Report
         requires queued { IsFound (λ x. (is_queued x ≡ true) × (due.to ≡ x.key.target.at))
             due.number self.old.exchanges }
         requires can { CanDo (sending_at self.old timing due.number) timing.now self.old out.old }
@@ -166,7 +166,7 @@ impl<S: Store + Drop> State<S> {
 
     /// Handles the end of the current timeout of an exchange: its request is retransmitted, with
     /// the same bytes, or abandoned (RFC 7252, 4.2).
-    fn on_request_timeout(&mut self, now: Moment, due: Due, out: &mut Datagram) -> Report
+    fn on_request_timeout(&mut self, now: Moment, due: Addressed, out: &mut Datagram) -> Report
         requires ended { IsFound (λ x. IsDue now x × (due.to ≡ x.key.target.at)) due.number
             self.old.exchanges }
         requires can { CanDo (request_timeout_at self.old now due.number) now self.old out.old }
@@ -232,7 +232,7 @@ impl<S: Store + Drop> State<S> {
         let Some(waiter) = self.under_way.waiter(number) else {
             unreachable!()
         };
-        let due = Due {
+        let due = Addressed {
             number,
             to: waiter.client,
         };
@@ -347,7 +347,7 @@ impl<S: Store + Drop> State<S> {
 
     /// Handles the end of the current timeout of a waiter that was sent its answer: the answer is
     /// retransmitted, with the same bytes, or abandoned (RFC 7252, 4.2).
-    fn on_delivery_timeout(&mut self, now: Moment, due: Due, out: &mut Datagram) -> Report
+    fn on_delivery_timeout(&mut self, now: Moment, due: Addressed, out: &mut Datagram) -> Report
         requires ended { IsFound (λ v. waiters.IsDue now v × (due.to ≡ v.client)) due.number
             self.old.waiters }
         requires can { CanDo (delivery_timeout_at self.old now due.number) now self.old out.old }

@@ -18,8 +18,8 @@ use Rattle.coap_model.specs.State.{State}
 use Rattle.coap_core.specs.Told.{Told}
 use Rattle.coap_explain.specs.declared.answering.Answering.{Answering}
 use Rattle.coap_explain.specs.declared.answering.Answering.TheVariants.{Own, Passed, Unknown}
-use Rattle.coap_explain.specs.declared.due.Due.{Due}
-use Rattle.coap_explain.specs.declared.due.Due.TheVariants as dues
+use Rattle.coap_explain.specs.declared.due.TickSubject.{TickSubject}
+use Rattle.coap_explain.specs.declared.due.TickSubject.TheVariants as subjects
 use Rattle.coap_explain.specs.declared.due.DueClient.{DueClient}
 use Rattle.coap_explain.specs.declared.due.DueExchange.{DueExchange}
 use Rattle.coap_explain.specs.declared.lacks.Lack.{Lack}
@@ -82,7 +82,7 @@ routed_text ways.Unknown = codes " target: out of memory"
 
 pub record Noted : Type 0 where
   -- what a tick is about, and the URI of the target of the exchange that is due
-  pub due : Due
+  pub due : TickSubject
   pub target : List ℕ
   -- what is made of a response
   pub answering : Answering
@@ -116,16 +116,16 @@ abbrev pub sent_to_text : Option Endpoint → List ℕ → List ℕ
 sent_to_text to sent = sent_bytes_text (read_message sent) ++ to_text to
 
 -- the exchange that an answer is of
-abbrev pub of_text : Due → List ℕ → ℕ → List ℕ
-of_text (dues.Exchange x) target now = codes " of " ++ target ++ exchange_text now x
-of_text (dues.Client c) target now = []
-of_text dues.Nothing target now = []
+abbrev pub of_text : TickSubject → List ℕ → ℕ → List ℕ
+of_text (subjects.Exchange x) target now = codes " of " ++ target ++ exchange_text now x
+of_text (subjects.Client c) target now = []
+of_text subjects.Nothing target now = []
 
 -- a request to an origin, or the delivery of an answer to a client
-abbrev pub given_up_text : Due → List ℕ → ℕ → List ℕ
-given_up_text (dues.Exchange x) target now = codes " " ++ target ++ exchange_text now x
-given_up_text (dues.Client c) target now = client_text now c
-given_up_text dues.Nothing target now = []
+abbrev pub given_up_text : TickSubject → List ℕ → ℕ → List ℕ
+given_up_text (subjects.Exchange x) target now = codes " " ++ target ++ exchange_text now x
+given_up_text (subjects.Client c) target now = client_text now c
+given_up_text subjects.Nothing target now = []
 
 abbrev pub ticked_text : Outcome → Option Endpoint → List ℕ → ℕ → Noted → List ℕ
 ticked_text outcomes.SentRequest to sent now n = sent_to_text to sent

@@ -23,8 +23,8 @@ use Rattle.coap_explain.specs.declared.causes.BadGateway.TheVariants.{Reset}
 use Rattle.coap_explain.specs.declared.causes.Silence.{Silence}
 use Rattle.coap_explain.specs.declared.causes.Silence.TheVariants.{NotSent, NotAcknowledged, NotAnswered}
 use Rattle.coap_explain.specs.declared.due.ResponseCause.{ResponseCause}
-use Rattle.coap_explain.specs.declared.due.Due.{Due}
-use Rattle.coap_explain.specs.declared.due.Due.TheVariants as dues
+use Rattle.coap_explain.specs.declared.due.TickSubject.{TickSubject}
+use Rattle.coap_explain.specs.declared.due.TickSubject.TheVariants as subjects
 use Rattle.coap_explain.specs.declared.due.DueAnswer.{DueAnswer}
 use Rattle.coap_explain.specs.declared.due.DueClient.{DueClient}
 use Rattle.coap_explain.specs.declared.due.DueExchange.{DueExchange}
@@ -80,20 +80,20 @@ client_in client (Delivering bytes id timer) =
 abbrev pub client_of : Waiter → Option DueClient
 client_of v = client_in v.client v.state
 
-abbrev pub due_client : Option DueClient → Due
-due_client None = dues.Nothing
-due_client (Some c) = dues.Client c
+abbrev pub due_client : Option DueClient → TickSubject
+due_client None = subjects.Nothing
+due_client (Some c) = subjects.Client c
 
-abbrev pub due_waiting_client : Option Waiter → Due
-due_waiting_client None = dues.Nothing
+abbrev pub due_waiting_client : Option Waiter → TickSubject
+due_waiting_client None = subjects.Nothing
 due_waiting_client (Some v) = due_client (client_of v)
 
-abbrev pub due_in : State → Option Exchange → Due
+abbrev pub due_in : State → Option Exchange → TickSubject
 due_in w None = due_waiting_client (due_waiter w)
-due_in w (Some x) = dues.Exchange (exchange_of x (due_waiting w))
+due_in w (Some x) = subjects.Exchange (exchange_of x (due_waiting w))
 
 -- the exchange that is due, or else the client
-abbrev pub due_of : State → Due
+abbrev pub due_of : State → TickSubject
 due_of w = due_in w (due_exchange w)
 
 -- ---- what came for an exchange, and why its clients get 5.02 if they do

@@ -54,7 +54,7 @@ pub(crate) struct DueClient {
 
 /// What a tick is about, as it is before that.
 #[derive(Clone, Copy, Debug, PartialEq, Eq)]
-pub(crate) enum Due {
+pub(crate) enum TickSubject {
     Nothing,
     Exchange(DueExchange),
     Client(DueClient),
@@ -155,20 +155,20 @@ impl DueClient {
     }
 }
 
-impl Due {
+impl TickSubject {
     /// What the next tick of a core is about.
-    pub(crate) fn of<S: Store + Drop>(core: &Core<S>) -> Due
+    pub(crate) fn of<S: Store + Drop>(core: &Core<S>) -> TickSubject
         ensures { result ≡ spec.due_of core.now }
     {
         if let Some(exchange) = core.due_exchange() {
-            return Due::Exchange(DueExchange::of(exchange, core.due_waiting()));
+            return TickSubject::Exchange(DueExchange::of(exchange, core.due_waiting()));
         }
         let Some(waiter) = core.due_waiter() else {
-            return Due::Nothing;
+            return TickSubject::Nothing;
         };
         match DueClient::of(waiter) {
-            Some(client) => Due::Client(client),
-            None => Due::Nothing,
+            Some(client) => TickSubject::Client(client),
+            None => TickSubject::Nothing,
         }
     }
 }

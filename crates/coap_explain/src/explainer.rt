@@ -9,7 +9,7 @@ ghost use Rattle.coap_explain.specs.Says.{IsSaid, Says};
 
 use crate::answering::Answering;
 use crate::causes::joins;
-use crate::due::Due;
+use crate::due::TickSubject;
 use crate::messages::{put_endpoint, put_kind, put_target};
 use crate::outcomes::{Noted, put_outcome};
 use crate::routed::Routed;
@@ -36,7 +36,7 @@ pub struct Explainer<W: Write> {
     line: Vec<u8>,
     /// The time of day of the line, with a blank behind it.
     time: Vec<u8>,
-    due: Due,
+    due: TickSubject,
     /// The URI of the target that the exchange that is due has.
     target: Vec<u8>,
     answering: Answering,
@@ -182,7 +182,7 @@ impl<W: Write> Explainer<W> {
             output,
             line: Vec::with_capacity(alloc, ROOM)?,
             time: Vec::with_capacity(alloc, TIME_ROOM)?,
-            due: Due::Nothing,
+            due: TickSubject::Nothing,
             target: Vec::with_capacity(alloc, ROOM)?,
             answering: Answering::Passed,
             since: None,
@@ -245,7 +245,7 @@ impl<W: Write> Watch for Explainer<W> {
     fn foresee<S: Store + Drop>(&mut self, turn: WatchedTurn<'_>, core: &Core<S>) {
         match turn.event {
             Event::Tick => {
-                self.due = Due::of(core);
+                self.due = TickSubject::of(core);
                 note_target(&mut self.target, core);
             }
             Event::Datagram { .. } => {

@@ -1,7 +1,7 @@
 //! A watcher that logs what goes wrong.
 
 use crate::causes::{BadGateway, Silence, joins, overload_of};
-use crate::due::{Due, DueAnswer, DueExchange, ResponseCause};
+use crate::due::{DueAnswer, DueExchange, ResponseCause, TickSubject};
 use crate::lacks::{Lacks, Usage};
 use crate::log_fields::{
     Cause, NotedCause, TargetText, put_cause, put_exchange, put_lacks, put_number, put_peer,
@@ -39,7 +39,7 @@ pub struct Logger<W: Write> {
     left_out: u64,
     /// Whether the output took only a part of the last line.
     torn: bool,
-    due: Due,
+    due: TickSubject,
     response: Option<ResponseCause>,
     causes: Ring<NotedCause>,
     silent: SilentOrigins,
@@ -82,7 +82,7 @@ impl<W: Write + Drop> Logger<W> {
             limiter: Limiter::new(),
             left_out: 0,
             torn: false,
-            due: Due::Nothing,
+            due: TickSubject::Nothing,
             response: None,
             causes: Ring::new(alloc, CAUSES)?,
             silent: SilentOrigins::new(alloc)?,
@@ -158,7 +158,7 @@ impl<W: Write> Logger<W> {
 
     /// Notes that an exchange was given up, and logs it.
     fn on_given_up(&mut self, now: Moment) {
-        let Due::Exchange(exchange) = self.due else {
+        let TickSubject::Exchange(exchange) = self.due else {
             return;
         };
         self.silent.note(exchange.origin, exchange.admitted);
@@ -217,7 +217,7 @@ impl<W: Write> Logger<W> {
 
     /// Logs that a client was sent an answer that is logged.
     fn on_delivered(&mut self, client: Option<Endpoint>, now: Moment) {
-        let Due::Exchange(exchange) = self.due else {
+        let TickSubject::Exchange(exchange) = self.due else {
             return;
         };
         let (Some(client), Some(answer)) = (client, exchange.answer) else {
@@ -396,16 +396,16 @@ impl<W: Write> Logger<W> {
 
     /// Notes what the next tick is about; its target only if that may be logged.
     fn note_due<S: Store + Drop>(&mut self, core: &Core<S>, now: Moment) {
-        self.due = Due::of(core);
+        self.due = TickSubject::of(core);
         let Some(exchange) = core.due_exchange() else {
             return;
         };
         let may_be_told = match self.due {
-            Due::Exchange(due) => match due.answer {
+            TickSubject::Exchange(due) => match due.answer {
                 Some(answer) => is_logged(answer.code),
                 None => now > due.admitted,
             },
-            Due::Client(_) | Due::Nothing => false,
+            TickSubject::Client(_) | TickSubject::Nothing => false,
         };
         if may_be_told {
             self.target.take(&exchange.key.target);

@@ -8,7 +8,7 @@ ghost use Rattle.coap_explain.specs.Words as spec;
 
 use crate::answering::Answering;
 use crate::causes::{overload_of, put_lacks, put_refusal, put_unprocessed};
-use crate::due::Due;
+use crate::due::TickSubject;
 use crate::lacks::Usage;
 use crate::messages::{put_code, put_endpoint, put_sent};
 use coap_core::{Core, Event, Outcome, Report, Storing, WatchedTurn};
@@ -22,7 +22,7 @@ use std::io::Write;
 #[derive(Clone, Copy)]
 pub(crate) struct Noted<'a> {
     /// What a tick is about.
-    pub(crate) due: Due,
+    pub(crate) due: TickSubject,
     /// The URI of the target of the exchange that is due.
     pub(crate) target: &'a [u8],
     /// What is made of a response.
@@ -249,13 +249,13 @@ fn put_given_up(line: &mut Vec<u8>, now: Moment, noted: Noted<'_>) -> io::Result
         ++ text.given_up_text noted.entry.due noted.entry.target.now now) }
 {
     match noted.due {
-        Due::Exchange(exchange) => {
+        TickSubject::Exchange(exchange) => {
             line.write_all(b" ")?;
             line.write_all(noted.target)?;
             exchange.put(line, now)
         }
-        Due::Client(client) => client.put(line, now),
-        Due::Nothing => Ok(()),
+        TickSubject::Client(client) => client.put(line, now),
+        TickSubject::Nothing => Ok(()),
     }
 }
 
@@ -265,12 +265,12 @@ fn put_of(line: &mut Vec<u8>, now: Moment, noted: Noted<'_>) -> io::Result<()>
         ≡ line.old.items ++ text.of_text noted.entry.due noted.entry.target.now now) }
 {
     match noted.due {
-        Due::Exchange(exchange) => {
+        TickSubject::Exchange(exchange) => {
             line.write_all(b" of ")?;
             line.write_all(noted.target)?;
             exchange.put(line, now)
         }
-        Due::Client(_) | Due::Nothing => Ok(()),
+        TickSubject::Client(_) | TickSubject::Nothing => Ok(()),
     }
 }
 
