@@ -227,8 +227,8 @@ impl<S: Store + Drop> State<S> {
         let entry = self.entry_made(arrival.now, exchange, &answer)?;
         let changed = changed_by(self.alloc, &exchange.key.key().target, arrival.message)?;
         let send = self.accept_response(arrival, out)?;
-        self.change_all(&changed);
-        let storing = self.keep(entry);
+        self.invalidate_all(&changed);
+        let storing = self.store_entry(entry);
         self.under_way.answered(number, answer);
         self.advance(arrival.now);
         Ok(Report {
@@ -312,21 +312,21 @@ impl<S: Store + Drop> State<S> {
     }
 
     /// Invalidates what a response changes.
-    fn change_all(&mut self, changed: &Option<Changed>)
+    fn invalidate_all(&mut self, changed: &Option<Changed>)
         ensures { self.new ≡ with_changed (targets_in changed.now) self.old }
     {
         let Some(changed) = changed else {
             return;
         };
-        self.change(&changed.target);
+        self.invalidate(&changed.target);
         if let Some(created) = &changed.created {
-            self.change(created);
+            self.invalidate(created);
         }
     }
 
-    /// Marks what is stored for a target, and taints the exchanges for it whose request was sent
-    /// (RFC 7252, 5.9.1).
-    fn change(&mut self, target: &Target)
+    /// Marks as not fresh what is stored for a target, and taints the exchanges for it whose request
+    /// was sent (RFC 7252, 5.9.1).
+    fn invalidate(&mut self, target: &Target)
         ensures { self.new ≡ with_changed (target.now ∷ []) self.old }
     {
         self.store.mark(target);
@@ -334,7 +334,7 @@ impl<S: Store + Drop> State<S> {
     }
 
     /// Stores an entry in place of the one with its key, if there is an entry to store.
-    fn keep(&mut self, entry: Option<(SharedKey, Stored)>) -> Storing
+    fn store_entry(&mut self, entry: Option<(SharedKey, Stored)>) -> Storing
         ensures { IsKept self.old entry result self.new }
     {
         let Some((key, stored)) = entry else {
