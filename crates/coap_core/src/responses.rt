@@ -10,7 +10,7 @@ ghost use Rattle.coap_pending.specs.Exchanges.{is_in_flight};
 ghost use Rattle.coap_model.specs.Responses.{has_id, awaiting, on_response};
 ghost use Rattle.coap_model.specs.History.{grown_of};
 ghost use Rattle.coap_core.specs.Arrivals.{of_arrival, of_grown};
-ghost use Rattle.coap_core.specs.Storing.{IsKept, answering_at, not_confirmable_step, confirmable_step, separate_step, if_storable, targets_in, accepted, accepted_bytes, accepted_to};
+ghost use Rattle.coap_core.specs.Storing.{IsKept, answering_at, not_confirmable_step, confirmable_step, new_confirmable_step, if_storable, targets_in, accepted, accepted_bytes, accepted_to};
 ghost use Rattle.coap_core.specs.Done.{Does, IsDoneBy, wants_memory};
 ghost use Rattle.coap_core.specs.Needs.{CanDo, CanGoOn, CanRemember, IsNew, IsOpenAt};
 
@@ -149,12 +149,12 @@ impl<S: Store + Drop> State<S> {
             self.advance(arrival.now);
             return Ok(report);
         }
-        self.on_separate(arrival, out)
+        self.on_new_confirmable(arrival, out)
     }
 
     /// Handles a new Confirmable response. It is remembered if an exchange awaits it, and so there
     /// has to be room for that.
-    fn on_separate(
+    fn on_new_confirmable(
         &mut self,
         arrival: Arrival<'_, '_>,
         out: &mut Datagram,
@@ -164,12 +164,12 @@ impl<S: Store + Drop> State<S> {
         requires new { IsNew arrival.now arrival.from arrival.message.now self.old }
         requires room { self.old.setting.limits.datagram ≤ out.old.room }
         requires fits { length
-            (of_grown (separate_step self.old) arrival true).bytes
+            (of_grown (new_confirmable_step self.old) arrival true).bytes
             ≤ out.old.room }
-        ensures done { IsDoneBy (of_grown (separate_step self.old) arrival.entry)
+        ensures done { IsDoneBy (of_grown (new_confirmable_step self.old) arrival.entry)
             result out.old out.new self.old self.new }
         ensures memory { OnErr result
-            (wants_memory (of_grown (separate_step self.old) arrival.entry true) ≡ true) }
+            (wants_memory (of_grown (new_confirmable_step self.old) arrival.entry true) ≡ true) }
     {
         let Some(number) = self.awaiting(arrival.from, arrival.message) else {
             return Ok(self.reject(arrival.now, arrival.from, arrival.message.id(), out));

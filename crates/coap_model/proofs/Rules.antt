@@ -39,7 +39,7 @@ use Rattle.coap_dedup.specs.declared.record.Record.{Record}
 use Rattle.coap_model.specs.State.{State, Step, has_record_room, has_room_to_join, has_room_to_open, can_reply, known_of, remembers, repeats, drops, ignores, rejects, unprocessed, silent, says, later}
 use Rattle.coap_model.specs.Requests.{lacks_id, refuses, overloads, new_exchange, new_waiter, joins, opens, turns_down, turns_away, hits, on_exchange_needed, on_joinable, on_miss, on_entry, on_key, on_verdict, on_new, on_known, on_request}
 use Rattle.coap_model.specs.Answers.{Arrived, with_changed, may_store, answer_for, entry_made, answers_so, keeps_if, stores, answers_with, answers}
-use Rattle.coap_model.specs.Responses.{awaiting, on_not_confirmable, on_separate, on_unknown, on_response_in, on_response}
+use Rattle.coap_model.specs.Responses.{awaiting, on_not_confirmable, on_new_confirmable, on_unknown, on_response_in, on_response}
 use Rattle.coap_model.specs.Empties.{acknowledges, closes, on_delivered, on_delivery, settles, on_sent, on_empty}
 use Rattle.coap_model.specs.Empties as empties
 use Rattle.coap_pending.specs.declared.exchange.ExchangeState.{ExchangeState}
@@ -518,9 +518,9 @@ module _ (w : State) (now draw : ℕ) (grown : Bool) (source : Endpoint) (bytes 
     rule_awaited other (Some x) e = rule_answer x (by_response response e) other
 
     -- so is one that is Confirmable, and also by the room
-    rule_separate : m.kind ≡ Con → known_of w now source m ≡ None → (o : Option (Numbered Exchange)) → awaiting w source m ≡ o → Rule w now draw grown (arrival source bytes) (on_separate w now grown source m o)
-    rule_separate con unknown None e = rejecting source bytes own_head (head_of_read w bytes m fits read) (ap is_con con) (unawaited (λ recorded. unknown) e)
-    rule_separate con unknown (Some x) e = go (has_record_room w now source m.kind) refl
+    rule_new_confirmable : m.kind ≡ Con → known_of w now source m ≡ None → (o : Option (Numbered Exchange)) → awaiting w source m ≡ o → Rule w now draw grown (arrival source bytes) (on_new_confirmable w now grown source m o)
+    rule_new_confirmable con unknown None e = rejecting source bytes own_head (head_of_read w bytes m fits read) (ap is_con con) (unawaited (λ recorded. unknown) e)
+    rule_new_confirmable con unknown (Some x) e = go (has_record_room w now source m.kind) refl
       where
         recorded : is_recorded m ≡ true
         recorded = or_second (brings_requests m.kind && is_request m.code) (is_con m.kind && is_response m.code) (and_from (is_con m.kind) (is_response m.code) (ap is_con con) code)
@@ -530,7 +530,7 @@ module _ (w : State) (now draw : ℕ) (grown : Bool) (source : Endpoint) (bytes 
         go false full = dropping source bytes m fits (record { read = read; recorded = recorded }) (λ _. (x, e)) unknown full
 
     rule_unknown : m.kind ≡ Con → (o : Option Record) → known_of w now source m ≡ o → Rule w now draw grown (arrival source bytes) (on_unknown w now grown source m o)
-    rule_unknown con None e = rule_separate con e (awaiting w source m) refl
+    rule_unknown con None e = rule_new_confirmable con e (awaiting w source m) refl
     rule_unknown con (Some known) e =
         repeating source bytes m known fits
         (record { read = read; recorded = or_second (brings_requests m.kind && is_request m.code) (is_con m.kind && is_response m.code) (and_from (is_con m.kind) (is_response m.code) (ap is_con con) code) })
