@@ -7,7 +7,7 @@ ghost use Rattle.coap_model.specs.Setting.{Setting};
 ghost use Rattle.coap_model.specs.declared.report.Outcome.TheVariants.{Idle, Answered};
 ghost use Rattle.coap_model.specs.declared.report.Storing.TheVariants.{NoMemory};
 ghost use Rattle.coap_option.specs.Selection.{sent_on, max_age_of};
-ghost use Rattle.coap_forward.specs.Forms.{goes_on};
+ghost use Rattle.coap_forward.specs.Forms.{is_forwarded};
 ghost use Rattle.coap_model.specs.Keys.{key_sent};
 ghost use Rattle.coap_forward.specs.Answers.{left_of};
 ghost use Rattle.coap_model.specs.Events.{tick, Event, IsEvent};
@@ -51,10 +51,10 @@ pub fn requests_keep_their_key()
 {}
 
 /// If no option of a request is refused, each option alone decides whether it is forwarded.
-pub fn what_goes_on_shows_by_itself()
+pub fn forwarding_needs_no_place()
     ensures { (m : Message)
         → first_refused Side.Request m.options ≡ None
-        → sent_on m ≡ filter (goes_on m.code) m.options }
+        → sent_on m ≡ filter (is_forwarded m.code) m.options }
 {}
 
 /// The rest of a Max-Age and the age add up to the Max-Age: to no more than it, and with one more

@@ -12,7 +12,7 @@ use Rattle.coap_option.specs.declared.survey.Survey.{Survey}
 use Rattle.coap_option.specs.Passing.{before_of, places_after}
 use Rattle.coap_option.specs.Places.{PlacedOption, places}
 use Rattle.coap_option.specs.Screening.{is_refused, first_refused}
-use Rattle.coap_option.specs.Selection.{goes_on, is_key, is_of, key_of, is_withheld}
+use Rattle.coap_option.specs.Selection.{is_forwarded, is_key, is_of, key_of, is_withheld}
 use Rattle.coap_option.specs.Side.{side_of}
 use Rattle.coap_option.specs.Survey.{IsSurvey, are_any, is_of_uri, of_none, widened, widened_by, with_all, with_one}
 use Rattle.coap_option.proofs.Clean.{all-alone, goes-on, in_key, key-screened, of-places, screened-clean}

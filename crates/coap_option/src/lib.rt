@@ -29,7 +29,7 @@ pub use screening::{
     BadOption, screen_request, screen_request_ref, screen_response, screen_response_ref,
 };
 pub use selection::{
-    forward_options, goes_on, key_options, key_options_into, max_age, tags, tags_into,
+    forward_options, is_forwarded, key_options, key_options_into, max_age, tags, tags_into,
 };
 pub use side::Side;
 pub use survey::{Span, Survey, survey_request};

@@ -13,7 +13,7 @@ use crate::numbers;
 use crate::places::{Run, row_after};
 use crate::recognition::option_recognised;
 use crate::screening::BadOption;
-use crate::selection::{goes_on, is_for_proxy, tags_into};
+use crate::selection::{is_for_proxy, is_forwarded, tags_into};
 use crate::side::Side;
 use crate::table::Row;
 use coap_message::{Code, MessageRef, OptRef, OptionList, OutOfMemory, Pieces};
@@ -147,7 +147,7 @@ impl Survey {
 }
 
 /// Adds to an empty list the options of a request that are part of its cache key, given that none
-/// of its options is refused: then an option's place doesn't matter (`goes_on`).
+/// of its options is refused: then an option's place doesn't matter (`is_forwarded`).
 fn push_key_options(list: &mut OptionList, request: &MessageRef<'_>) -> Result<(), OutOfMemory>
     requires empty { list.old ≡ [] }
     requires screened { first_refused Side.Request request.now.options ≡ None }
@@ -156,7 +156,7 @@ fn push_key_options(list: &mut OptionList, request: &MessageRef<'_>) -> Result<(
 {
     let code = request.code();
     for option in request.options() {
-        if goes_on(code, option) && !is_no_cache_key(option.number) {
+        if is_forwarded(code, option) && !is_no_cache_key(option.number) {
             list.push(option.number, option.value)?;
         }
     }
