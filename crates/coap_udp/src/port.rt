@@ -6,10 +6,10 @@ ghost use Rattle.coap_udp.specs.Systems.{IsTo, read_of};
 ghost use Rattle.coap_udp.specs.Udp.{Arrives, EndsBy, IsDrawn, IsRead, IsTimed, ReadsInto, is_of_ipv6, new_port, port_over};
 
 use crate::address::{address_of, endpoint_of};
-use crate::exchanging::{read_by, send_whole};
 use crate::host::Host;
 use crate::system::System;
 use crate::values::{draw_of, moment_after, read_waits, rest_of, turn_of_read};
+use crate::waiting::{read_by, send_whole};
 use coap_endpoint::{Endpoint, Ip};
 use coap_message::{Datagram, Moment};
 use coap_port::{Port, PortFault, Turn};

@@ -2,7 +2,7 @@
 ghost use Rattle.std.specs.Prelude.{◌≡◌, ◌≤◌, ◌^◌};
 ghost use Rattle.coap_udp.specs.Values as spec;
 
-use crate::failing::passes;
+use crate::failing::is_transient;
 use coap_endpoint::Endpoint;
 use coap_message::{LAST_MOMENT, MOST_JITTER, Moment};
 use coap_port::PortFault;
@@ -55,7 +55,7 @@ pub(crate) fn turn_of_read(read: io::Result<Endpoint>) -> Result<Option<Endpoint
 {
     match read {
         Ok(from) => Ok(Some(from)),
-        Err(error) if passes(error.kind()) => Ok(None),
+        Err(error) if is_transient(error.kind()) => Ok(None),
         Err(_) => Err(PortFault),
     }
 }

@@ -1,5 +1,5 @@
 use Rattle.std.proofs.Common.{rules}
-use Rattle.coap_udp.proofs.failing.passes.Goals as goal
+use Rattle.coap_udp.proofs.failing.is_transient.Goals as goal
 
 pub returns-in-WouldBlock : goal.returns-in-WouldBlock
 returns-in-WouldBlock c = search rules

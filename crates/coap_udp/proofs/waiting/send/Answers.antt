@@ -1,5 +1,5 @@
 use Rattle.std.proofs.Common.{rules}
-use Rattle.coap_udp.proofs.exchanging.send.Goals as goal
+use Rattle.coap_udp.proofs.waiting.send.Goals as goal
 
 pub returns-then-waiting : goal.returns-then-waiting
 returns-then-waiting g c = search rules
