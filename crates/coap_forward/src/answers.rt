@@ -11,7 +11,7 @@ use coap_message::{
     Code, Kind, Message, MessageRef, Moment, OptionList, Options, OutOfMemory, Seq, Token,
 };
 use coap_option::{max_age, numbers, screen_response_ref};
-use coap_store::{Answer, RenewError, Stored, aged_fits, left_at, renewed, shows_max_age};
+use coap_store::{Answer, RenewError, Stored, aged_fits, is_cacheable, left_at, renewed};
 use std::alloc::Global;
 
 /// The greatest Max-Age, in seconds: it takes four bytes (RFC 7252, 5.10.5).
@@ -238,5 +238,5 @@ pub(crate) fn left_to_show(to_get: bool, now: Moment, answer: &Answer) -> Option
 pub fn is_storable(answer: &Answer) -> bool
     ensures { result ≡ is_storable answer.now }
 {
-    !answer.own && shows_max_age(answer.message.code) && max_age(&answer.message) > 0
+    !answer.own && is_cacheable(answer.message.code) && max_age(&answer.message) > 0
 }

@@ -24,7 +24,7 @@ use Rattle.coap_store.specs.Freshness.{is_fresh}
 use Rattle.coap_store.specs.Keys.{same_key}
 use Rattle.coap_store.specs.Lists.{of_key}
 use Rattle.coap_store.specs.Renewing.{has_tag, is_validated, tag_of}
-use Rattle.coap_store.specs.Showing.{shows_max_age}
+use Rattle.coap_store.specs.Showing.{is_cacheable}
 use Rattle.coap_forward.specs.Changes.{changed_by, concerns}
 use Rattle.coap_forward.specs.Forms.{target_options}
 use Rattle.coap_forward.specs.Messages.{token_of, at_once}
@@ -208,7 +208,7 @@ not-of-the-change : {key : CacheKey} {response : Message} {asking : Position} �
 not-of-the-change (first_hand {response = response} fetched is lasting) =
     let one = one-getting fetched.gets (change_gets asked_past (here opened_past asks_again) (inl refl) second_asks refl refl) in
     let code : response.code ≡ changed_message.code = ap (λ (m : Message). m.code) is ∙ ap (λ (m : Message). (passed_part true m).code) one.message in
-    let none : shows_max_age response.code ≡ false = ap shows_max_age code in
+    let none : is_cacheable response.code ≡ false = ap is_cacheable code in
     absurd (let e = sym lasting.code ∙ none in cc)
 not-of-the-change (validated {old = old} fetched tag obtained behind tagged sent is renewal fit lasting) =
     let one = one-getting fetched.gets (change_gets asked_past (here opened_past asks_again) (inl refl) second_asks refl refl) in

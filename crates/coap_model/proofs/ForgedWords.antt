@@ -19,7 +19,7 @@ use Rattle.coap_target.specs.Request.{request_target}
 use Rattle.coap_store.specs.declared.key.CacheKey.{CacheKey}
 use Rattle.coap_store.specs.Freshness.{is_fresh}
 use Rattle.coap_store.specs.Renewing.{has_tag, is_validated, renewed, tag_of}
-use Rattle.coap_store.specs.Showing.{shows_max_age}
+use Rattle.coap_store.specs.Showing.{is_cacheable}
 use Rattle.coap_forward.specs.Answers.{is_passed_on, shown, stored_answer, passed_part}
 use Rattle.coap_forward.specs.Changes.{changed_by}
 use Rattle.coap_forward.specs.Forms.{target_options}
@@ -240,7 +240,7 @@ renewed_obtained =
 not-alone : {key : CacheKey} {response : Message} {asking : Position} {past : List Action} (gets : Gets setting 2 (here past gets_valid)) → gets.meets.message ≡ valid_message → (fetched : IsFetched setting key asking (here past gets_valid)) → response ≡ passed_part true fetched.gets.meets.message → IsLasting response → ⊥
 not-alone {response = response} gets same fetched is lasting =
     let code : response.code ≡ valid_message.code = ap (λ (m : Message). m.code) is ∙ ap (λ (m : Message). (passed_part true m).code) ((one-getting fetched.gets gets).message ∙ same) in
-    let none : shows_max_age response.code ≡ false = ap shows_max_age code in
+    let none : is_cacheable response.code ≡ false = ap is_cacheable code in
     absurd (let e = sym lasting.code ∙ none in cc)
 
 -- nothing is renewed by a 2.03 that was requested before it came

@@ -6,7 +6,7 @@ use Rattle.coap_message.specs.declared.code.Code.{Code}
 use Rattle.coap_message.specs.declared.code.TheConstants.Code.{CREATED, DELETED, CHANGED, VALID}
 use Rattle.coap_message.specs.Codes.{is_code}
 use Rattle.coap_option.specs.Selection.{max_age_of}
-use Rattle.coap_store.specs.Showing.{is_content, shows_max_age}
+use Rattle.coap_store.specs.Showing.{is_content, is_cacheable}
 use Rattle.coap_forward.specs.Messages.{is_rst}
 use Rattle.coap_forward.specs.Answers.{validates, is_passed_on, without_observe, bad_gateway, own_answer, origin_answer, validated, answer_of, is_storable}
 use Rattle.coap_message.specs.Message.{Message}
@@ -108,7 +108,7 @@ change-code code e = go (is_code code CREATED) refl (is_code code DELETED) refl 
     go false f false g false h any = absurd cc
 
 -- a code with a Max-Age isn't one of these, nor is 2.03
-lasting-code : (code : Code) → shows_max_age code ≡ true → is_change code ≡ true → ⊥
+lasting-code : (code : Code) → is_cacheable code ≡ true → is_change code ≡ true → ⊥
 lasting-code code e change = go (is_content code) refl (code.0 / 32 == 4) refl (code.0 / 32 == 5) refl e
   where
     no : (n : ℕ) → code.0 ≡ n → (n ≢ 65) × (n ≢ 66) × (n ≢ 68) → ⊥
@@ -137,7 +137,7 @@ storable-code most now to_get copy m e change = go (not (is_rst m.kind) && is_pa
         → is_storable (cond p (cond v (validated most now copy (cond v (record (without_observe m) { payload = [] }) (without_observe m))) (origin_answer now (cond v (record (without_observe m) { payload = [] }) (without_observe m)))) (own_answer now bad_gateway)) ≡ true → ⊥
     go false v is f = absurd cc
     go true true is f = valid-code m.code (and_parts to_get (is_code m.code VALID) is).1 change
-    go true false is f = lasting-code m.code (and_parts (shows_max_age m.code) (nat_lt 0 (max_age_of (without_observe m))) f).0 change
+    go true false is f = lasting-code m.code (and_parts (is_cacheable m.code) (nat_lt 0 (max_age_of (without_observe m))) f).0 change
 
 -- and the response changes no target
 pub storable-quiet : (most now : ℕ) (to_get : Bool) (copy : Option Message) (m : Message) (t u : Target) → is_storable (answer_of most to_get copy now m) ≡ true → concerns (changed_by t m) u ≡ false

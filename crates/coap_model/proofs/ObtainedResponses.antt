@@ -20,7 +20,7 @@ use Rattle.coap_target.specs.Routes.{AreRoutes}
 use Rattle.coap_store.specs.declared.answer.Answer.{Answer}
 use Rattle.coap_store.specs.declared.key.CacheKey.{CacheKey}
 use Rattle.coap_store.specs.Renewing.{tag_of, has_tag, is_validated, renewed}
-use Rattle.coap_store.specs.Showing.{is_content, shows_max_age}
+use Rattle.coap_store.specs.Showing.{is_content, is_cacheable}
 use Rattle.coap_store.proofs.Distinct.{of_key-key}
 use Rattle.coap_forward.specs.Messages.{is_get, is_rst, brings_requests, token_of}
 use Rattle.coap_forward.specs.Forms.{forwarded, form_fits, tag_if_fits, tag_for}
@@ -81,7 +81,7 @@ data IsTaken (most : ℕ) (copy : Option Message) (m response : Message) : Type 
 -- an answer that may be stored is lasting
 lasting-so : (a : Answer) → is_storable a ≡ true → IsLasting a.message
 lasting-so a e =
-    let both = and_parts (shows_max_age a.message.code) (nat_lt 0 (max_age_of a.message)) (and_parts (not a.own) (shows_max_age a.message.code && nat_lt 0 (max_age_of a.message)) e).1 in
+    let both = and_parts (is_cacheable a.message.code) (nat_lt 0 (max_age_of a.message)) (and_parts (not a.own) (is_cacheable a.message.code && nat_lt 0 (max_age_of a.message)) e).1 in
     record { code = both.0; age = ltb-true 0 (max_age_of a.message) both.1 }
 
 -- an answer that may be stored arrived in one of these ways
@@ -313,14 +313,14 @@ no_reset token id m (separate kind code same) other = go m.kind kind
 no_reset token id m (by_reset kind code with_id) other = absurd (let e : false ≡ true = sym other ∙ ap (λ (c : Code). is_code c EMPTY) code in cc)
 
 -- a code with a Max-Age isn't Empty, nor 2.03
-told-code : (code : Code) → shows_max_age code ≡ true → (is_code code EMPTY ≡ false) × (is_code code VALID ≡ false)
+told-code : (code : Code) → is_cacheable code ≡ true → (is_code code EMPTY ≡ false) × (is_code code VALID ≡ false)
 told-code code told = (go EMPTY refl, go VALID refl)
   where
-    go : (other : Code) → shows_max_age other ≡ false → is_code code other ≡ false
+    go : (other : Code) → is_cacheable other ≡ false → is_code code other ≡ false
     go other not_told = same_or (is_code code other) refl
       where
         same_or : (b : Bool) → is_code code other ≡ b → b ≡ false
-        same_or true e = absurd (let same : shows_max_age code ≡ shows_max_age other = ap shows_max_age (code-same code other (eqb-true code.0 other.0 e)) in let f : true ≡ false = sym told ∙ same ∙ not_told in cc)
+        same_or true e = absurd (let same : is_cacheable code ≡ is_cacheable other = ap is_cacheable (code-same code other (eqb-true code.0 other.0 e)) in let f : true ≡ false = sym told ∙ same ∙ not_told in cc)
         same_or false e = refl
 
 -- a lasting response from an origin server may be stored
@@ -385,7 +385,7 @@ came-obtained setting past d x gets former get unchanged was passed lasting =
     let m = gets.meets.message in
     let most = setting.limits.datagram in
     let copy = copied (tags_of (asked_of gets)) (key_asked gets) former in
-    let codes = told-code m.code (ap shows_max_age (sym (passed_part-code m)) ∙ lasting.code) in
+    let codes = told-code m.code (ap is_cacheable (sym (passed_part-code m)) ∙ lasting.code) in
     let storable = came-storable most d.observation.now copy m (no_reset (token_of setting.salt x) gets.meets.asks.sends.message.id m gets.meets.matches codes.0) passed codes.1 (lasting-storable d.observation.now (passed_part true m) lasting) in
     record { exchange = x; gets = gets; method = get; unchanged = unchanged; former = former; was_cache = was; storable = ap (λ (b : Bool). is_storable (answer_of most b copy d.observation.now m)) get ∙ storable }
 

@@ -26,7 +26,7 @@ use Rattle.coap_option.specs.Selection.{is_of, max_age_of}
 use Rattle.coap_option.proofs.MaxAges.{length-first_max_age}
 use Rattle.coap_store.specs.Renewing.{tag_of, of_number, has_number, below, above, updated, with_max_age, safe_options, news_of, is_validated, renewed}
 use Rattle.coap_store.specs.Showing as showing
-use Rattle.coap_store.specs.Showing.{is_content, shows_max_age, among, held_tag, valid, aged, aged_or_valid}
+use Rattle.coap_store.specs.Showing.{is_content, is_cacheable, among, held_tag, valid, aged, aged_or_valid}
 use Rattle.coap_store.proofs.Updates.{of_number-updated, AreOptions-updated}
 use Rattle.coap_option.specs.Classes.{is_unsafe}
 use Rattle.std.specs.Int.{w64, to_be_bytes}
@@ -103,7 +103,7 @@ data IsShownAs (m : Message) : Option ℕ → Message → Type 0 where
 -- what is sent is one of the three
 shown-as : (m : Message) (left : Option ℕ) (tags : List (List ℕ)) → IsShownAs m left (showing.shown m left tags)
 shown-as m None tags = as_stored None
-shown-as m (Some left) tags = tells (shows_max_age m.code)
+shown-as m (Some left) tags = tells (is_cacheable m.code)
   where
     holds : (o : Option (List ℕ)) → held_tag m tags ≡ o → IsShownAs m (Some left) (option_map_or (valid m left) o (aged m left))
     holds None e = as_aged left

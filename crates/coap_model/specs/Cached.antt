@@ -12,7 +12,7 @@ use Rattle.coap_store.specs.Entries as entries
 use Rattle.coap_store.specs.Entries.{entry_key, entry_size}
 use Rattle.coap_store.specs.Lists.{of_key, others, put, used}
 use Rattle.coap_store.specs.Renewing.{tag_of, is_validated, renewed}
-use Rattle.coap_store.specs.Showing.{shows_max_age}
+use Rattle.coap_store.specs.Showing.{is_cacheable}
 use Rattle.coap_model.specs.declared.report.Outcome.{Outcome}
 use Rattle.coap_model.specs.declared.report.Outcome.TheVariants.{Ignored, Rejected, Again, NoRecordRoom, Refused, Hit, Joined, Opened, Overloaded, NoId, Answered, Acked, SentRequest, Resent, GaveUp, Delivered, Idle}
 use Rattle.coap_model.specs.declared.report.Storing.{Storing}
@@ -39,7 +39,7 @@ pub record IsFetched (setting : Setting) (key : CacheKey) (asking getting : Posi
 
 -- it may be kept: a 2.05 or an error of class 4 or 5, with a positive Max-Age
 pub record IsLasting (response : Message) : Type 0 where
-  pub code : shows_max_age response.code ≡ true
+  pub code : is_cacheable response.code ≡ true
   pub age : 0 < max_age_of response
 
 -- The response was obtained for this key: it arrived for a GET with the key, or it was obtained for

@@ -54,7 +54,7 @@ pub use measure::aged_fits;
 pub use renew::renewed;
 pub use renew_error::RenewError;
 pub use shared_key::{KeySource, SharedKey};
-pub use show::{put_max_age, put_response, show_into, shows_max_age};
+pub use show::{is_cacheable, put_max_age, put_response, show_into};
 pub use showing::shown;
 pub use size::bytes_of;
 pub use store::{Put, Store};

@@ -8,7 +8,7 @@ ghost use Rattle.coap_message.specs.Spelling.{options_spelling, spelling};
 ghost use Rattle.coap_option.specs.declared.numbers.TheConstants.{ETAG, MAX_AGE};
 ghost use Rattle.coap_store.specs.Renewing.{max_age_option, with_max_age};
 ghost use Rattle.coap_store.specs.Envelopes.{enclosed, shown_to};
-ghost use Rattle.coap_store.specs.Showing.{addressed, aged, shown, shows_max_age, aged_or_valid};
+ghost use Rattle.coap_store.specs.Showing.{addressed, aged, shown, is_cacheable, aged_or_valid};
 ghost use Rattle.coap_store.specs.Writing.{floor_of, is_in, part_of};
 
 use crate::envelope::Envelope;
@@ -87,8 +87,8 @@ pub fn put_response(
 /// Whether a response with this code may be cached, and so is sent with a Max-Age: 2.05, 4.xx and
 /// 5.xx (RFC 7252, 5.9.1.5, 5.9.2, 5.9.3 and 5.10.5). A 2.03 to a GET doesn't get here: it renews
 /// what is stored, or becomes 5.02.
-pub fn shows_max_age(code: Code) -> bool
-    ensures { result ≡ shows_max_age code }
+pub fn is_cacheable(code: Code) -> bool
+    ensures { result ≡ is_cacheable code }
 {
     code == Code::CONTENT || code.class() == 4 || code.class() == 5
 }
@@ -106,7 +106,7 @@ fn write_shown(
         (spelling (shown_to envelope.entry message.now left)) result }
 {
     match left {
-        Some(left) if shows_max_age(message.code) => {
+        Some(left) if is_cacheable(message.code) => {
             put_aged_or_valid(message, envelope, u64::from(left), out, room)
         }
         _ => {

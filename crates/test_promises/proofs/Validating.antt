@@ -14,7 +14,7 @@ use Rattle.coap_option.specs.Selection.{tags_of}
 use Rattle.coap_limits.specs.Limits.{Limits, default_limits}
 use Rattle.coap_store.specs.declared.key.CacheKey.{CacheKey}
 use Rattle.coap_store.specs.Renewing.{has_tag, is_validated, renewed, tag_of}
-use Rattle.coap_store.specs.Showing.{shows_max_age}
+use Rattle.coap_store.specs.Showing.{is_cacheable}
 use Rattle.coap_forward.specs.Answers.{fits, is_passed_on, passed_part, validates, without_observe}
 use Rattle.coap_forward.specs.Forms.{target_options}
 use Rattle.coap_forward.specs.Messages.{token_of}
@@ -115,7 +115,7 @@ other_valid_gets = gets-by default_limits validated_past gets_other_valid 2 othe
 not-alone : {limits : Limits} {key : CacheKey} {response m : Message} {asking : Position} {past : List Action} {d : Action} (gets : Gets (setting_with limits) 2 (here past d)) → m.code ≡ VALID → gets.meets.message ≡ m → (fetched : IsFetched (setting_with limits) key asking (here past d)) → response ≡ passed_part true fetched.gets.meets.message → IsLasting response → ⊥
 not-alone {response = response} {m = m} gets code same fetched is lasting =
     let taken : response.code ≡ VALID = ap (λ (n : Message). n.code) is ∙ ap (λ (n : Message). (passed_part true n).code) ((one-getting fetched.gets gets).message ∙ same) ∙ passed_part-code m code in
-    let none : shows_max_age response.code ≡ false = ap shows_max_age taken in
+    let none : is_cacheable response.code ≡ false = ap is_cacheable taken in
     absurd (let e = sym lasting.code ∙ none in cc)
   where
     passed_part-code : (n : Message) → n.code ≡ VALID → (passed_part true n).code ≡ VALID
