@@ -23,7 +23,7 @@ use coap_forward::{Form, put_forwarded, put_with_max_age, token_of, validating_t
 use coap_message::{Code, Datagram, Full, MessageRef, OutOfMemory, Pieces, Seq, Token};
 use coap_model::{Outcome, Report};
 use coap_store::{SharedKey, Store, Stored};
-use endpoint_counts::Peer;
+use endpoint_counts::DigestedEndpoint;
 
 /// What is stored for the key of a request that isn't answered from the store.
 #[derive(Clone, Copy)]
@@ -37,7 +37,7 @@ pub(crate) enum Miss {
 /// What an exchange is opened with, in addition to its request.
 #[derive(Drop)]
 pub(crate) struct NewExchange<'k> {
-    client: Peer,
+    client: DigestedEndpoint,
     key: &'k SharedKey,
     /// The tags of the responses that the client already holds.
     tags: Pieces,
@@ -105,7 +105,7 @@ impl<S: Store + Drop> State<S> {
             (of_arrival (joinable_step self.old) arrival.entry exchange)
             result out.old out.new self.old self.new }
     {
-        let client = Peer::new(arrival.from);
+        let client = DigestedEndpoint::new(arrival.from);
         if !self.has_room_to_join(arrival.now, client) {
             return self.overload(arrival, out);
         }
@@ -134,7 +134,7 @@ impl<S: Store + Drop> State<S> {
             let code = Code::REQUEST_ENTITY_TOO_LARGE;
             return self.refuse(arrival, code, out);
         }
-        let client = Peer::new(arrival.from);
+        let client = DigestedEndpoint::new(arrival.from);
         if !self.has_room_to_open(arrival.now, client) {
             return self.overload(arrival, out);
         }
@@ -337,7 +337,7 @@ impl<S: Store + Drop> State<S> {
     fn join(
         &mut self,
         arrival: Arrival<'_, '_>,
-        client: Peer,
+        client: DigestedEndpoint,
         exchange: ExchangeNumber,
         tags: Pieces,
         out: &mut Datagram,

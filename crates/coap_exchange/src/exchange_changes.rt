@@ -19,7 +19,9 @@ use coap_endpoint::Target;
 use coap_pending::{Change, ExchangeNumber};
 use coap_store::digest_of_target;
 use endpoint_counts::by_client::depart;
-use endpoint_counts::{EndpointMap, Peer, SentCounts, Stage, close_one, lowered, move_one};
+use endpoint_counts::{
+    DigestedEndpoint, EndpointMap, SentCounts, Stage, close_one, lowered, move_one,
+};
 
 impl Exchanges {
     /// Changes the exchange numbered `number`, or removes it if there is no change. Nothing happens
@@ -247,7 +249,7 @@ fn recount(
 }
 
 /// The client that opened an exchange which is removed, if it is and there is one.
-fn leaver_of(found: Option<&IndexedExchange>, change: &Option<Change>) -> Option<Peer>
+fn leaver_of(found: Option<&IndexedExchange>, change: &Option<Change>) -> Option<DigestedEndpoint>
     ensures exact { result ≡ leaver (λ x. x.client) change.now (option_copied found.entry) }
 {
     match change {

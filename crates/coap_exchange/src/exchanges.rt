@@ -26,7 +26,7 @@ use coap_pending::due::{later, sooner};
 use coap_pending::{Change, Exchange, ExchangeNumber, Fire, Sending};
 use coap_store::{Answer, CacheKey, SharedKey, digests_of};
 use endpoint_counts::by_client::{count_of, depart, enter};
-use endpoint_counts::{EndpointMap, Peer, Stage, close_one, open_one};
+use endpoint_counts::{DigestedEndpoint, EndpointMap, Stage, close_one, open_one};
 use std::alloc::Global;
 use std::marker::Model;
 
@@ -137,11 +137,11 @@ impl Exchanges {
         ensures exact { result ≡ count (is_opened_by client) self.now.items }
         ensures within { AreWithin is_opened_by self.now }
     {
-        self.count_of_peer(Peer::new(client))
+        self.count_of_peer(DigestedEndpoint::new(client))
     }
 
     /// `count_of`, for a client whose digest is made already.
-    pub fn count_of_peer(&self, client: Peer) -> usize
+    pub fn count_of_peer(&self, client: DigestedEndpoint) -> usize
         ensures exact { result ≡ count (is_opened_by client) self.now.items }
         ensures within { AreWithin is_opened_by self.now }
     {

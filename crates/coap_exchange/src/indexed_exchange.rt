@@ -11,7 +11,7 @@ use crate::table::Table;
 use coap_endpoint::Target;
 use coap_message::OutOfMemory;
 use coap_pending::{Change, Exchange, ExchangeNumber};
-use endpoint_counts::{Peer, Stage};
+use endpoint_counts::{DigestedEndpoint, Stage};
 use std::alloc::Global;
 use std::marker::Model;
 
@@ -20,9 +20,9 @@ use std::marker::Model;
 pub(crate) struct IndexedExchange {
     exchange: Exchange,
     /// The client that opened it.
-    client: Peer,
+    client: DigestedEndpoint,
     /// The endpoint that its request is sent to.
-    peer: Peer,
+    peer: DigestedEndpoint,
 }
 
 impl Model for IndexedExchange {
@@ -49,7 +49,7 @@ impl IndexedExchange {
         ensures exact { IfOk result (λ exchange. exchange ≡ opened opening.entry) }
     {
         let client = opening.client;
-        let peer = Peer::new(opening.key.key().target.at);
+        let peer = DigestedEndpoint::new(opening.key.key().target.at);
         Ok(IndexedExchange {
             exchange: opening.opened(alloc)?,
             client,
@@ -65,14 +65,14 @@ impl IndexedExchange {
     }
 
     /// The client that opened it.
-    pub(crate) fn client(&self) -> Peer
+    pub(crate) fn client(&self) -> DigestedEndpoint
         ensures exact { result ≡ self.now.client }
     {
         self.client
     }
 
     /// The endpoint that its request is sent to.
-    pub(crate) fn peer(&self) -> Peer
+    pub(crate) fn peer(&self) -> DigestedEndpoint
         ensures exact { result ≡ self.now.key.target.at }
     {
         self.peer
@@ -120,7 +120,7 @@ impl IndexedExchange {
 }
 
 /// The client that opened an exchange, if there is one.
-pub(crate) fn client_of(found: Option<&IndexedExchange>) -> Option<Peer>
+pub(crate) fn client_of(found: Option<&IndexedExchange>) -> Option<DigestedEndpoint>
     ensures exact { result ≡ option_map (λ x. x.client) (option_copied found.entry) }
 {
     match found {

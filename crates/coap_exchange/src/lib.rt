@@ -6,7 +6,7 @@
 //! ```rust
 //! let mut exchanges = Exchanges::new(alloc, 256, 16)?;
 //! let opening = Opening {
-//!     client: Peer::new(client),
+//!     client: DigestedEndpoint::new(client),
 //!     key: &key,
 //!     is_get: true,
 //!     form,

@@ -11,7 +11,7 @@ use crate::indexed_exchange::IndexedExchange;
 use crate::table::Table;
 use coap_message::{Moment, OutOfMemory};
 use coap_pending::{Change, ExchangeNumber};
-use endpoint_counts::Peer;
+use endpoint_counts::DigestedEndpoint;
 use ordered_index::OrderedIndex;
 use std::alloc::Global;
 
@@ -81,7 +81,10 @@ fn lower(first: Option<ExchangeNumber>, number: ExchangeNumber) -> Option<Exchan
 /// The endpoint of which the head may be another after a change of this exchange, or, without a
 /// change, once it is removed. It is that of an exchange that waits for its turn, or that enters or
 /// leaves the sent state.
-pub(crate) fn mover_of(found: Option<&IndexedExchange>, change: &Option<Change>) -> Option<Peer>
+pub(crate) fn mover_of(
+    found: Option<&IndexedExchange>,
+    change: &Option<Change>,
+) -> Option<DigestedEndpoint>
     ensures exact { result ≡ mover change.now (option_copied found.entry) }
 {
     let listed = found?;
@@ -103,7 +106,7 @@ pub(crate) fn head_of(
     exchanges: &Table<IndexedExchange>,
     index: &Index,
     queued: usize,
-    at: &Option<Peer>,
+    at: &Option<DigestedEndpoint>,
     sent: usize,
 ) -> Option<(u64, u64)>
     requires indexed { AreIndexed exchanges.now.items exchanges.now.limit index.now }

@@ -23,7 +23,7 @@ use coap_pending::{
     Exchange, ExchangeNumber, Fire, Joining, Sending, Timer, Waiter, WaiterChange, WaiterNumber,
 };
 use coap_store::Answer;
-use endpoint_counts::Peer;
+use endpoint_counts::DigestedEndpoint;
 use ordered_index::OrderedIndex;
 use std::alloc::Global;
 use std::marker::Model;
@@ -297,7 +297,11 @@ impl UnderWay {
     ///
     /// # Errors
     /// Out of memory. Nothing is changed then.
-    pub fn join(&mut self, joining: Joining, client: Peer) -> Result<WaiterNumber, OutOfMemory>
+    pub fn join(
+        &mut self,
+        joining: Joining,
+        client: DigestedEndpoint,
+    ) -> Result<WaiterNumber, OutOfMemory>
         requires client { client ≡ joining.client }
         requires numbers { self.old.waiters.admitted < 2 ^ 64 - 1 }
         requires room { length self.old.waiters.items < self.old.waiters.limit }

@@ -12,7 +12,7 @@ use crate::table::{Items, Table, place_in};
 use crate::waiter_index::{WaiterKeys, waiter_keys_in, waiter_keys_of};
 use crate::waiters::Waiters;
 use coap_pending::{Waiter, WaiterChange, WaiterNumber};
-use endpoint_counts::Peer;
+use endpoint_counts::DigestedEndpoint;
 use endpoint_counts::by_client::depart;
 use std::alloc::Global;
 
@@ -121,11 +121,11 @@ fn waiting_without(
 }
 
 /// The client of a waiter that is removed, if it is and there is one.
-fn leaver_of(found: Option<&Waiter>, change: &Option<WaiterChange>) -> Option<Peer>
+fn leaver_of(found: Option<&Waiter>, change: &Option<WaiterChange>) -> Option<DigestedEndpoint>
     ensures exact { result ≡ leaver (λ w. w.client) change.now (option_copied found.entry) }
 {
     match (found, change) {
-        (Some(waiter), None) => Some(Peer::new(waiter.client)),
+        (Some(waiter), None) => Some(DigestedEndpoint::new(waiter.client)),
         (None, _) | (_, Some(_)) => None,
     }
 }

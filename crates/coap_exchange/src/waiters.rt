@@ -20,7 +20,7 @@ use coap_message::{Moment, OutOfMemory, Seq};
 use coap_pending::due::{due_under, sooner};
 use coap_pending::{ExchangeNumber, Fire, Joining, Timer, Waiter, WaiterChange, WaiterNumber};
 use endpoint_counts::by_client::{count_of, depart, enter};
-use endpoint_counts::{EndpointMap, Peer};
+use endpoint_counts::{DigestedEndpoint, EndpointMap};
 use std::alloc::Global;
 use std::marker::Model;
 
@@ -117,11 +117,11 @@ impl Waiters {
         ensures exact { result ≡ count (is_of client) self.now.items }
         ensures within { AreWithin is_of self.now }
     {
-        self.count_of_peer(Peer::new(client))
+        self.count_of_peer(DigestedEndpoint::new(client))
     }
 
     /// `count_of`, for a client whose digest is made already.
-    pub fn count_of_peer(&self, client: Peer) -> usize
+    pub fn count_of_peer(&self, client: DigestedEndpoint) -> usize
         ensures exact { result ≡ count (is_of client) self.now.items }
         ensures within { AreWithin is_of self.now }
     {
@@ -272,7 +272,7 @@ impl Waiters {
         if self.table.is_full() {
             return Err(AdmitError::Full);
         }
-        let peer = Peer::new(joining.client);
+        let peer = DigestedEndpoint::new(joining.client);
         if count_of(&self.clients, peer) == self.table.per_client() {
             return Err(AdmitError::ClientFull);
         }
@@ -287,7 +287,7 @@ impl Waiters {
     pub(crate) fn admit_in_room(
         &mut self,
         joining: Joining,
-        peer: Peer,
+        peer: DigestedEndpoint,
     ) -> Result<WaiterNumber, OutOfMemory>
         requires numbers { self.old.admitted < 2 ^ 64 - 1 }
         requires peer { peer ≡ joining.client }

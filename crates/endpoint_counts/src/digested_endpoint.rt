@@ -8,16 +8,16 @@ use std::marker::Model;
 
 /// An endpoint with its digest, which is computed once. A contract sees the endpoint.
 #[derive(Clone, Copy)]
-pub struct Peer {
+pub struct DigestedEndpoint {
     digest: u64,
     at: Endpoint,
 }
 
-impl Model for Peer {
+impl Model for DigestedEndpoint {
     ghost use Rattle.std.specs.Prelude.{◌≡◌};
     ghost use Rattle.coap_endpoint.specs.declared.endpoint.Endpoint.{Endpoint};
     ghost use Rattle.endpoint_counts.specs.Digests.{digest_of_endpoint};
-    ghost use Rattle.endpoint_counts.specs.PeerForm.{with_digest, one_form};
+    ghost use Rattle.endpoint_counts.specs.DigestedEndpointForm.{with_digest, one_form};
 
     ghost Value = { Endpoint };
 
@@ -30,13 +30,13 @@ impl Model for Peer {
     ghost inverse_ok = { one_form };
 }
 
-impl Peer {
+impl DigestedEndpoint {
     /// An endpoint, with its digest.
     #[inline(always)]
-    pub fn new(at: Endpoint) -> Peer
+    pub fn new(at: Endpoint) -> DigestedEndpoint
         ensures exact { result ≡ at }
     {
-        Peer {
+        DigestedEndpoint {
             digest: digest_of_endpoint(&at),
             at,
         }

@@ -9,7 +9,7 @@ use coap_message::{Code, Datagram, MessageRef, Seq};
 use coap_option::survey_request;
 use coap_pending::Ids;
 use endpoint_counts::by_client::{count_of, enter};
-use endpoint_counts::{EndpointMap, Peer};
+use endpoint_counts::{DigestedEndpoint, EndpointMap};
 use ordered_index::OrderedIndex;
 use std::test::*;
 
@@ -52,8 +52,8 @@ fn endpoint_counts(rt: HostRuntime) -> Result<(), Fail> {
     let alloc = rt.alloc();
     let client = CLIENT;
     let mut clients = EndpointMap::new(alloc, 256, 0)?;
-    enter(&mut clients, Peer::new(client)); // a request of this client waits
-    assert!(rt; count_of(&clients, Peer::new(client)) == 1);
+    enter(&mut clients, DigestedEndpoint::new(client)); // a request of this client waits
+    assert!(rt; count_of(&clients, DigestedEndpoint::new(client)) == 1);
     Ok(())
 }
 
@@ -65,7 +65,7 @@ fn coap_exchange(rt: HostRuntime) -> Result<(), Fail> {
     let form = Seq::from_slice(alloc, b"\x48\x01\0\0\0\0\0\0\0\0\0\x01\xB4temp")?;
     let mut exchanges = Exchanges::new(alloc, 256, 16)?;
     let opening = Opening {
-        client: Peer::new(client),
+        client: DigestedEndpoint::new(client),
         key: &key,
         is_get: true,
         form,
