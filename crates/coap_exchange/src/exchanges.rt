@@ -328,7 +328,7 @@ impl Exchanges {
         ensures err { OnErr result (self.new ≡ self.old) }
     {
         let (opener, at) = (listed.client(), listed.peer());
-        let now = listed.exchange().admitted;
+        let now = listed.exchange().opened_at;
         self.table.laws();
         self.send_queue.heads.laws();
         self.endpoints.laws();

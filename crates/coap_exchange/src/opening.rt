@@ -60,7 +60,7 @@ impl Opening<'_> {
             is_get,
             form,
             copy,
-            admitted: now,
+            opened_at: now,
             sending: None,
             tainted: false,
             state: ExchangeState::Queued,
