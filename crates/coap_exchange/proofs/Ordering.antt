@@ -8,12 +8,12 @@ use Rattle.std.proofs.lemmas.Bool.Decides.{nat_tests}
 use Rattle.coap_endpoint.specs.declared.endpoint.Endpoint.{Endpoint}
 use Rattle.coap_endpoint.specs.declared.target.Target.{Target}
 use Rattle.coap_pending.specs.declared.exchange.Exchange.{Exchange}
-use Rattle.coap_pending.specs.declared.exchange.Change.{Change}
-use Rattle.coap_pending.specs.declared.exchange.Change.TheVariants as change
+use Rattle.coap_pending.specs.declared.exchange.Transition.{Transition}
+use Rattle.coap_pending.specs.declared.exchange.Transition.TheVariants as transition
 use Rattle.coap_exchange.specs.declared.send_queue.SendQueue.{SendQueue}
 use Rattle.coap_pending.specs.Due.{sooner, as_due, first_due}
 use Rattle.ordered_index.specs.Ordered.{is_before, Pair, OrderedIndex, is_in, one_of, AreRising, IsReplaced}
-use Rattle.coap_pending.specs.Exchanges.{changed_by, is_changed_with, is_queued, is_sent_to, tainted_by, is_queued_to}
+use Rattle.coap_pending.specs.Exchanges.{after_transition, is_changed_with, is_queued, is_sent_to, tainted_by, is_queued_to}
 use Rattle.coap_exchange.specs.Index.{turn_among}
 use Rattle.coap_pending.specs.Table.{Numbered, Table, IsRising, IsTable, admitted_to, all_changed, changed_at, count, item_at, passes, without}
 use Rattle.coap_exchange.specs.SendQueue.{head_at, head_in, noted, AreInOrder, AreHeads, IsSendQueue, IsLowestUnder}
@@ -67,11 +67,11 @@ pub kept-changed : (n : ℕ) (f : Exchange → Exchange) (xs : List (Numbered Ex
 kept-changed n f xs same moves = moved-kept n xs (changed_at n f xs) moves (λ y g. made-of f same (item_at n xs) y (sym (changed-at n f xs) ∙ g))
 
 -- a change leaves the moment of the admission
-pub admitted-after : (ch : Change) (x : Exchange) → (changed_by ch x).opened_at ≡ x.opened_at
-admitted-after (change.Send s) x = refl
-admitted-after (change.Fire now) x = refl
-admitted-after change.Acknowledge x = refl
-admitted-after (change.Answer a) x = refl
+pub admitted-after : (ch : Transition) (x : Exchange) → (after_transition ch x).opened_at ≡ x.opened_at
+admitted-after (transition.Send s) x = refl
+admitted-after (transition.Fire now) x = refl
+admitted-after transition.Acknowledge x = refl
+admitted-after (transition.Answer a) x = refl
 
 -- and so does a taint
 admitted-tainted : (target : Target) (x : Exchange) → (tainted_by target x).opened_at ≡ x.opened_at
@@ -267,11 +267,11 @@ module _ (nstart : ℕ) (xs : List (Numbered Exchange)) (send_queue : SendQueue)
 -- ---- one exchange comes, changes or goes
 
 -- a change leaves the endpoint
-pub endpoint-after : (ch : Change) (x : Exchange) → (changed_by ch x).key.target.at ≡ x.key.target.at
-endpoint-after (change.Send s) x = refl
-endpoint-after (change.Fire now) x = refl
-endpoint-after change.Acknowledge x = refl
-endpoint-after (change.Answer a) x = refl
+pub endpoint-after : (ch : Transition) (x : Exchange) → (after_transition ch x).key.target.at ≡ x.key.target.at
+endpoint-after (transition.Send s) x = refl
+endpoint-after (transition.Fire now) x = refl
+endpoint-after transition.Acknowledge x = refl
+endpoint-after (transition.Answer a) x = refl
 
 -- and an exchange that is changed doesn't wait for its turn
 pub changed-off : (n : ℕ) (f : Exchange → Exchange) (xs : List (Numbered Exchange)) → IfSome (item_at n xs) (λ x. is_queued (f x) ≡ false) → passes is_queued (item_at n (changed_at n f xs)) ≡ false

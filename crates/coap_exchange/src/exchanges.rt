@@ -23,7 +23,7 @@ use crate::turns::first_turn;
 use coap_endpoint::{Endpoint, Target};
 use coap_message::{Moment, OutOfMemory};
 use coap_pending::due::{later, sooner};
-use coap_pending::{Change, Exchange, ExchangeNumber, Fire, Sending};
+use coap_pending::{Exchange, ExchangeNumber, Fire, Sending, Transition};
 use coap_store::{Answer, CacheKey, SharedKey, digests_of};
 use endpoint_counts::by_client::{count_of, depart, enter};
 use endpoint_counts::{DigestedEndpoint, EndpointMap, Stage, close_one, open_one};
@@ -387,7 +387,7 @@ impl Exchanges {
         ensures sent { self.new
             ≡ record self.old { items = changed_at number (sent sending) self.old.items } }
     {
-        self.update(number, Some(Change::Send(sending)));
+        self.update(number, Some(Transition::Send(sending)));
     }
 
     /// Fires the timer of the exchange numbered `number`, whose request was sent, and returns what
@@ -404,7 +404,7 @@ impl Exchanges {
             Some(exchange) => exchange.fire_of(now),
             None => Fire::GiveUp,
         };
-        self.update(number, Some(Change::Fire(now)));
+        self.update(number, Some(Transition::Fire(now)));
         fire
     }
 
@@ -414,7 +414,7 @@ impl Exchanges {
         ensures acked { self.new
             ≡ record self.old { items = changed_at number acked self.old.items } }
     {
-        self.update(number, Some(Change::Acknowledge));
+        self.update(number, Some(Transition::Acknowledge));
     }
 
     /// Notes the answer of the exchange numbered `number`: a response, or the proxy's own answer.
@@ -423,7 +423,7 @@ impl Exchanges {
         ensures answered { self.new
             ≡ record self.old { items = changed_at number (answered answer) self.old.items } }
     {
-        self.update(number, Some(Change::Answer(answer)));
+        self.update(number, Some(Transition::Answer(answer)));
     }
 
     /// Taints the exchanges with this target whose request was sent and whose answer hasn't come,

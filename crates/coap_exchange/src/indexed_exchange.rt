@@ -2,7 +2,7 @@
 ghost use Rattle.std.specs.Prelude.{◌≡◌, IfOk};
 ghost use Rattle.std.specs.Option.{option_copied, option_map};
 ghost use Rattle.coap_store.specs.Digests.{digest_of_key, digest_of_target};
-ghost use Rattle.coap_pending.specs.Exchanges.{changed_by, is_queued, is_sent, tainted_by, CanChange};
+ghost use Rattle.coap_pending.specs.Exchanges.{after_transition, is_queued, is_sent, tainted_by, CanChange};
 ghost use Rattle.coap_exchange.specs.Opening.{opened};
 ghost use Rattle.coap_pending.specs.Table.{item_at, IsTable};
 
@@ -10,7 +10,7 @@ use crate::opening::Opening;
 use crate::table::Table;
 use coap_endpoint::Target;
 use coap_message::OutOfMemory;
-use coap_pending::{Change, Exchange, ExchangeNumber};
+use coap_pending::{Exchange, ExchangeNumber, Transition};
 use endpoint_counts::{DigestedEndpoint, Stage};
 use std::alloc::Global;
 use std::marker::Model;
@@ -104,9 +104,9 @@ impl IndexedExchange {
     }
 
     /// Applies a change to the exchange.
-    pub(crate) fn change(&mut self, change: Change)
+    pub(crate) fn change(&mut self, change: Transition)
         requires { CanChange change self.old }
-        ensures exact { self.new ≡ changed_by change self.old }
+        ensures exact { self.new ≡ after_transition change self.old }
     {
         self.exchange.change(change);
     }

@@ -10,7 +10,7 @@ use crate::index::{Index, Sought, first_sought};
 use crate::indexed_exchange::IndexedExchange;
 use crate::table::Table;
 use coap_message::{Moment, OutOfMemory};
-use coap_pending::{Change, ExchangeNumber};
+use coap_pending::{ExchangeNumber, Transition};
 use endpoint_counts::DigestedEndpoint;
 use ordered_index::OrderedIndex;
 use std::alloc::Global;
@@ -83,7 +83,7 @@ fn lower(first: Option<ExchangeNumber>, number: ExchangeNumber) -> Option<Exchan
 /// leaves the sent state.
 pub(crate) fn mover_of(
     found: Option<&IndexedExchange>,
-    change: &Option<Change>,
+    change: &Option<Transition>,
 ) -> Option<DigestedEndpoint>
     ensures exact { result ≡ mover change.now (option_copied found.entry) }
 {

@@ -18,7 +18,7 @@ use crate::waiter_index::{WaiterIndex, waiter_keys_in, waiter_keys_of};
 use coap_endpoint::Endpoint;
 use coap_message::{Moment, OutOfMemory, Seq};
 use coap_pending::due::{due_under, sooner};
-use coap_pending::{ExchangeNumber, Fire, Joining, Timer, Waiter, WaiterChange, WaiterNumber};
+use coap_pending::{ExchangeNumber, Fire, Joining, Timer, Waiter, WaiterNumber, WaiterTransition};
 use endpoint_counts::by_client::{count_of, depart, enter};
 use endpoint_counts::{DigestedEndpoint, EndpointMap};
 use std::alloc::Global;
@@ -351,7 +351,7 @@ impl Waiters {
                   changed_at number (delivered bytes id timer) self.old.items;
             } }
     {
-        self.update(number, Some(WaiterChange::Deliver { bytes, id, timer }));
+        self.update(number, Some(WaiterTransition::Deliver { bytes, id, timer }));
     }
 
     /// Fires the timer of the waiter numbered `number`, which was sent its answer, and returns
@@ -368,7 +368,7 @@ impl Waiters {
             Some(waiter) => waiter.fire_of(now),
             None => Fire::GiveUp,
         };
-        self.update(number, Some(WaiterChange::Fire(now)));
+        self.update(number, Some(WaiterTransition::Fire(now)));
         fire
     }
 }

@@ -15,8 +15,8 @@ use Rattle.coap_pending.specs.declared.exchange.ExchangeState.{ExchangeState}
 use Rattle.coap_pending.specs.declared.exchange.ExchangeState.TheVariants.{Queued, Sent, Acked, Done}
 use Rattle.coap_pending.specs.declared.exchange.Sending.{Sending}
 use Rattle.coap_pending.specs.declared.exchange.Exchange.{Exchange}
-use Rattle.coap_pending.specs.declared.exchange.Change.{Change}
-use Rattle.coap_pending.specs.declared.exchange.Change.TheVariants as change
+use Rattle.coap_pending.specs.declared.exchange.Transition.{Transition}
+use Rattle.coap_pending.specs.declared.exchange.Transition.TheVariants as transition
 use Rattle.coap_pending.specs.Table.{Numbered, count, item_at}
 use Rattle.coap_pending.specs.Timers.{fire_of, fired, IsShort}
 
@@ -168,25 +168,25 @@ abbrev pub fire_at : ℕ → Option Exchange → Fire
 fire_at now None = GiveUp
 fire_at now (Some x) = fire_of_sending now x.sending
 
-abbrev pub changed_by : Change → Exchange → Exchange
-changed_by (change.Send s) = sent s
-changed_by (change.Fire now) = fired_exchange now
-changed_by change.Acknowledge = acked
-changed_by (change.Answer a) = answered a
+abbrev pub after_transition : Transition → Exchange → Exchange
+after_transition (transition.Send s) = sent s
+after_transition (transition.Fire now) = fired_exchange now
+after_transition transition.Acknowledge = acked
+after_transition (transition.Answer a) = answered a
 
--- whether an exchange is in the sent state after a change, given whether it was before
-abbrev pub is_sent_after : Change → Bool → Bool
-is_sent_after (change.Send s) was = true
-is_sent_after (change.Fire now) was = was
-is_sent_after change.Acknowledge was = false
-is_sent_after (change.Answer a) was = false
+-- whether an exchange is in the sent state after a transition, given whether it was before
+abbrev pub is_sent_after : Transition → Bool → Bool
+is_sent_after (transition.Send s) was = true
+is_sent_after (transition.Fire now) was = was
+is_sent_after transition.Acknowledge was = false
+is_sent_after (transition.Answer a) was = false
 
 -- the moment of a change is within the allowed range, and a first timeout is at most 3,000 ms
-abbrev pub is_timely : Change → Bool
-is_timely (change.Send s) = nat_le s.timer.timeout 3000
-is_timely (change.Fire now) = nat_le now (2 ^ 62)
-is_timely change.Acknowledge = true
-is_timely (change.Answer a) = true
+abbrev pub is_timely : Transition → Bool
+is_timely (transition.Send s) = nat_le s.timer.timeout 3000
+is_timely (transition.Fire now) = nat_le now (2 ^ 62)
+is_timely transition.Acknowledge = true
+is_timely (transition.Answer a) = true
 
 -- ---- when it is due
 
@@ -234,27 +234,27 @@ abbrev pub CanFire : ℕ → Option Sending → Type 0
 CanFire now None = Unit {0}
 CanFire now (Some s) = (s.timer.due ≤ now) × (s.timer.timeout ≤ 2 ^ 32)
 
-abbrev pub CanChange : Change → Exchange → Type 0
-CanChange (change.Send s) x = Unit {0}
-CanChange (change.Fire now) x = (now ≤ 2 ^ 62) × CanFire now x.sending
-CanChange change.Acknowledge x = Unit {0}
-CanChange (change.Answer a) x = Unit {0}
+abbrev pub CanChange : Transition → Exchange → Type 0
+CanChange (transition.Send s) x = Unit {0}
+CanChange (transition.Fire now) x = (now ≤ 2 ^ 62) × CanFire now x.sending
+CanChange transition.Acknowledge x = Unit {0}
+CanChange (transition.Answer a) x = Unit {0}
 
 -- if the change fires its timer, the exchange is due
-abbrev pub IsFireDue : Change → Option Exchange → Type 0
-IsFireDue (change.Send s) found = Unit {0}
-IsFireDue (change.Fire now) found = IfSome found (IsDue now)
-IsFireDue change.Acknowledge found = Unit {0}
-IsFireDue (change.Answer a) found = Unit {0}
+abbrev pub IsFireDue : Transition → Option Exchange → Type 0
+IsFireDue (transition.Send s) found = Unit {0}
+IsFireDue (transition.Fire now) found = IfSome found (IsDue now)
+IsFireDue transition.Acknowledge found = Unit {0}
+IsFireDue (transition.Answer a) found = Unit {0}
 
 -- An update is possible: a change comes at a moment in range, fires only a timer that has ended,
 -- and leaves no exchange waiting for its turn. Any exchange can be removed.
-abbrev pub CanUpdate : Option Change → Option Exchange → Type 0
+abbrev pub CanUpdate : Option Transition → Option Exchange → Type 0
 CanUpdate None found = Unit {0}
 CanUpdate (Some change) found =
     (is_timely change ≡ true)
     × IsFireDue change found
-    × IfSome found (λ x. is_queued (changed_by change x) ≡ false)
+    × IfSome found (λ x. is_queued (after_transition change x) ≡ false)
 
 -- ---- invariants of a table of exchanges
 
