@@ -95,7 +95,7 @@ fn put_answering(
             line.write_all(b" ")?;
             cause.put(line)
         }
-        Answering::Passed => put_stored(line, code, storing),
+        Answering::Passed => put_code_and_storing(line, code, storing),
         Answering::Unknown => line.write_all(b" answer: out of memory"),
     }
 }
@@ -117,7 +117,7 @@ fn put_answered(
 }
 
 /// Adds the code of an answer, and what the cache did with it.
-fn put_stored(line: &mut Vec<u8>, code: Code, storing: Storing) -> io::Result<()>
+fn put_code_and_storing(line: &mut Vec<u8>, code: Code, storing: Storing) -> io::Result<()>
     ensures { OnOk result (line.new.items
         ≡ line.old.items ++ codes " " ++ spec.code_text code ++ codes " "
         ++ spec.storing_word storing) }
