@@ -22,7 +22,7 @@ use Rattle.coap_message.specs.Codes.{is_request, is_response}
 use Rattle.coap_pending.specs.declared.exchange.Exchange.{Exchange}
 use Rattle.coap_pending.specs.Table.{Numbered}
 use Rattle.coap_model.specs.Responses.{awaiting}
-use Rattle.coap_forward.specs.Messages.{is_con, brings_requests, reset, own_reply, busy_reply, at_once, reply_id}
+use Rattle.coap_forward.specs.Messages.{is_con, brings_requests, reset, own_reply, overload_reply, at_once, reply_id}
 use Rattle.coap_model.specs.Remembered.{remembered_at}
 use Rattle.coap_model.specs.Verdicts.{may_ask}
 use Rattle.coap_model.specs.State.{State, next_id, known_of, has_record_room, remembers, repeats, drops, reserved, has_ids, can_reply, ignores, rejects}
@@ -35,11 +35,11 @@ use Rattle.coap_model.specs.Justified.{Comes, IsNew, HasIdFor, SaysAgain, IsAwai
 use Rattle.coap_model.specs.Runs.{observation_of}
 use Rattle.coap_model.specs.Carries.{Ids, Bears}
 use Rattle.coap_model.proofs.GivenIds.{ids-kept, ids-given, room-called}
-use Rattle.coap_model.proofs.Encodings.{reset-is, own_reply-is, busy_reply-is, message_in-is, message_in-again}
+use Rattle.coap_model.proofs.Encodings.{reset-is, own_reply-is, overload_reply-is, message_in-is, message_in-again}
 use Rattle.coap_model.proofs.Positions.{doing, arrival-same}
 use Rattle.coap_model.proofs.Verdicts.{deserved-code}
 use Rattle.coap_model.proofs.Rules.{by_response, recorded-kind, recorded-response, Asked, Recorded, IsFirst, IsNotCon, IsNothing, verdict_in, IsDenied, IsFull, head_of_read}
-use Rattle.coap_model.proofs.OwnReplies.{at_once-is, own-short, busy-short, reply-due, free-one, free-none}
+use Rattle.coap_model.proofs.OwnReplies.{at_once-is, own-short, overload-short, reply-due, free-one, free-none}
 use Rattle.coap_model.proofs.RecordsOfHistory.{known-is, record-full, first-new, first-remembered}
 use Rattle.coap_model.proofs.AbsentFromHistory.{deserves, lacks_room}
 use Rattle.coap_model.proofs.CountsAndRoom.{ids-free, ids-none}
@@ -138,12 +138,12 @@ module _ (w : State) (history : List Action) (c : Bears history w) (now draw : �
   keeps_overloading key verdict full free =
       let s = overloads w now client m in
       let e = doing no_item (observation_of now draw (arrival client bytes) s) in
-      let reply = busy_reply w.setting.limits.retry_s (next_id w) m.token in
-      let spells : Spells s.bytes (at_once m reply) = spelled (at_once m reply) (at_once-is m reply (busy_reply-is w.setting.limits.retry_s (next_id w) m.token short_token)) in
+      let reply = overload_reply w.setting.limits.retry_s (next_id w) m.token in
+      let spells : Spells s.bytes (at_once m reply) = spelled (at_once m reply) (at_once-is m reply (overload_reply-is w.setting.limits.retry_s (next_id w) m.token short_token)) in
       let gives : gives_id e.observation ≡ (if is_con m.kind then 0 else 1) = ap (λ (b : Bool). if b then 0 else 1) takes-ids in
       keeps_still w history c e ids_after w.store _ _ (record { act = refl; opens = refl; admits = refl; sends = refl; accepts_answer = refl; leaves_open = λ standing xs. refl; stands = λ standing. refl }) onward (reply-ids e _ reply refl gives spells refl free refl refl) (reply-room free)
       (store-otherwise w.setting history w.store e refl refl c.store)
-      (first-remembered w history c now client bytes m onward draw no_item s first refl (λ most wide long. omega (arith, wide, busy-short m w.setting.limits.retry_s (next_id w) m.token short_token)))
+      (first-remembered w history c now client bytes m onward draw no_item s first refl (λ most wide long. omega (arith, wide, overload-short m w.setting.limits.retry_s (next_id w) m.token short_token)))
       (record { act = refl; client = client; request = m; key = key; id = next_id w; asked = came; verdict = verdict; no_room = lacks_room w history c now client key m onward full; new = is_new; ids = has-id free; tells = record { sent = refl; spells = spells } }, c.past)
 
   -- and so does silence because no id is free

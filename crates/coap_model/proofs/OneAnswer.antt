@@ -20,7 +20,7 @@ use Rattle.coap_model.specs.declared.report.Storing.{Storing}
 use Rattle.coap_model.specs.Setting.{Setting}
 use Rattle.coap_dedup.specs.declared.record.Record.{Record}
 use Rattle.coap_model.specs.Events.{Event}
-use Rattle.coap_forward.specs.Messages.{is_con, brings_requests, acknowledgement, reset, own_reply, busy_reply, at_once, reply_kind, reply_id, token_of, is_get}
+use Rattle.coap_forward.specs.Messages.{is_con, brings_requests, acknowledgement, reset, own_reply, overload_reply, at_once, reply_kind, reply_id, token_of, is_get}
 use Rattle.coap_forward.specs.Forms.{forwarded, tag_for}
 use Rattle.coap_forward.specs.Answers.{stored_answer, shown, shown_as}
 use Rattle.coap_model.specs.History.{Observation, Act, no_item, admits, moves, serves, Action, Position, ids_in, opened_in, admitted_in, comes_con, ids_given, accepts_answer, Brings, Meets, Gets, Ends, Gives, IsRequestOf}
@@ -441,8 +441,8 @@ one-answer setting past d e all few f g turn =
         let one = request-unique setting e.observation.event j.client k.client j.request k.request r k.asked in
         let token : j.request.token ≡ k.request.token = ap (λ (m : Message). m.token) one.1 in
         let retry = setting.limits.retry_s in
-        let id = one_id j.client k.client j.request k.request (busy_reply retry j.id j.request.token) (busy_reply retry k.id k.request.token) j.asked k.asked one.1 (ap (ids_given false) is) (ap (ids_given false) o) j.tells k.tells in
-        let same = at_once-same j.request k.request (busy_reply retry j.id j.request.token) (busy_reply retry k.id k.request.token) (ap (λ (m : Message). m.kind) one.1) refl token refl refl id in
+        let id = one_id j.client k.client j.request k.request (overload_reply retry j.id j.request.token) (overload_reply retry k.id k.request.token) j.asked k.asked one.1 (ap (ids_given false) is) (ap (ids_given false) o) j.tells k.tells in
+        let same = at_once-same j.request k.request (overload_reply retry j.id j.request.token) (overload_reply retry k.id k.request.token) (ap (λ (m : Message). m.kind) one.1) refl token refl refl id in
         record { outcome = is ∙ sym o; act = j.act ∙ sym k.act; say = told-same d.observation e.observation j.client k.client _ _ j.tells k.tells one.0 same }
     by_outcome NoId is j =
         let o = given_no_id e.observation.report.outcome setting past e j.client j.request g.justified (same_request j.client j.request j.asked) (new_too j.client j.request j.new) j.kind (subst (λ (n : ℕ). ¬ HasIds 1 n past) turn.now j.no_ids) in
