@@ -5,7 +5,7 @@ use Rattle.std.specs.List.{AllByRecursion}
 use Rattle.coap_model.specs.declared.report.Outcome.{Outcome}
 use Rattle.coap_model.specs.declared.report.Outcome.TheVariants.{Ignored, Rejected, Again, NoRecordRoom, Refused, Hit, Joined, Opened, Overloaded, NoId, Answered, Acked, SentRequest, Resent, GaveUp, Delivered, Idle}
 use Rattle.coap_model.specs.Setting.{Setting}
-use Rattle.coap_model.specs.History.{admits, serves, Action, Position, IsPositionOf, Never, admits_one, admitted_in, closes_unused, Serves, LetsGo}
+use Rattle.coap_model.specs.History.{admits, serves, Action, Position, IsPositionOf, Never, admits_one, admitted_in, finishes, Serves, Finishes}
 use Rattle.coap_model.specs.Standing.{delivering, service_of, standing_in}
 use Rattle.coap_model.specs.Justified.{Settles, a_request, an_answer, IsToSendAgain, request_again, answer_again, IsGivingUp, overdue, unheard, unacknowledged, IsDelivery, JustifiedBy, AllJustified}
 use Rattle.coap_model.proofs.OwedActions.{taken-so}
@@ -59,7 +59,7 @@ record WasServed (history : List Action) (v : ℕ) : Type 0 where
   pub is_there : IsPositionOf history position
   pub serves_it : Serves v position
 
-gone-served : (setting : Setting) (history : List Action) (v : ℕ) (p : Position) → AllJustified setting history → IsPositionOf history p → LetsGo v p → WasServed history v
+gone-served : (setting : Setting) (history : List Action) (v : ℕ) (p : Position) → AllJustified setting history → IsPositionOf history p → Finishes v p → WasServed history v
 gone-served setting history v p all at g = go p.action.observation.report.outcome refl (for-waiter setting p.before p.action v p.action.observation.report.outcome (justified-at setting history p p.action.observation.report.outcome all at refl) g.act)
   where
     go : (o : Outcome) → p.action.observation.report.outcome ≡ o → IsFor setting p.before p.action v o → WasServed history v
@@ -67,7 +67,7 @@ gone-served setting history v p all at g = go p.action.observation.report.outcom
     go _ is (telling service) = let s = delivering-served v p.before service in record { position = s.position; is_there = position-before history p s.position at s.is_there; serves_it = s.holds }
 
 -- so it was admitted
-gone-number : (setting : Setting) (history : List Action) (v : ℕ) (p : Position) → AllJustified setting history → IsPositionOf history p → LetsGo v p → v ≤ admitted_in history
+gone-number : (setting : Setting) (history : List Action) (v : ℕ) (p : Position) → AllJustified setting history → IsPositionOf history p → Finishes v p → v ≤ admitted_in history
 gone-number setting history v p all at g =
     let s = gone-served setting history v p all at g in
     let j : IsDelivery setting s.position.before s.position.action = justified-at setting history s.position Delivered all s.is_there s.serves_it.outcome in
@@ -85,27 +85,27 @@ comes-next setting past d v x Opened j one is = (same_admits v _ x _ (sym is ∙
 comes-next setting past d v x _ j one is = absurd (omega (arith, one))
 
 -- no waiter that is there is finished
-all-stay : (setting : Setting) (history : List Action) → AllJustified setting history → AllByRecursion (λ s. Never (LetsGo s.number) history) (standing_in history)
+all-stay : (setting : Setting) (history : List Action) → AllJustified setting history → AllByRecursion (λ s. Never (Finishes s.number) history) (standing_in history)
 all-stay setting [] all = tt
 all-stay setting (d ∷ past) all =
-    All-standing (λ s. Never (LetsGo s.number) past) (λ s. Never (LetsGo s.number) (d ∷ past)) d.observation.report.outcome d.act d.observation.event d.observation.bytes (standing_in past)
+    All-standing (λ s. Never (Finishes s.number) past) (λ s. Never (Finishes s.number) (d ∷ past)) d.observation.report.outcome d.act d.observation.event d.observation.bytes (standing_in past)
     (λ client came v x brings one is. (
       (λ g. let e = sym is ∙ g.act in cc),
-      never-from (LetsGo v) past (λ p at g. let next = comes-next setting past d v x d.observation.report.outcome all.0 one is in let below = gone-number setting past v p all.1 at g in omega (arith, next, below)),
+      never-from (Finishes v) past (λ p at g. let next = comes-next setting past d v x d.observation.report.outcome all.0 one is in let below = gone-number setting past v p all.1 at g in omega (arith, next, below)),
     ))
-    (λ v is con act s h same. ((λ g. let e = sym g.outcome ∙ ap (λ (o : Outcome). closes_unused o d.observation.bytes) is ∙ ap not con in cc), h))
+    (λ v is con act s h same. ((λ g. let e = sym g.outcome ∙ ap (λ (o : Outcome). finishes o d.observation.bytes) is ∙ ap not con in cc), h))
     (λ s h stays. ((λ g. stays g.outcome g.act), h))
     (all-stay setting past all.1)
 
 -- nothing is done for a waiter after it is finished
-pub gone-for-good : (setting : Setting) (history : List Action) (v : ℕ) (p : Position) → AllJustified setting history → IsPositionOf history p → p.action.act ≡ serves v → Never (LetsGo v) p.before
+pub gone-for-good : (setting : Setting) (history : List Action) (v : ℕ) (p : Position) → AllJustified setting history → IsPositionOf history p → p.action.act ≡ serves v → Never (Finishes v) p.before
 gone-for-good setting history v p all at is = go (for-waiter setting p.before p.action v p.action.observation.report.outcome (justified-at setting history p p.action.observation.report.outcome all at refl) is)
   where
     before : AllJustified setting p.before
     before = all-before setting history p all at
 
-    go : {o : Outcome} → IsFor setting p.before p.action v o → Never (LetsGo v) p.before
-    go (serving j same) = never-from (LetsGo v) p.before (λ q there g. let s = gone-served setting p.before v q before there g in Never-at (Serves v) p.before s.position (subst (λ (n : ℕ). Never (Serves n) p.before) same j.to_serve.unserved) s.is_there s.serves_it)
+    go : {o : Outcome} → IsFor setting p.before p.action v o → Never (Finishes v) p.before
+    go (serving j same) = never-from (Finishes v) p.before (λ q there g. let s = gone-served setting p.before v q before there g in Never-at (Serves v) p.before s.position (subst (λ (n : ℕ). Never (Serves n) p.before) same j.to_serve.unserved) s.is_there s.serves_it)
     go (telling service) =
-        let h = standing-holds (λ s. Never (LetsGo s.number) p.before) v delivering p.before (all-stay setting p.before before) service in
-        subst (λ (n : ℕ). Never (LetsGo n) p.before) h.2 h.1
+        let h = standing-holds (λ s. Never (Finishes s.number) p.before) v delivering p.before (all-stay setting p.before before) service in
+        subst (λ (n : ℕ). Never (Finishes n) p.before) h.2 h.1

@@ -9,7 +9,7 @@ use Rattle.coap_model.specs.declared.report.Outcome.TheVariants.{Joined, Opened,
 use Rattle.coap_model.specs.Setting.{Setting}
 use Rattle.coap_endpoint.specs.declared.endpoint.Endpoint.{Endpoint}
 use Rattle.coap_model.specs.Events.{Event, arrival, tick}
-use Rattle.coap_model.specs.History.{Act, no_item, admits, moves, serves, Action, Somewhere, Serves, admits_one, closes_unused, is_con_datagram}
+use Rattle.coap_model.specs.History.{Act, no_item, admits, moves, serves, Action, Somewhere, Serves, admits_one, finishes, is_con_datagram}
 use Rattle.coap_model.specs.Standing.{Service, WaiterStanding, waits, delivering, others_than, as_delivering, waiting_since, admitted, served, closed, standing_by, standing_in, service_of}
 use Rattle.coap_model.specs.Due.{IsToServe, IsToServeAgain}
 use Rattle.coap_model.proofs.Lists.{find-holds, All-map, All-filter}
@@ -22,12 +22,12 @@ use Rattle.coap_model.proofs.Positions.{here, same_serves, Never-at}
 pub All-standing : (P Q : WaiterStanding → Type 0) (o : Outcome) (act : Act) (event : Event) (bytes : List ℕ) (xs : List WaiterStanding)
     → ((client : Endpoint) (came : List ℕ) (v x : ℕ) → event ≡ arrival client came → admits_one o ≡ 1 → act ≡ admits v x → Q (record { number = v; client = client; service = waits x }))
     → ((v : ℕ) → o ≡ Delivered → is_con_datagram bytes ≡ true → act ≡ serves v → (s : WaiterStanding) → P s → s.number ≡ v → Q (record s { service = delivering }))
-    → ((s : WaiterStanding) → P s → (closes_unused o bytes ≡ true → act ≢ serves s.number) → Q s)
+    → ((s : WaiterStanding) → P s → (finishes o bytes ≡ true → act ≢ serves s.number) → Q s)
     → AllByRecursion P xs → AllByRecursion Q (standing_by o act event bytes xs)
 All-standing P Q o act event bytes xs new this others all = by_outcome o refl
   where
     -- no waiter is finished
-    kept : (closes_unused o bytes ≡ false) → AllByRecursion Q xs
+    kept : (finishes o bytes ≡ false) → AllByRecursion Q xs
     kept stays = All-weaken P Q xs (λ s h. others s h (λ gone same. let e = sym stays ∙ gone in cc)) all
 
     -- nor is one if the action isn't of a waiter
@@ -42,7 +42,7 @@ All-standing P Q o act event bytes xs new this others all = by_outcome o refl
         apart_from s true e passes same = let f : false ≡ true = ap not (sym e) ∙ passes in absurd cc
         apart_from s false e passes same = eqb-false s.number v e same
 
-    coming : admits_one o ≡ 1 → closes_unused o bytes ≡ false → (a : Act) → act ≡ a → AllByRecursion Q (admitted a event xs)
+    coming : admits_one o ≡ 1 → finishes o bytes ≡ false → (a : Act) → act ≡ a → AllByRecursion Q (admitted a event xs)
     coming one stays no_item is = kept stays
     coming one stays (admits v x) is = All-append Q xs (waiting_since event v x) (kept stays) (since event refl)
       where
@@ -76,12 +76,12 @@ All-standing P Q o act event bytes xs new this others all = by_outcome o refl
     serving is (serves v) to = given_one v is to (is_con_datagram bytes) refl
 
     by_outcome : (p : Outcome) → o ≡ p → AllByRecursion Q (standing_by p act event bytes xs)
-    by_outcome Joined is = coming (ap admits_one is) (ap (λ (q : Outcome). closes_unused q bytes) is) act refl
-    by_outcome Opened is = coming (ap admits_one is) (ap (λ (q : Outcome). closes_unused q bytes) is) act refl
+    by_outcome Joined is = coming (ap admits_one is) (ap (λ (q : Outcome). finishes q bytes) is) act refl
+    by_outcome Opened is = coming (ap admits_one is) (ap (λ (q : Outcome). finishes q bytes) is) act refl
     by_outcome Acked is = going act refl
     by_outcome GaveUp is = going act refl
     by_outcome Delivered is = serving is act refl
-    by_outcome _ is = kept (ap (λ (q : Outcome). closes_unused q bytes) is)
+    by_outcome _ is = kept (ap (λ (q : Outcome). finishes q bytes) is)
 
 -- what holds of each waiter that is there holds of the one that is found by its number
 pub standing-holds : (P : WaiterStanding → Type 0) (v : ℕ) (service : Service) (history : List Action) → AllByRecursion P (standing_in history) → service_of v history ≡ Some service → (s : WaiterStanding) × P s × (s.number ≡ v) × (s.service ≡ service)

@@ -340,29 +340,29 @@ pub record Serves (v : ℕ) (p : Position) : Type 0 where
 
 -- a waiter is finished: its answer was acknowledged, or isn't retransmitted any more, or was sent
 -- in a message that isn't Confirmable
-abbrev pub closes_unused : Outcome → List ℕ → Bool
-closes_unused Ignored bytes = false
-closes_unused Rejected bytes = false
-closes_unused Again bytes = false
-closes_unused NoRecordRoom bytes = false
-closes_unused (Refused code) bytes = false
-closes_unused Hit bytes = false
-closes_unused Joined bytes = false
-closes_unused Opened bytes = false
-closes_unused Overloaded bytes = false
-closes_unused NoId bytes = false
-closes_unused (Answered storing) bytes = false
-closes_unused Acked bytes = true
-closes_unused SentRequest bytes = false
-closes_unused Resent bytes = false
-closes_unused GaveUp bytes = true
-closes_unused Delivered bytes = not (is_con_datagram bytes)
-closes_unused Idle bytes = false
+abbrev pub finishes : Outcome → List ℕ → Bool
+finishes Ignored bytes = false
+finishes Rejected bytes = false
+finishes Again bytes = false
+finishes NoRecordRoom bytes = false
+finishes (Refused code) bytes = false
+finishes Hit bytes = false
+finishes Joined bytes = false
+finishes Opened bytes = false
+finishes Overloaded bytes = false
+finishes NoId bytes = false
+finishes (Answered storing) bytes = false
+finishes Acked bytes = true
+finishes SentRequest bytes = false
+finishes Resent bytes = false
+finishes GaveUp bytes = true
+finishes Delivered bytes = not (is_con_datagram bytes)
+finishes Idle bytes = false
 
 -- the waiter was finished there
-pub record LetsGo (v : ℕ) (p : Position) : Type 0 where
+pub record Finishes (v : ℕ) (p : Position) : Type 0 where
   pub act : p.action.act ≡ serves v
-  pub outcome : closes_unused p.action.observation.report.outcome p.action.observation.bytes ≡ true
+  pub outcome : finishes p.action.observation.report.outcome p.action.observation.bytes ≡ true
 
 -- ---- moments and ids
 

@@ -8,7 +8,7 @@ ghost use Rattle.coap_model.specs.declared.report.Storing.TheVariants.{Kept, Too
 ghost use Rattle.coap_model.specs.Verdicts.{may_ask};
 ghost use Rattle.coap_model.specs.Events.{tick, arrival, IsEvent};
 ghost use Rattle.coap_model.specs.State.{client_counts, counts, State};
-ghost use Rattle.coap_model.specs.History.{Act, serves, accepts_answer, opened_in, Action, Position, IsPositionOf, Somewhere, Sends, Ends, Serves, LetsGo, Never, last_of, IsInOrder, IsRequestOf, Observation, gives_id, ids_in, Gives};
+ghost use Rattle.coap_model.specs.History.{Act, serves, accepts_answer, opened_in, Action, Position, IsPositionOf, Somewhere, Sends, Ends, Serves, Finishes, Never, last_of, IsInOrder, IsRequestOf, Observation, gives_id, ids_in, Gives};
 ghost use Rattle.coap_forward.specs.Messages.{kept_reply, brings_requests};
 ghost use Rattle.coap_model.specs.Justified.{HaveOneMemory, Comes, known_of, HasRecordRoom, Acknowledges, Closes, IsNew, IsUnprocessable, verdict_on, fits_on, IsMiss, IsJoinable, IsUnanswered, IsAwaited, IsActing, JustifiedBy, AllJustified, IsOwed, MayFollow, AreOfOneTurn, IsGet, IsUsable, HasIdFor, IsObtainedHere, size_here};
 ghost use Rattle.coap_model.specs.Runs.{answer_at};
@@ -202,7 +202,7 @@ pub fn nothing_is_done_twice()
         → AllJustified setting history
         → IsPositionOf history position
         → position.action.act ≡ serves waiter
-        → Never (LetsGo waiter) position.before }
+        → Never (Finishes waiter) position.before }
 {}
 
 /// What is owed is done, if an observation is justified by the actions before it: a duplicate of a

@@ -17,7 +17,7 @@ ghost use Rattle.coap_model.specs.ForgedHits.{reply};
 ghost use Rattle.coap_model.specs.FormExamples.{after};
 ghost use Rattle.coap_model.specs.HitExamples as hits;
 ghost use Rattle.coap_model.specs.Held.{bytes_held};
-ghost use Rattle.coap_model.specs.History.{IsPositionOf, LetsGo};
+ghost use Rattle.coap_model.specs.History.{IsPositionOf, Finishes};
 ghost use Rattle.coap_model.specs.OptionExamples.{key_of_temp};
 ghost use Rattle.coap_model.specs.Schedules.{AreSpaced, IsSchedule, MayGoOn};
 ghost use Rattle.coap_model.specs.Word.{IsFromCache, IsRepliedAgain, IsWithin, KeepsItsWord};
@@ -122,11 +122,11 @@ pub fn one_id_twice_is_refused()
 /// A client is finished when its answer is acknowledged or given up, and when it is sent in a
 /// Non-confirmable message; not when it is sent in a Confirmable one, nor when that is sent again.
 pub fn examples_of_finished_clients()
-    ensures acknowledged { LetsGo 1 (at [] (words.done_with Acked)) }
-    ensures given_up { LetsGo 1 (at [] (words.done_with GaveUp)) }
-    ensures served { LetsGo 1 (at past right) }
-    ensures not_yet { ¬ LetsGo 1 (at past_con in_con) }
-    ensures sent_again { ¬ LetsGo 1 (at [] (words.done_with Resent)) }
+    ensures acknowledged { Finishes 1 (at [] (words.done_with Acked)) }
+    ensures given_up { Finishes 1 (at [] (words.done_with GaveUp)) }
+    ensures served { Finishes 1 (at past right) }
+    ensures not_yet { ¬ Finishes 1 (at past_con in_con) }
+    ensures sent_again { ¬ Finishes 1 (at [] (words.done_with Resent)) }
 {}
 
 /// The bytes that a proxy holds, where each part is: a form, a key, a token and a tag of a request;
