@@ -70,7 +70,8 @@ confirmable_step w now grown source m =
     on_unknown w now grown source m (known_of w now source m)
 
 abbrev pub new_confirmable_step : State → ℕ → Bool → Endpoint → Message → Step
-new_confirmable_step w now grown source m = on_new_confirmable w now grown source m (awaiting w source m)
+new_confirmable_step w now grown source m =
+    on_new_confirmable w now grown source m (awaiting w source m)
 
 -- what a store does with an entry, and the tables then
 abbrev pub IsPut : State → Entry → Storing → State → Type 0

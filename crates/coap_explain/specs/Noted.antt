@@ -98,7 +98,8 @@ due_of w = due_in w (due_exchange w)
 
 -- ---- what came for an exchange, and why its clients get 5.02 if they do
 
-abbrev pub response_cause_sent : Endpoint → Message → Exchange → Option Sending → Option ResponseCause
+abbrev pub response_cause_sent :
+    Endpoint → Message → Exchange → Option Sending → Option ResponseCause
 response_cause_sent from m x None = None
 response_cause_sent from m x (Some s) =
     Some (record { origin = from; id = s.id; cause = gateway_of m (Some x) })
@@ -115,7 +116,8 @@ response_cause_with w from m =
     if is_reset m.kind then Some (record { origin = from; id = m.id; cause = Reset })
     else (if is_response m.code then response_cause_awaited from m (awaited w from m) else None)
 
-abbrev pub response_cause_read : State → Endpoint → Result Message DecodeError → Option ResponseCause
+abbrev pub response_cause_read :
+    State → Endpoint → Result Message DecodeError → Option ResponseCause
 response_cause_read w from (Ok m) = response_cause_with w from m
 response_cause_read w from (Err e) = None
 

@@ -68,7 +68,8 @@ meets gap (Some span) = nat_le (floor_of gap) span.greatest && nat_le span.least
 -- what a form's survey says of the options that are forwarded is right
 abbrev pub KnowsOthers : Form → Type 0
 KnowsOthers form =
-    form.survey.others ≡ span_of (filter (is_forwarded form.request.now.code) form.request.now.options)
+    form.survey.others
+    ≡ span_of (filter (is_forwarded form.request.now.code) form.request.now.options)
 
 -- what is written for a gap, and for the part after it
 abbrev pub part_of : Message → Gap → List (List ℕ) → List Opt

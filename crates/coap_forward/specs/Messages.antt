@@ -94,7 +94,8 @@ own_reply code options id token =
 
 -- 5.03, with the seconds after which to try again (RFC 7252, 5.9.3.4)
 abbrev pub overload_reply : ℕ → ℕ → List ℕ → Message
-overload_reply seconds id token = own_reply SERVICE_UNAVAILABLE (max_age_option seconds ∷ []) id token
+overload_reply seconds id token =
+    own_reply SERVICE_UNAVAILABLE (max_age_option seconds ∷ []) id token
 
 -- ---- replies that are sent at once
 
