@@ -64,7 +64,7 @@ impl<S: Store + Drop> State<S> {
         done
     }
 
-    /// Handles a datagram: the message that it encodes, or what has only a head, or nothing.
+    /// Handles a datagram by its message, or else by its head: without one it is ignored.
     fn on_datagram(
         &mut self,
         now: Moment,
