@@ -20,7 +20,7 @@ use crate::known::put_acceptance;
 use crate::state::State;
 use coap_endpoint::{Endpoint, Target};
 use coap_exchange::{Answer, Exchange, ExchangeNumber};
-use coap_forward::{SentRequest, answer_of, created_by, is_change, is_storable, number_of};
+use coap_forward::{AnsweredRequest, answer_of, created_by, is_change, is_storable, number_of};
 use coap_message::{Datagram, Kind, MessageRef, Moment, OutOfMemory};
 use coap_model::{Outcome, Report, Storing};
 use coap_store::{Put, SharedKey, Store, Stored};
@@ -280,7 +280,7 @@ impl<S: Store + Drop> State<S> {
             answer ≡ answer_for self.now now response.now exchange.now) }
     {
         let most = self.setting.limits.values().datagram as usize;
-        let request = SentRequest {
+        let request = AnsweredRequest {
             is_get: exchange.is_get,
             copy: exchange.copy.as_ref(),
         };

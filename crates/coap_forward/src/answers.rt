@@ -169,7 +169,7 @@ fn validated(
 
 /// What the answer for a response depends on of the request that was forwarded.
 #[derive(Clone, Copy)]
-pub struct SentRequest<'c> {
+pub struct AnsweredRequest<'c> {
     /// Whether it is a GET.
     pub is_get: bool,
     /// The stored response whose tag it had (RFC 7252, 5.6.2).
@@ -188,7 +188,7 @@ pub struct SentRequest<'c> {
 pub fn answer_of(
     alloc: Global,
     most: usize,
-    request: SentRequest<'_>,
+    request: AnsweredRequest<'_>,
     now: Moment,
     response: &MessageRef<'_>,
 ) -> Result<Answer, OutOfMemory>

@@ -4,7 +4,7 @@ use crate::fixtures;
 use crate::fixtures::{CLIENT, ORIGIN};
 use coap_dedup::{EXCHANGE_LIFETIME, Records, Seen};
 use coap_exchange::{Exchanges, Opening, Sending, Timer};
-use coap_forward::{Form, SentRequest, answer_of, put_forwarded, token_of};
+use coap_forward::{AnsweredRequest, Form, answer_of, put_forwarded, token_of};
 use coap_message::{Code, Datagram, MessageRef, Seq};
 use coap_option::survey_request;
 use coap_pending::Ids;
@@ -108,7 +108,7 @@ fn coap_forward(rt: HostRuntime) -> Result<(), Fail> {
         b"\x48\x01\0\0\0\0\0\0\0\0\0\x01\xB4temp".as_slice()
     );
     // its response, received at `now`
-    let sent = SentRequest {
+    let sent = AnsweredRequest {
         is_get: true,
         copy: None,
     };
