@@ -319,7 +319,7 @@ impl Exchanges {
         requires numbers { self.old.admitted < 2 ^ 64 - 1 }
         requires state { listed.state ≡ Queued }
         requires sending { listed.sending ≡ None }
-        requires now { listed.admitted ≤ 2 ^ 62 }
+        requires now { listed.opened_at ≤ 2 ^ 62 }
         requires room { length self.old.items < self.old.limit }
         requires client_room { count (is_opened_by listed.client) self.old.items
             < self.old.per_client }
