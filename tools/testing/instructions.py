@@ -165,8 +165,13 @@ def each(program, client_records, lines, many):
     return (more - less) // many
 
 
+def most(kind, opened):
+    """How many instructions an event of a kind may take next to so many open exchanges."""
+    return int(MEASURED[kind, opened] * MORE)
+
+
 def measured(program):
-    """What the program takes for the events for which there are bars, two of them at a time."""
+    """What the program takes for the events for which there are limits, two of them at a time."""
     with ThreadPoolExecutor(2) as pool:
 
         def number(what):
@@ -182,6 +187,6 @@ def an_event_takes_no_more_instructions_than_it_may(program):
     if programs.is_emulated(program[-1]):
         raise Skipped("valgrind runs programs for this processor")
     for (kind, opened), number in measured(program[-1]).items():
-        most = int(MEASURED[kind, opened] * MORE)
-        if number > most:
-            raise Failed(f"instructions for {kind} next to {opened} open exchanges: at most {most}, got {number}")
+        if number > most(kind, opened):
+            wanted = f"at most {most(kind, opened)}, got {number}"
+            raise Failed(f"instructions for {kind} next to {opened} open exchanges: {wanted}")

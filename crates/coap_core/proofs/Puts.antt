@@ -30,11 +30,11 @@ use Rattle.coap_model.specs.Memory.{takes_memory}
 use Rattle.coap_model.specs.Answers.{Arrived, answer_for, entry_made, may_store, tainted_all, with_changed, keeps, keeps_if, stores, answers_so, answers_with, answers}
 use Rattle.coap_model.specs.State.{State, Step, later, silent, says, accepts, has_record_room, remembers, with_record}
 use Rattle.coap_model.specs.Empties.{on_exchange}
-use Rattle.coap_model.specs.Responses.{awaiting, on_not_confirmable, on_separate}
+use Rattle.coap_model.specs.Responses.{awaiting, on_not_confirmable, on_new_confirmable}
 use Rattle.coap_core.proofs.Awaiting.{awaited}
 use Rattle.coap_core.specs.Done.{Does, resets, wants_memory}
 use Rattle.coap_core.specs.Needs.{IsOpenAt}
-use Rattle.coap_core.specs.Storing.{IsKept, IsPut, answering, answering_at, not_confirmable_step, separate_step, if_storable, accepted, accepted_bytes, accepted_to}
+use Rattle.coap_core.specs.Storing.{IsKept, IsPut, answering, answering_at, not_confirmable_step, new_confirmable_step, if_storable, accepted, accepted_bytes, accepted_to}
 
 -- the choice of a test that is known
 pick-true : {A : Type 0} (b : Bool) (x y : A) → b ≡ true → cond b x y ≡ x
@@ -239,10 +239,10 @@ module _ (w : State) (now : ℕ) (grown : Bool) (source : Endpoint) (m : Message
       plain x p = subst P (pick-false (is_con m.kind) _ _ other) p
 
   -- so it holds of one that is new, where there is room to remember it
-  pub separate-does : is_con m.kind ≡ true → has_record_room w now source m.kind ≡ true → IfSome (answering_at w now grown source m number) P → P (separate_step w now grown source m)
-  separate-does con room each = awaited w source m number (λ o. P (on_separate w now grown source m o)) rising found (λ x at. kept x (rw at at each))
+  pub new_confirmable-does : is_con m.kind ≡ true → has_record_room w now source m.kind ≡ true → IfSome (answering_at w now grown source m number) P → P (new_confirmable_step w now grown source m)
+  new_confirmable-does con room each = awaited w source m number (λ o. P (on_new_confirmable w now grown source m o)) rising found (λ x at. kept x (rw at at each))
     where
-      kept : (x : Exchange) → P (answering w now grown source m (number, x)) → P (on_separate w now grown source m (Some (number, x)))
+      kept : (x : Exchange) → P (answering w now grown source m (number, x)) → P (on_new_confirmable w now grown source m (Some (number, x)))
       kept x p = subst P (pick-true (is_con m.kind) _ _ con ∙ sym (pick-true (has_record_room w now source m.kind) _ _ room)) p
 
 -- ---- memory

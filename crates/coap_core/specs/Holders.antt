@@ -86,7 +86,9 @@ full_for client w =
     then (if has_waiter_room w client then None else Some Waiters)
     else Some Exchanges
 
--- the table for want of which a datagram had this outcome
+-- The table that is told to be full after a datagram with this outcome. After a 5.03 it is the
+-- first full one of those that opening an exchange needs: a GET that could have joined an exchange
+-- may have lacked the other.
 abbrev pub lacking_for : Endpoint → List ℕ → State → Outcome → Option SharedTable
 lacking_for client bytes w NoRecordRoom = records_for (head_at bytes)
 lacking_for client bytes w Overloaded = full_for client w
@@ -102,7 +104,7 @@ is_turned_away NoRecordRoom = true
 is_turned_away Overloaded = true
 is_turned_away _ = false
 
--- the table for want of which a message was turned away in a turn
+-- the table that is told to be full after a message was turned away in a turn
 abbrev pub lacking_in : Event → State → Option Report → Option SharedTable
 lacking_in event w None = None
 lacking_in event w (Some report) = lacking_at event w report.outcome

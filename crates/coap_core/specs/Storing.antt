@@ -12,7 +12,7 @@ use Rattle.coap_model.specs.declared.report.Storing.TheVariants.{Kept, TooLarge,
 use Rattle.coap_limits.specs.Limits.{Limits}
 use Rattle.coap_forward.specs.Messages.{is_con, acknowledgement}
 use Rattle.coap_model.specs.Answers.{entry_made, may_store, answers}
-use Rattle.coap_model.specs.Responses.{awaiting, on_not_confirmable, on_separate, on_unknown}
+use Rattle.coap_model.specs.Responses.{awaiting, on_not_confirmable, on_new_confirmable, on_unknown}
 use Rattle.coap_model.specs.State.{State, Step, known_of, remembers, with_record}
 use Rattle.coap_message.specs.Spelling.{spelling}
 use Rattle.coap_endpoint.specs.declared.endpoint.Endpoint.{Endpoint}
@@ -69,8 +69,9 @@ abbrev pub confirmable_step : State → ℕ → Bool → Endpoint → Message �
 confirmable_step w now grown source m =
     on_unknown w now grown source m (known_of w now source m)
 
-abbrev pub separate_step : State → ℕ → Bool → Endpoint → Message → Step
-separate_step w now grown source m = on_separate w now grown source m (awaiting w source m)
+abbrev pub new_confirmable_step : State → ℕ → Bool → Endpoint → Message → Step
+new_confirmable_step w now grown source m =
+    on_new_confirmable w now grown source m (awaiting w source m)
 
 -- what a store does with an entry, and the tables then
 abbrev pub IsPut : State → Entry → Storing → State → Type 0

@@ -19,6 +19,7 @@ use coap_model::{Outcome, Report, Storing};
 use coap_store::Store;
 
 impl<S: Store + Drop> State<S> {
+    /// Handles an Empty acknowledgement or Reset: of a request that was sent, or else of an answer.
     pub(crate) fn on_empty(&mut self, arrival: Arrival<'_, '_>, out: &mut Datagram) -> Report
         requires can { CanGoOn self.old }
         requires bare { is_bare arrival.message.now ≡ true }
@@ -74,8 +75,8 @@ impl<S: Store + Drop> State<S> {
         silent(Outcome::Acked)
     }
 
-    /// Answers the exchange numbered `number`, whose request was rejected, with the proxy's own
-    /// answer (RFC 7252, 4.2 and 5.9.3.3). Doesn't allocate.
+    /// Answers the exchange numbered `number`, whose request was rejected, with 5.02 (RFC 7252, 4.2
+    /// and 5.9.3.3). Doesn't allocate.
     fn reset(&mut self, now: Moment, number: ExchangeNumber, out: &mut Datagram) -> Report
         requires can { CanGoOn self.old }
         requires sent { IsSentAt number self.old.exchanges }

@@ -166,8 +166,8 @@ impl Holders {
         }
     }
 
-    /// Looks for the address that has more than any other of the table for want of which an event
-    /// had this outcome: no room for a record, or 5.03.
+    /// Looks for the address that has more than any other of the table that is told to be full
+    /// after an event with this outcome: no room for a record, or 5.03.
     #[inline(never)]
     fn look_closely<S: Store + Drop>(
         &mut self,
@@ -332,7 +332,9 @@ fn may_be_full(outcome: Outcome) -> bool
     }
 }
 
-/// The table for want of which an event had this outcome.
+/// The table that is told to be full after an event with this outcome: for a record, its table;
+/// after a 5.03, the first full one of those that opening an exchange needs. A GET that could have
+/// joined an exchange may have lacked the other.
 fn lacking_at<S: Store + Drop>(
     event: Event<'_>,
     outcome: Outcome,

@@ -186,7 +186,8 @@ impl<S: Store + Drop> State<S> {
         }
     }
 
-    /// Sends what `out` holds at once in reply to a new request, and remembers the request.
+    /// Reports that what `out` holds is sent at once in reply to a new request, and remembers the
+    /// request.
     pub(crate) fn reply(
         &mut self,
         arrival: Arrival<'_, '_>,

@@ -23,7 +23,7 @@ use coap_forward::{Form, put_forwarded, put_with_max_age, token_of, validating_t
 use coap_message::{Code, Datagram, Full, MessageRef, OutOfMemory, Pieces, Seq, Token};
 use coap_model::{Outcome, Report};
 use coap_store::{SharedKey, Store, Stored};
-use endpoint_counts::Peer;
+use endpoint_counts::DigestedEndpoint;
 
 /// What is stored for the key of a request that isn't answered from the store.
 #[derive(Clone, Copy)]
@@ -37,7 +37,7 @@ pub(crate) enum Miss {
 /// What an exchange is opened with, in addition to its request.
 #[derive(Drop)]
 pub(crate) struct NewExchange<'k> {
-    client: Peer,
+    client: DigestedEndpoint,
     key: &'k SharedKey,
     /// The tags of the responses that the client already holds.
     tags: Pieces,
@@ -105,7 +105,7 @@ impl<S: Store + Drop> State<S> {
             (of_arrival (joinable_step self.old) arrival.entry exchange)
             result out.old out.new self.old self.new }
     {
-        let client = Peer::new(arrival.from);
+        let client = DigestedEndpoint::new(arrival.from);
         if !self.has_room_to_join(arrival.now, client) {
             return self.overload(arrival, out);
         }
@@ -113,9 +113,9 @@ impl<S: Store + Drop> State<S> {
         self.join(arrival, client, exchange, tags, out)
     }
 
-    /// Opens an exchange for a key, if the forwarded request isn't too long, and then if there is
-    /// room. What the request asks for is only copied when an exchange is opened, with no spare
-    /// capacity.
+    /// Opens an exchange for a key. Replies 4.13 if the forwarded request is too long for a
+    /// datagram, and otherwise 5.03 if there is no room. The key and the tags are copied, without
+    /// spare capacity, only once both tests have passed.
     pub(crate) fn on_exchange_needed(
         &mut self,
         arrival: Arrival<'_, '_>,
@@ -134,7 +134,7 @@ impl<S: Store + Drop> State<S> {
             let code = Code::REQUEST_ENTITY_TOO_LARGE;
             return self.refuse(arrival, code, out);
         }
-        let client = Peer::new(arrival.from);
+        let client = DigestedEndpoint::new(arrival.from);
         if !self.has_room_to_open(arrival.now, client) {
             return self.overload(arrival, out);
         }
@@ -236,8 +236,9 @@ impl<S: Store + Drop> State<S> {
         put_forwarded(&token, form, out, room)
     }
 
-    /// Replies 5.03, because a table is full, the client has its share of it, or Message IDs are
-    /// short. The Max-Age of the reply says in how many seconds to try again (RFC 7252, 5.9.3.4).
+    /// Replies 5.03, because a table is full, the client has its share of it, or too few Message
+    /// IDs are free. The Max-Age of the reply says in how many seconds to try again (RFC 7252,
+    /// 5.9.3.4).
     fn overload(
         &mut self,
         arrival: Arrival<'_, '_>,
@@ -276,7 +277,8 @@ impl<S: Store + Drop> State<S> {
         Ok(Report { send, outcome })
     }
 
-    /// Opens an exchange, and has the client wait for it. `out` holds the forwarded request.
+    /// Opens an exchange, and has the client wait for it. `out` holds the forwarded request. If
+    /// memory runs out, what was put into the tables is taken back.
     fn open(
         &mut self,
         arrival: Arrival<'_, '_>,
@@ -319,9 +321,9 @@ impl<S: Store + Drop> State<S> {
         };
         let number = self.under_way.open(opening)?;
         let joining = joining_of(arrival, tags, number);
-        if let Err(refused) = self.under_way.join(joining, client) {
+        if let Err(error) = self.under_way.join(joining, client) {
             self.under_way.withdraw_exchange();
-            return Err(refused);
+            return Err(error);
         }
         let done = self.accept_request(arrival, Outcome::Opened, out);
         if done.is_err() {
@@ -335,7 +337,7 @@ impl<S: Store + Drop> State<S> {
     fn join(
         &mut self,
         arrival: Arrival<'_, '_>,
-        client: Peer,
+        client: DigestedEndpoint,
         exchange: ExchangeNumber,
         tags: Pieces,
         out: &mut Datagram,

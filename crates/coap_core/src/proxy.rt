@@ -115,8 +115,9 @@ impl<S: Store + Drop> Core<S> {
     ///
     /// # Errors
     /// Out of memory, in which case nothing changes except that `out` is emptied. That can only
-    /// happen when a new request is remembered, when an answer that came is kept, or when an answer
-    /// is sent to a client in a Confirmable message, which is kept until it is acknowledged. A tick
+    /// happen when a new request is remembered, when a response becomes the answer of its exchange
+    /// (but it isn't an error if the cache has no memory for one more entry), or when an answer is
+    /// sent to a client in a Confirmable message, which is kept until it is acknowledged. A tick
     /// that ran out of memory can be retried: what was due is still due.
     pub fn step(
         &mut self,
@@ -132,7 +133,8 @@ impl<S: Store + Drop> Core<S> {
         requires events { self.old.events < 2 ^ 63 }
 
         // The report, the datagram and the core after the step are determined, and the datagram
-        // isn't too long.
+        // isn't too long. `grown_of` is what the report alone says: whether there was memory for
+        // one more entry of the store.
         ensures exact { IfOk result (λ report.
             Does (step_of self.old now draw (grown_of report.outcome) (seen event.entry)) report
             out.old out.new self.new) }
@@ -157,8 +159,8 @@ impl<S: Store + Drop> Core<S> {
             self.new) }
 
         // One client leaves room for the others: below its own limits a client is turned away only
-        // if a shared limit is reached or Message IDs are short, and if few enough endpoints have
-        // sent anything, only if Message IDs are short.
+        // if a shared limit is reached or too few Message IDs are free, and if few enough endpoints
+        // have sent anything, only if too few Message IDs are free.
         ensures shares { IfOk result (λ report.
             LeavesRoomOn self.old
             (observation_told now draw (seen event.entry) report out.new.bytes)
@@ -173,9 +175,10 @@ impl<S: Store + Drop> Core<S> {
         ensures err { OnErr result (self.new ≡ self.old) }
         ensures none { OnErr result (out.new ≡ holding out.old []) }
 
-        // It can only run out of memory when a new request is remembered, or an answer is kept:
-        // nothing else allocates. So a tick only allocates to send a client its answer in a
-        // Confirmable message, and neither a duplicate nor a datagram without a message allocates.
+        // It can only run out of memory when a new request is remembered, a response becomes the
+        // answer of its exchange, or a client is sent an answer that is kept until it is
+        // acknowledged. So a tick only allocates to send a client its answer in a Confirmable
+        // message, and neither a duplicate nor a datagram without a message allocates.
         ensures memory { OnErr result
             (wants_memory (step_of self.old now draw true (seen event.entry)) ≡ true) }
         ensures ticks { seen event.entry ≡ tick

@@ -86,7 +86,7 @@ impl Drop for CacheQuery {
     }
 }
 
-/// The greatest length of a host, in bytes (RFC 7252, 5.10.1).
+/// The greatest length of a host, in bytes (RFC 7252, 5.10).
 const LONGEST_HOST: usize = 255;
 
 /// A key with this host, and with room for what any request of at most `datagram` bytes asks for,

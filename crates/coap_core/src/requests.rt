@@ -94,6 +94,9 @@ impl<S: Store + Drop> State<S> {
             (of_arrival (on_new self.old) arrival.entry)
             result out.old out.new self.old self.new }
     {
+        // The model tests this in each case. It may stand first: without a free Message ID nothing
+        // is replied to a Non-confirmable request, and nothing is joined or opened for it, which
+        // takes one more.
         if !self.can_reply(arrival.now, arrival.message.kind()) {
             return self.lack_id(arrival, out);
         }

@@ -1,5 +1,5 @@
 //! The step of a response: piggybacked in an acknowledgement, or separate in a message of its own
-//! (RFC 7252, 5.2.1, 5.2.2 and 5.3.2).
+//! (RFC 7252, 5.2.1 to 5.2.3 and 5.3.2).
 ghost use Rattle.std.specs.Prelude.{◌≡◌, ◌≤◌, ◌&&◌, [], ◌∷◌, true, false, length, option_map, IfOk, IfSome, OnOk, OnErr};
 ghost use Rattle.coap_message.specs.Datagram.{holding};
 ghost use Rattle.coap_endpoint.specs.Endpoint.{same_endpoint};
@@ -10,7 +10,7 @@ ghost use Rattle.coap_pending.specs.Exchanges.{is_in_flight};
 ghost use Rattle.coap_model.specs.Responses.{has_id, awaiting, on_response};
 ghost use Rattle.coap_model.specs.History.{grown_of};
 ghost use Rattle.coap_core.specs.Arrivals.{of_arrival, of_grown};
-ghost use Rattle.coap_core.specs.Storing.{IsKept, answering_at, not_confirmable_step, confirmable_step, separate_step, if_storable, targets_in, accepted, accepted_bytes, accepted_to};
+ghost use Rattle.coap_core.specs.Storing.{IsKept, answering_at, not_confirmable_step, confirmable_step, new_confirmable_step, if_storable, targets_in, accepted, accepted_bytes, accepted_to};
 ghost use Rattle.coap_core.specs.Done.{Does, IsDoneBy, wants_memory};
 ghost use Rattle.coap_core.specs.Needs.{CanDo, CanGoOn, CanRemember, IsNew, IsOpenAt};
 
@@ -20,7 +20,7 @@ use crate::known::put_acceptance;
 use crate::state::State;
 use coap_endpoint::{Endpoint, Target};
 use coap_exchange::{Answer, Exchange, ExchangeNumber};
-use coap_forward::{SentRequest, answer_of, created_by, is_change, is_storable, number_of};
+use coap_forward::{AnsweredRequest, answer_of, created_by, is_change, is_storable, number_of};
 use coap_message::{Datagram, Kind, MessageRef, Moment, OutOfMemory};
 use coap_model::{Outcome, Report, Storing};
 use coap_store::{Put, SharedKey, Store, Stored};
@@ -92,6 +92,7 @@ fn changed_by(
 }
 
 impl<S: Store + Drop> State<S> {
+    /// Handles a response, by whether it is Confirmable.
     pub(crate) fn on_response(
         &mut self,
         arrival: Arrival<'_, '_>,
@@ -148,12 +149,12 @@ impl<S: Store + Drop> State<S> {
             self.advance(arrival.now);
             return Ok(report);
         }
-        self.on_separate(arrival, out)
+        self.on_new_confirmable(arrival, out)
     }
 
     /// Handles a new Confirmable response. It is remembered if an exchange awaits it, and so there
     /// has to be room for that.
-    fn on_separate(
+    fn on_new_confirmable(
         &mut self,
         arrival: Arrival<'_, '_>,
         out: &mut Datagram,
@@ -163,12 +164,12 @@ impl<S: Store + Drop> State<S> {
         requires new { IsNew arrival.now arrival.from arrival.message.now self.old }
         requires room { self.old.setting.limits.datagram ≤ out.old.room }
         requires fits { length
-            (of_grown (separate_step self.old) arrival true).bytes
+            (of_grown (new_confirmable_step self.old) arrival true).bytes
             ≤ out.old.room }
-        ensures done { IsDoneBy (of_grown (separate_step self.old) arrival.entry)
+        ensures done { IsDoneBy (of_grown (new_confirmable_step self.old) arrival.entry)
             result out.old out.new self.old self.new }
         ensures memory { OnErr result
-            (wants_memory (of_grown (separate_step self.old) arrival.entry true) ≡ true) }
+            (wants_memory (of_grown (new_confirmable_step self.old) arrival.entry true) ≡ true) }
     {
         let Some(number) = self.awaiting(arrival.from, arrival.message) else {
             return Ok(self.reject(arrival.now, arrival.from, arrival.message.id(), out));
@@ -226,8 +227,8 @@ impl<S: Store + Drop> State<S> {
         let entry = self.entry_made(arrival.now, exchange, &answer)?;
         let changed = changed_by(self.alloc, &exchange.key.key().target, arrival.message)?;
         let send = self.accept_response(arrival, out)?;
-        self.change_all(&changed);
-        let storing = self.keep(entry);
+        self.invalidate_all(&changed);
+        let storing = self.store_entry(entry);
         self.under_way.answered(number, answer);
         self.advance(arrival.now);
         Ok(Report {
@@ -279,7 +280,7 @@ impl<S: Store + Drop> State<S> {
             answer ≡ answer_for self.now now response.now exchange.now) }
     {
         let most = self.setting.limits.values().datagram as usize;
-        let request = SentRequest {
+        let request = AnsweredRequest {
             is_get: exchange.is_get,
             copy: exchange.copy.as_ref(),
         };
@@ -302,8 +303,8 @@ impl<S: Store + Drop> State<S> {
         let key = exchange.key.share()?;
         let stored = Stored {
             response: copy_of_message(&answer.message)?,
-            asked: exchange.asked(),
-            got_no: self.events,
+            asked_event: exchange.asked_event(),
+            got_event: self.events,
             got: now,
             marked: false,
         };
@@ -311,21 +312,21 @@ impl<S: Store + Drop> State<S> {
     }
 
     /// Invalidates what a response changes.
-    fn change_all(&mut self, changed: &Option<Changed>)
+    fn invalidate_all(&mut self, changed: &Option<Changed>)
         ensures { self.new ≡ with_changed (targets_in changed.now) self.old }
     {
         let Some(changed) = changed else {
             return;
         };
-        self.change(&changed.target);
+        self.invalidate(&changed.target);
         if let Some(created) = &changed.created {
-            self.change(created);
+            self.invalidate(created);
         }
     }
 
-    /// Marks what is stored for a target, and taints the exchanges for it whose request was sent
-    /// (RFC 7252, 5.9.1).
-    fn change(&mut self, target: &Target)
+    /// Marks as not fresh what is stored for a target, and taints the exchanges for it whose request
+    /// was sent (RFC 7252, 5.9.1).
+    fn invalidate(&mut self, target: &Target)
         ensures { self.new ≡ with_changed (target.now ∷ []) self.old }
     {
         self.store.mark(target);
@@ -333,7 +334,7 @@ impl<S: Store + Drop> State<S> {
     }
 
     /// Stores an entry in place of the one with its key, if there is an entry to store.
-    fn keep(&mut self, entry: Option<(SharedKey, Stored)>) -> Storing
+    fn store_entry(&mut self, entry: Option<(SharedKey, Stored)>) -> Storing
         ensures { IsKept self.old entry result self.new }
     {
         let Some((key, stored)) = entry else {

@@ -14,7 +14,7 @@ use coap_exchange::{Exchanges, Ids, UnderWay, Waiters};
 use coap_message::{Moment, OutOfMemory};
 use coap_model::{ClientCounts, Counts, Limits, Outcome, Report};
 use coap_store::Store;
-use endpoint_counts::Peer;
+use endpoint_counts::DigestedEndpoint;
 use std::alloc::Global;
 use std::marker::Model;
 
@@ -156,7 +156,7 @@ impl<S: Store + Drop> State<S> {
     }
 
     /// Whether there is room for one more exchange that this client opens.
-    fn has_exchange_room(&self, client: Peer) -> bool
+    fn has_exchange_room(&self, client: DigestedEndpoint) -> bool
         ensures { result ≡ has_exchange_room self.now client }
     {
         (self.under_way.exchanges().len() as u64) < self.setting.limits.values().exchanges
@@ -165,7 +165,7 @@ impl<S: Store + Drop> State<S> {
     }
 
     /// Whether there is room for one more request of this client to wait.
-    fn has_waiter_room(&self, client: Peer) -> bool
+    fn has_waiter_room(&self, client: DigestedEndpoint) -> bool
         ensures { result ≡ has_waiter_room self.now client }
     {
         (self.under_way.waiters().len() as u64) < self.setting.limits.values().waiters
@@ -174,7 +174,7 @@ impl<S: Store + Drop> State<S> {
     }
 
     /// Whether there is room for one more waiter, of this client, for an exchange in progress.
-    pub(crate) fn has_room_to_join(&self, now: Moment, client: Peer) -> bool
+    pub(crate) fn has_room_to_join(&self, now: Moment, client: DigestedEndpoint) -> bool
         requires ready { CanStep now self.now }
         ensures { result ≡ has_room_to_join self.now now client }
     {
@@ -183,7 +183,7 @@ impl<S: Store + Drop> State<S> {
 
     /// Whether there is room for one more exchange, and for a waiter of this client, which opens
     /// it.
-    pub(crate) fn has_room_to_open(&self, now: Moment, client: Peer) -> bool
+    pub(crate) fn has_room_to_open(&self, now: Moment, client: DigestedEndpoint) -> bool
         requires ready { CanStep now self.now }
         ensures { result ≡ has_room_to_open self.now now client }
     {

@@ -64,6 +64,7 @@ impl<S: Store + Drop> State<S> {
         done
     }
 
+    /// Handles a datagram by its message, or else by its head: without one it is ignored.
     fn on_datagram(
         &mut self,
         now: Moment,

@@ -37,7 +37,7 @@ pub(crate) fn moment_of(due: Option<DueItem>) -> Option<Moment>
 /// An exchange or a waiter that was found due: its number, and the endpoint that is sent its
 /// request, or its answer.
 #[derive(Clone, Copy)]
-pub(crate) struct Due {
+pub(crate) struct Addressed {
     number: u64,
     to: Endpoint,
 }
@@ -46,7 +46,7 @@ pub(crate) struct Due {
 /// this type.
 #[derive(Clone, Copy)]
 pub(crate) struct Delivery {
-    waiter: Due,
+    waiter: Addressed,
     kind: Kind,
     exchange: ExchangeNumber,
 }
@@ -128,7 +128,7 @@ impl<S: Store + Drop> State<S> {
             return self.give_up(timing.now, number, out);
         }
         let to = exchange.key.key().target.at;
-        let due = Due { number, to };
+        let due = Addressed { number, to };
         match &exchange.state {
             ExchangeState::Queued => self.send(timing, due, out),
             ExchangeState::Sent => self.on_request_timeout(timing.now, due, out),
@@ -141,20 +141,24 @@ impl<S: Store + Drop> State<S> {
         ensures { result
             ≡ nat_le (deadline self.now.setting.limits.exchange_ms exchange.now) now }
     {
-        now.saturating_sub(exchange.admitted) >= self.setting.limits.values().exchange_ms
+        now.saturating_sub(exchange.opened_at) >= self.setting.limits.values().exchange_ms
     }
 
     /// Sends the request of an exchange to its origin, with a new Message ID. It is to be sent
     /// again until it is acknowledged or answered (RFC 7252, 4.2).
-    fn send(&mut self, timing: Timing, due: Due, out: &mut Datagram) -> Report
+    fn send(&mut self, timing: Timing, due: Addressed, out: &mut Datagram) -> Report
         requires queued { IsFound (λ x. (is_queued x ≡ true) × (due.to ≡ x.key.target.at))
             due.number self.old.exchanges }
         requires can { CanDo (sending_at self.old timing due.number) timing.now self.old out.old }
         ensures { Does (sending_at self.old timing due.number) result out.old out.new self.new }
     {
-        let (asked, timer) = (self.events, Timer::start(timing.now, timing.draw));
+        let (asked_event, timer) = (self.events, Timer::start(timing.now, timing.draw));
         let id = self.take_id(timing.now);
-        let sending = Sending { asked, id, timer };
+        let sending = Sending {
+            asked_event,
+            id,
+            timer,
+        };
         self.under_way.send(due.number, sending);
         self.put_form(due.number, out);
         self.advance(timing.now);
@@ -166,7 +170,7 @@ impl<S: Store + Drop> State<S> {
 
     /// Handles the end of the current timeout of an exchange: its request is retransmitted, with
     /// the same bytes, or abandoned (RFC 7252, 4.2).
-    fn on_request_timeout(&mut self, now: Moment, due: Due, out: &mut Datagram) -> Report
+    fn on_request_timeout(&mut self, now: Moment, due: Addressed, out: &mut Datagram) -> Report
         requires ended { IsFound (λ x. IsDue now x × (due.to ≡ x.key.target.at)) due.number
             self.old.exchanges }
         requires can { CanDo (request_timeout_at self.old now due.number) now self.old out.old }
@@ -199,8 +203,8 @@ impl<S: Store + Drop> State<S> {
         out.put(exchange.form.as_slice());
     }
 
-    /// Answers the exchange numbered `number` with the proxy's own answer, because none came in
-    /// time (RFC 7252, 5.7.1).
+    /// Answers the exchange numbered `number` with 5.04, because no answer came in time (RFC 7252,
+    /// 5.7.1 and 5.9.3.5).
     fn give_up(&mut self, now: Moment, number: ExchangeNumber, out: &mut Datagram) -> Report
         requires events { self.old.events < 2 ^ 63 }
         requires open { IfSome (item_at number self.old.exchanges) (λ x. is_done x ≡ false) }
@@ -232,7 +236,7 @@ impl<S: Store + Drop> State<S> {
         let Some(waiter) = self.under_way.waiter(number) else {
             unreachable!()
         };
-        let due = Due {
+        let due = Addressed {
             number,
             to: waiter.client,
         };
@@ -347,7 +351,7 @@ impl<S: Store + Drop> State<S> {
 
     /// Handles the end of the current timeout of a waiter that was sent its answer: the answer is
     /// retransmitted, with the same bytes, or abandoned (RFC 7252, 4.2).
-    fn on_delivery_timeout(&mut self, now: Moment, due: Due, out: &mut Datagram) -> Report
+    fn on_delivery_timeout(&mut self, now: Moment, due: Addressed, out: &mut Datagram) -> Report
         requires ended { IsFound (λ v. waiters.IsDue now v × (due.to ≡ v.client)) due.number
             self.old.waiters }
         requires can { CanDo (delivery_timeout_at self.old now due.number) now self.old out.old }

@@ -26,7 +26,7 @@ pub struct WatchedTurn<'a> {
     pub report: Option<Report>,
     /// The bytes that the report sends to an endpoint; none if it sends nothing.
     pub sent: &'a [u8],
-    /// Whether what was sent was taken; true as well if nothing was sent, and false for a lost
+    /// Whether the port took what was sent; true as well if nothing was sent, and false for a lost
     /// turn.
     pub went: bool,
 }

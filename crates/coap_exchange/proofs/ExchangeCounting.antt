@@ -4,9 +4,9 @@ use Rattle.coap_endpoint.specs.declared.endpoint.Endpoint.{Endpoint}
 use Rattle.coap_endpoint.specs.Endpoint.{same_endpoint}
 use Rattle.coap_endpoint.proofs.Equality.{Tells-endpoint}
 use Rattle.coap_pending.specs.declared.exchange.Exchange.{Exchange}
-use Rattle.coap_pending.specs.declared.exchange.Change.{Change}
-use Rattle.coap_pending.specs.declared.exchange.Change.TheVariants as change
-use Rattle.coap_pending.specs.Exchanges.{changed_by, is_queued, is_sent, is_sent_to, tainted_by, is_changed_with, is_queued_to, is_with, is_sent_after}
+use Rattle.coap_pending.specs.declared.exchange.Transition.{Transition}
+use Rattle.coap_pending.specs.declared.exchange.Transition.TheVariants as transition
+use Rattle.coap_pending.specs.Exchanges.{after_transition, is_queued, is_sent, is_sent_to, tainted_by, is_changed_with, is_queued_to, is_with, is_sent_after}
 use Rattle.coap_pending.specs.Table.{Numbered, Table, IsTable, item_at, without, all_changed, count, passes}
 use Rattle.coap_exchange.specs.Updates.{updated, Allows}
 use Rattle.coap_exchange.specs.Counted.{AreCounted}
@@ -132,31 +132,31 @@ pub at-sent-of : (x : Exchange) → (e : Endpoint) → one_if_at (is_sent x) x.k
 at-sent-of = at-sent
 
 -- what a change makes of whether it is sent
-pub sends-is : (ch : Change) (x : Exchange) → is_sent (changed_by ch x) ≡ is_sent_after ch (is_sent x)
-sends-is (change.Send s) x = refl
-sends-is (change.Fire now) x = refl
-sends-is change.Acknowledge x = refl
-sends-is (change.Answer a) x = refl
+pub sends-is : (ch : Transition) (x : Exchange) → is_sent (after_transition ch x) ≡ is_sent_after ch (is_sent x)
+sends-is (transition.Send s) x = refl
+sends-is (transition.Fire now) x = refl
+sends-is transition.Acknowledge x = refl
+sends-is (transition.Answer a) x = refl
 
 -- a change leaves the endpoint
-same-with : (ch : Change) (e : Endpoint) (x : Exchange) → is_with e (changed_by ch x) ≡ is_with e x
-same-with (change.Send s) e x = refl
-same-with (change.Fire now) e x = refl
-same-with change.Acknowledge e x = refl
-same-with (change.Answer a) e x = refl
+same-with : (ch : Transition) (e : Endpoint) (x : Exchange) → is_with e (after_transition ch x) ≡ is_with e x
+same-with (transition.Send s) e x = refl
+same-with (transition.Fire now) e x = refl
+same-with transition.Acknowledge e x = refl
+same-with (transition.Answer a) e x = refl
 
 -- what is counted after a change
-pub sent-after : (ch : Change) (e : Endpoint) (x : Exchange) → one_if_at (is_sent_after ch (is_sent x)) x.key.target.at e ≡ one_if (is_sent_to e (changed_by ch x))
+pub sent-after : (ch : Transition) (e : Endpoint) (x : Exchange) → one_if_at (is_sent_after ch (is_sent x)) x.key.target.at e ≡ one_if (is_sent_to e (after_transition ch x))
 sent-after ch e x =
     ap (λ (b : Bool). one_if (is_sent_after ch (is_sent x) && b)) (one-same x.key.target.at e)
     ∙ ap (λ (b : Bool). one_if (b && same_endpoint x.key.target.at e)) (sym (sends-is ch x))
-    ∙ ap (λ (b : Bool). one_if (is_sent (changed_by ch x) && b)) (sym (same-with ch e x))
+    ∙ ap (λ (b : Bool). one_if (is_sent (after_transition ch x) && b)) (sym (same-with ch e x))
 
 -- what is updated waits for its turn with no endpoint
-pub off-queue : (change : Option Change) (o : Option Exchange) (e : Endpoint) → Allows (λ c x. is_queued (changed_by c x) ≡ false) change o → passes (is_queued_to e) (updated changed_by change o) ≡ false
+pub off-queue : (change : Option Transition) (o : Option Exchange) (e : Endpoint) → Allows (λ c x. is_queued (after_transition c x) ≡ false) change o → passes (is_queued_to e) (updated after_transition change o) ≡ false
 off-queue None o e off = refl
 off-queue (Some c) None e off = refl
-off-queue (Some c) (Some x) e off = ap (λ (b : Bool). b && same_endpoint (changed_by c x).key.target.at e) off
+off-queue (Some c) (Some x) e off = ap (λ (b : Bool). b && same_endpoint (after_transition c x).key.target.at e) off
 
 -- a taint leaves the endpoint
 same-taint : (target : Target) (e : Endpoint) (x : Exchange) → is_with e (tainted_by target x) ≡ is_with e x
@@ -191,15 +191,15 @@ counted-tainted target xs endpoints are = record {
 }
 
 -- what is counted of the exchange that changes
-pub recounted : (n : ℕ) (ch : Change) (t : Table Exchange) (endpoints : Endpoints) (x : Exchange) (new : Endpoint → ℕ) → IsTable t → AreCounted t.items endpoints → item_at n t.items ≡ Some x
+pub recounted : (n : ℕ) (ch : Transition) (t : Table Exchange) (endpoints : Endpoints) (x : Exchange) (new : Endpoint → ℕ) → IsTable t → AreCounted t.items endpoints → item_at n t.items ≡ Some x
     → ((e : Endpoint) → new e ≡ (sent_in endpoints e - one_if_at (is_sent x) x.key.target.at e) + one_if_at (is_sent_after ch (is_sent x)) x.key.target.at e)
-    → (e : Endpoint) → new e + one_if (passes (is_sent_to e) (item_at n t.items)) ≡ sent_in endpoints e + one_if (passes (λ y. is_sent_to e (changed_by ch y)) (item_at n t.items))
+    → (e : Endpoint) → new e + one_if (passes (is_sent_to e) (item_at n t.items)) ≡ sent_in endpoints e + one_if (passes (λ y. is_sent_to e (after_transition ch y)) (item_at n t.items))
 recounted n ch t endpoints x new is are there moves e =
     let some = counted-some is_sent_to n t (sent_in endpoints) is are.sent e in
     let was = at-sent x e in
     let now = sent-after ch e x in
     let before : one_if (passes (is_sent_to e) (item_at n t.items)) ≡ one_if (is_sent_to e x) = ap (λ (o : Option Exchange). one_if (passes (is_sent_to e) o)) there in
-    let after : one_if (passes (λ y. is_sent_to e (changed_by ch y)) (item_at n t.items)) ≡ one_if (is_sent_to e (changed_by ch x)) = ap (λ (o : Option Exchange). one_if (passes (λ y. is_sent_to e (changed_by ch y)) o)) there in
+    let after : one_if (passes (λ y. is_sent_to e (after_transition ch y)) (item_at n t.items)) ≡ one_if (is_sent_to e (after_transition ch x)) = ap (λ (o : Option Exchange). one_if (passes (λ y. is_sent_to e (after_transition ch y)) o)) there in
     let step = moves e in
     omega (arith, some, was, now, before, after, step)
 

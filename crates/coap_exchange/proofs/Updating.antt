@@ -2,9 +2,9 @@
 use Rattle.std.proofs.Common.{◌≡◌, ℕ, ◌+◌, ◌-◌, ◌&&◌, ◌||◌, Bool, true, false, cond, eqb, List, Option, Some, None, refl, sym, ap, ◌∙◌, subst, arith}
 use Rattle.coap_endpoint.specs.declared.endpoint.Endpoint.{Endpoint}
 use Rattle.coap_pending.specs.declared.exchange.Exchange.{Exchange}
-use Rattle.coap_pending.specs.declared.exchange.Change.{Change}
+use Rattle.coap_pending.specs.declared.exchange.Transition.{Transition}
 use Rattle.endpoint_counts.specs.Clients.{AreOfClients, AreWithin, Clients, count_of, one_of}
-use Rattle.coap_pending.specs.Exchanges.{is_queued_to, is_with, changed_by, is_queued, is_sent_to, AreExchanges, CanChange, CanUpdate, is_sent, is_sent_after}
+use Rattle.coap_pending.specs.Exchanges.{is_queued_to, is_with, after_transition, is_queued, is_sent_to, AreExchanges, CanChange, CanUpdate, is_sent, is_sent_after}
 use Rattle.endpoint_counts.specs.Endpoints.{open_in, queued_in, sent_in, Endpoints}
 use Rattle.coap_exchange.specs.Counted.{AreCounted, IsRecounted}
 use Rattle.coap_exchange.specs.SendQueue.{is_moved, head_may_change_at}
@@ -85,7 +85,7 @@ unmoved-queued true other e = absurd cc
 unmoved-queued false other e = refl
 
 -- an exchange that changes leaves other endpoints as they are
-head_may_change_at-stays : (change : Option Change) (o : Option Exchange) → Allows (λ c x. is_queued (changed_by c x) ≡ false) change o → StaysElsewhere (head_may_change_at change o) o (updated changed_by change o)
+head_may_change_at-stays : (change : Option Transition) (o : Option Exchange) → Allows (λ c x. is_queued (after_transition c x) ≡ false) change o → StaysElsewhere (head_may_change_at change o) o (updated after_transition change o)
 head_may_change_at-stays None None off = λ e other. (refl, refl)
 head_may_change_at-stays (Some c) None off = λ e other. (refl, refl)
 head_may_change_at-stays None (Some x) off = λ e other. (
@@ -93,12 +93,12 @@ head_may_change_at-stays None (Some x) off = λ e other. (
   elsewhere x.key.target.at e (is_moved None x) (is_queued x) false (unmoved-queued (is_queued x) _) other,
 )
 head_may_change_at-stays (Some c) (Some x) off = λ e other. (
-  ap (λ (b : Bool). b && same_endpoint (changed_by c x).key.target.at e) (sends-is c x) ∙ ap (λ (d : Endpoint). is_sent_after c (is_sent x) && same_endpoint d e) (endpoint-after c x) ∙ elsewhere x.key.target.at e (is_moved (Some c) x) (is_sent x) (is_sent_after c (is_sent x)) (unmoved-sent (is_queued x) (is_sent x) (is_sent_after c (is_sent x))) other,
-  ap (λ (b : Bool). b && same_endpoint (changed_by c x).key.target.at e) off ∙ elsewhere x.key.target.at e (is_moved (Some c) x) (is_queued x) false (unmoved-queued (is_queued x) _) other,
+  ap (λ (b : Bool). b && same_endpoint (after_transition c x).key.target.at e) (sends-is c x) ∙ ap (λ (d : Endpoint). is_sent_after c (is_sent x) && same_endpoint d e) (endpoint-after c x) ∙ elsewhere x.key.target.at e (is_moved (Some c) x) (is_sent x) (is_sent_after c (is_sent x)) (unmoved-sent (is_queued x) (is_sent x) (is_sent_after c (is_sent x))) other,
+  ap (λ (b : Bool). b && same_endpoint (after_transition c x).key.target.at e) off ∙ elsewhere x.key.target.at e (is_moved (Some c) x) (is_queued x) false (unmoved-queued (is_queued x) _) other,
 )
 
 -- how many are sent to its endpoint is how many are sent to where the head may change
-pub head_may_change_at-sent : (change : Option Change) (o : Option Exchange) (sent : ℕ) (xs : List (Numbered Exchange)) (endpoints : Endpoints) → AreCounted xs endpoints → IfSome o (λ x. sent ≡ sent_in endpoints x.key.target.at) → IfSome (head_may_change_at change o) (λ at. sent ≡ count (is_sent_to at) xs)
+pub head_may_change_at-sent : (change : Option Transition) (o : Option Exchange) (sent : ℕ) (xs : List (Numbered Exchange)) (endpoints : Endpoints) → AreCounted xs endpoints → IfSome o (λ x. sent ≡ sent_in endpoints x.key.target.at) → IfSome (head_may_change_at change o) (λ at. sent ≡ count (is_sent_to at) xs)
 head_may_change_at-sent change None sent xs endpoints are is = tt
 head_may_change_at-sent change (Some x) sent xs endpoints are is = go (is_moved change x)
   where
@@ -110,48 +110,48 @@ head_may_change_at-sent change (Some x) sent xs endpoints are is = go (is_moved 
 
 module _ (n : ℕ) where
   -- what may be updated can be changed so
-  pub updatable : (change : Option Change) (xs : List (Numbered Exchange)) (queued : ℕ) → AreExchanges xs queued → CanUpdate change (item_at n xs) → Allows CanChange change (item_at n xs)
+  pub updatable : (change : Option Transition) (xs : List (Numbered Exchange)) (queued : ℕ) → AreExchanges xs queued → CanUpdate change (item_at n xs) → Allows CanChange change (item_at n xs)
   updatable None xs queued are can = tt
   updatable (Some c) xs queued are can = changeable n c xs queued are can.0 can.1
 
   -- a change leaves no exchange waiting for its turn
-  pub never-queued : (change : Option Change) (o : Option Exchange) → CanUpdate change o → Allows (λ c x. is_queued (changed_by c x) ≡ false) change o
+  pub never-queued : (change : Option Transition) (o : Option Exchange) → CanUpdate change o → Allows (λ c x. is_queued (after_transition c x) ≡ false) change o
   never-queued None o can = tt
   never-queued (Some c) o can = can.2
 
   -- nor is one then that is gone
-  pub updated-off : (change : Option Change) (xs : List (Numbered Exchange)) → CanUpdate change (item_at n xs) → passes is_queued (item_at n (updated_at changed_by change n xs)) ≡ false
+  pub updated-off : (change : Option Transition) (xs : List (Numbered Exchange)) → CanUpdate change (item_at n xs) → passes is_queued (item_at n (updated_at after_transition change n xs)) ≡ false
   updated-off None xs can = without-off n xs
-  updated-off (Some c) xs can = changed-off n (changed_by c) xs can.2
+  updated-off (Some c) xs can = changed-off n (after_transition c) xs can.2
 
   -- the heads stay elsewhere than where one may change
-  pub stays-updated : (change : Option Change) (xs : List (Numbered Exchange)) → CanUpdate change (item_at n xs) → StaysElsewhere (head_may_change_at change (item_at n xs)) (item_at n xs) (item_at n (updated_at changed_by change n xs))
-  stays-updated change xs can = subst (StaysElsewhere (head_may_change_at change (item_at n xs)) (item_at n xs)) (sym (updated-at changed_by n change xs)) (head_may_change_at-stays change (item_at n xs) (never-queued change (item_at n xs) can))
+  pub stays-updated : (change : Option Transition) (xs : List (Numbered Exchange)) → CanUpdate change (item_at n xs) → StaysElsewhere (head_may_change_at change (item_at n xs)) (item_at n xs) (item_at n (updated_at after_transition change n xs))
+  stays-updated change xs can = subst (StaysElsewhere (head_may_change_at change (item_at n xs)) (item_at n xs)) (sym (updated-at after_transition n change xs)) (head_may_change_at-stays change (item_at n xs) (never-queued change (item_at n xs) can))
 
   module _ (t : Table Exchange) (is : IsTable t) where
     -- what is there was there, and was admitted at the same moment
-    pub kept-updated : (change : Option Change) → AreKept t.items (updated_at changed_by change n t.items)
+    pub kept-updated : (change : Option Transition) → AreKept t.items (updated_at after_transition change n t.items)
     kept-updated None = kept-without n t.items (moves-without n t is)
-    kept-updated (Some c) = kept-changed n (changed_by c) t.items (admitted-after c) (moves-changed n (changed_by c) t is)
+    kept-updated (Some c) = kept-changed n (after_transition c) t.items (admitted-after c) (moves-changed n (after_transition c) t is)
 
     -- moments and timeouts stay in range, and as many wait for their turn as are counted
-    pub exchanges-updated : (change : Option Change) (queued fewer : ℕ) → AreExchanges t.items queued → CanUpdate change (item_at n t.items) → fewer + one_if (passes is_queued (item_at n t.items)) ≡ queued → AreExchanges (updated_at changed_by change n t.items) fewer
+    pub exchanges-updated : (change : Option Transition) (queued fewer : ℕ) → AreExchanges t.items queued → CanUpdate change (item_at n t.items) → fewer + one_if (passes is_queued (item_at n t.items)) ≡ queued → AreExchanges (updated_at after_transition change n t.items) fewer
     exchanges-updated None queued fewer are can counted = exchanges-without n t.items queued fewer t refl is are counted
     exchanges-updated (Some c) queued fewer are can counted = exchanges-changed n c t.items queued fewer t refl is are can.0 can.2 counted
 
     -- what is counted of one kind by endpoint is what there is
-    recounted-updated : (test : Endpoint → Exchange → Bool) (old new : Endpoint → ℕ) (change : Option Change) → ((e : Endpoint) → old e ≡ count (test e) t.items) → IsRecounted test old new (item_at n t.items) (updated changed_by change (item_at n t.items)) → (e : Endpoint) → new e ≡ count (test e) (updated_at changed_by change n t.items)
+    recounted-updated : (test : Endpoint → Exchange → Bool) (old new : Endpoint → ℕ) (change : Option Transition) → ((e : Endpoint) → old e ≡ count (test e) t.items) → IsRecounted test old new (item_at n t.items) (updated after_transition change (item_at n t.items)) → (e : Endpoint) → new e ≡ count (test e) (updated_at after_transition change n t.items)
     recounted-updated test old new change are recounted e =
-        let moved = (moves-updated changed_by n t is change).counts (test e) in
-        let then : one_if (passes (test e) (item_at n (updated_at changed_by change n t.items))) ≡ one_if (passes (test e) (updated changed_by change (item_at n t.items))) = ap (λ (o : Option Exchange). one_if (passes (test e) o)) (updated-at changed_by n change t.items) in
+        let moved = (moves-updated after_transition n t is change).counts (test e) in
+        let then : one_if (passes (test e) (item_at n (updated_at after_transition change n t.items))) ≡ one_if (passes (test e) (updated after_transition change (item_at n t.items))) = ap (λ (o : Option Exchange). one_if (passes (test e) o)) (updated-at after_transition n change t.items) in
         omega (arith, are e, recounted e, moved, then)
 
     -- and of all kinds
-    pub counted-updated : (change : Option Change) (old new : Endpoints) → AreCounted t.items old
-        → IsRecounted is_with (open_in old) (open_in new) (item_at n t.items) (updated changed_by change (item_at n t.items))
-        → IsRecounted is_sent_to (sent_in old) (sent_in new) (item_at n t.items) (updated changed_by change (item_at n t.items))
-        → IsRecounted is_queued_to (queued_in old) (queued_in new) (item_at n t.items) (updated changed_by change (item_at n t.items))
-        → AreCounted (updated_at changed_by change n t.items) new
+    pub counted-updated : (change : Option Transition) (old new : Endpoints) → AreCounted t.items old
+        → IsRecounted is_with (open_in old) (open_in new) (item_at n t.items) (updated after_transition change (item_at n t.items))
+        → IsRecounted is_sent_to (sent_in old) (sent_in new) (item_at n t.items) (updated after_transition change (item_at n t.items))
+        → IsRecounted is_queued_to (queued_in old) (queued_in new) (item_at n t.items) (updated after_transition change (item_at n t.items))
+        → AreCounted (updated_at after_transition change n t.items) new
     counted-updated change old new are all sent queued = record {
       all = recounted-updated is_with (open_in old) (open_in new) change are.all all;
       sent = recounted-updated is_sent_to (sent_in old) (sent_in new) change are.sent sent;

@@ -12,7 +12,7 @@ use Rattle.coap_exchange.specs.Answered.{awaited_of}
 use Rattle.endpoint_counts.specs.IndexOf.{key_at}
 use Rattle.ordered_index.specs.Ordered.{Pair, is_key, many_of}
 use Rattle.coap_pending.specs.Waiters.{awaited_by, delivered, exchange_of, fired_state, fired_waiter, waits_for, waits_in_state, AreShort, CanChange, CanFire, HasEnded, IsDue, IsStateShort}
-use Rattle.coap_pending.specs.declared.waiter.WaiterChange.TheVariants.{Fire as fire}
+use Rattle.coap_pending.specs.declared.waiter.WaiterTransition.TheVariants.{Fire as fire}
 use Rattle.coap_pending.proofs.Schedule.{fired-short, first-short, short-bound}
 use Rattle.coap_pending.proofs.Counts.{one_if, all-at, all-push, all-changed_at, all-without}
 use Rattle.endpoint_counts.proofs.Indexing.{Moves}

@@ -3,7 +3,7 @@
 use Rattle.std.specs.Prelude.{◌≡◌, ℕ, ◌<◌, ◌≤◌, ◌&&◌, ◌||◌, max, Bool, true, false, not, if◌then◌else◌, nat_le, nat_lt, List, length, Option, Some, None}
 use Rattle.std.specs.Option.{option_map}
 use Rattle.coap_endpoint.specs.declared.endpoint.Endpoint.{Endpoint}
-use Rattle.coap_pending.specs.declared.exchange.Change.{Change}
+use Rattle.coap_pending.specs.declared.exchange.Transition.{Transition}
 use Rattle.coap_pending.specs.declared.exchange.Exchange.{Exchange}
 use Rattle.coap_exchange.specs.declared.send_queue.SendQueue.{SendQueue}
 use Rattle.coap_pending.specs.Exchanges.{is_queued, is_queued_to, is_sent, is_sent_to, is_sent_after}
@@ -26,12 +26,12 @@ head_with None sent number = Some (sent, number)
 head_with (Some head) sent number = Some head
 
 -- whether an exchange is in the sent state after a change, or, without a change, once it is removed
-abbrev pub is_sent_then : Option Change → Bool → Bool
+abbrev pub is_sent_then : Option Transition → Bool → Bool
 is_sent_then None was = false
 is_sent_then (Some c) was = is_sent_after c was
 
 -- it waits for its turn, or a change turns whether it is in the sent state
-abbrev pub is_moved : Option Change → Exchange → Bool
+abbrev pub is_moved : Option Transition → Exchange → Bool
 is_moved change x =
     is_queued x
     || (if is_sent x
@@ -39,7 +39,7 @@ is_moved change x =
     else is_sent_then change (is_sent x))
 
 -- the endpoint of which the head may be another after a change
-abbrev pub head_may_change_at : Option Change → Option Exchange → Option Endpoint
+abbrev pub head_may_change_at : Option Transition → Option Exchange → Option Endpoint
 head_may_change_at change None = None
 head_may_change_at change (Some x) = if is_moved change x then Some x.key.target.at else None
 
@@ -51,13 +51,13 @@ pub record AreHeads (items : List (Numbered Exchange)) (heads : OrderedIndex) : 
 
 -- none was admitted after `latest`, and each was admitted no earlier than those with lower numbers
 pub record AreInOrder (items : List (Numbered Exchange)) (latest : ℕ) : Type 0 where
-  pub early : (n : ℕ) (x : Exchange) → item_at n items ≡ Some x → x.admitted ≤ latest
+  pub early : (n : ℕ) (x : Exchange) → item_at n items ≡ Some x → x.opened_at ≤ latest
   pub order :
       (n m : ℕ) (x y : Exchange)
       → item_at n items ≡ Some x
       → item_at m items ≡ Some y
       → n < m
-      → x.admitted ≤ y.admitted
+      → x.opened_at ≤ y.opened_at
 
 -- the state that decides whose turn it is
 pub record IsSendQueue (items : List (Numbered Exchange)) (send_queue : SendQueue) : Type 0 where

@@ -3,7 +3,7 @@ ghost use Rattle.std.specs.Prelude.{◌≡◌, ◌+◌, ◌-◌, ◌<◌, if◌t
 ghost use Rattle.std.specs.Map.{set_value};
 ghost use Rattle.std.specs.Option.{option_copied, option_map};
 ghost use Rattle.indexmap.specs.IndexMap.{get};
-ghost use Rattle.coap_pending.specs.Exchanges.{changed_by, is_queued, is_sent_to, sent, tainted_by, CanChange, CanUpdate, is_queued_to, is_with};
+ghost use Rattle.coap_pending.specs.Exchanges.{after_transition, is_queued, is_sent_to, sent, tainted_by, CanChange, CanUpdate, is_queued_to, is_with};
 ghost use Rattle.coap_exchange.specs.Index.{keys_at, AreIndexed};
 ghost use Rattle.endpoint_counts.specs.Endpoints.{open_in, queued_in, sent_in};
 ghost use Rattle.coap_exchange.specs.Counted.{AreCounted, IsRecounted};
@@ -16,19 +16,21 @@ use crate::indexed_exchange::{IndexedExchange, client_of};
 use crate::send_queue::{head_may_change_at, head_of};
 use crate::table::{Items, Table, place_in};
 use coap_endpoint::Target;
-use coap_pending::{Change, ExchangeNumber};
+use coap_pending::{ExchangeNumber, Transition};
 use coap_store::digest_of_target;
 use endpoint_counts::by_client::depart;
-use endpoint_counts::{EndpointMap, Peer, SentCounts, Stage, close_one, lowered, move_one};
+use endpoint_counts::{
+    DigestedEndpoint, EndpointMap, SentCounts, Stage, close_one, lowered, move_one,
+};
 
 impl Exchanges {
     /// Changes the exchange numbered `number`, or removes it if there is no change. Nothing happens
     /// if there is no such exchange. What is counted of it, what it is looked up by, and whose turn
     /// it is follow.
-    pub(crate) fn update(&mut self, number: ExchangeNumber, change: Option<Change>)
+    pub(crate) fn update(&mut self, number: ExchangeNumber, change: Option<Transition>)
         requires { CanUpdate change (item_at number self.old.items) }
         ensures { self.new
-            ≡ record self.old { items = updated_at changed_by change number self.old.items } }
+            ≡ record self.old { items = updated_at after_transition change number self.old.items } }
     {
         let found = self.table.get(number);
         let at = head_may_change_at(found, &change);
@@ -52,14 +54,14 @@ impl Table<IndexedExchange> {
     fn update(
         &mut self,
         number: ExchangeNumber,
-        change: Option<Change>,
+        change: Option<Transition>,
         secret: u64,
     ) -> ExchangeKeys
         requires { Allows CanChange change (item_at number self.old.items) }
         ensures updated { self.new
-            ≡ record self.old { items = updated_at changed_by change number self.old.items } }
+            ≡ record self.old { items = updated_at after_transition change number self.old.items } }
         ensures keys { result
-            ≡ keys_at secret (updated changed_by change (item_at number self.old.items)) }
+            ≡ keys_at secret (updated after_transition change (item_at number self.old.items)) }
     {
         match change {
             Some(change) => self.change(number, change, secret),
@@ -72,12 +74,12 @@ impl Table<IndexedExchange> {
 
     /// Changes the exchange numbered `number`, if there is one, and returns what it is looked up by
     /// then.
-    fn change(&mut self, number: ExchangeNumber, change: Change, secret: u64) -> ExchangeKeys
+    fn change(&mut self, number: ExchangeNumber, change: Transition, secret: u64) -> ExchangeKeys
         requires { IfSome (item_at number self.old.items) (CanChange change) }
         ensures changed { self.new
-            ≡ record self.old { items = changed_at number (changed_by change) self.old.items } }
+            ≡ record self.old { items = changed_at number (after_transition change) self.old.items } }
         ensures keys { result
-            ≡ keys_at secret (option_map (changed_by change) (item_at number self.old.items)) }
+            ≡ keys_at secret (option_map (after_transition change) (item_at number self.old.items)) }
     {
         change_under(&mut self.items, self.place, number, change, secret)
     }
@@ -96,17 +98,17 @@ fn change_under(
     exchanges: &mut Items<IndexedExchange>,
     place: usize,
     number: ExchangeNumber,
-    change: Change,
+    change: Transition,
     secret: u64,
 ) -> ExchangeKeys
     requires { IfSome (get nat_eq exchanges.old number) (CanChange change) }
     ensures found { IfSome (get nat_eq exchanges.old number) (λ x.
         exchanges.new.entries
-        ≡ set_value (nat_eq number) exchanges.old.entries (changed_by change x)) }
+        ≡ set_value (nat_eq number) exchanges.old.entries (after_transition change x)) }
     ensures missing { IfNone (get nat_eq exchanges.old number)
         (exchanges.new.entries ≡ exchanges.old.entries) }
     ensures keys { result
-        ≡ keys_at secret (option_map (changed_by change) (get nat_eq exchanges.old number)) }
+        ≡ keys_at secret (option_map (after_transition change) (get nat_eq exchanges.old number)) }
 {
     let Some(place) = place_in(exchanges, place, number) else {
         return keys_in(None, secret);
@@ -208,11 +210,11 @@ fn recount(
     exchanges: &Table<IndexedExchange>,
     number: ExchangeNumber,
     found: Option<&IndexedExchange>,
-    change: &Option<Change>,
+    change: &Option<Transition>,
 ) -> SentCounts
     requires counted { AreCounted exchanges.now.items endpoints.old }
     requires found { option_copied found ≡ item_at number exchanges.now.items }
-    requires queued { Allows (λ c x. is_queued (changed_by c x) ≡ false) change.now
+    requires queued { Allows (λ c x. is_queued (after_transition c x) ≡ false) change.now
         (item_at number exchanges.now.items) }
     ensures was { IfSome (item_at number exchanges.now.items)
         (λ x. result.was ≡ sent_in endpoints.old x.key.target.at) }
@@ -221,13 +223,13 @@ fn recount(
     ensures limit { endpoints.new.limit ≡ endpoints.old.limit }
     ensures all { IsRecounted is_with (open_in endpoints.old) (open_in endpoints.new)
         (item_at number exchanges.now.items)
-        (updated changed_by change.now (item_at number exchanges.now.items)) }
+        (updated after_transition change.now (item_at number exchanges.now.items)) }
     ensures sent { IsRecounted is_sent_to (sent_in endpoints.old) (sent_in endpoints.new)
         (item_at number exchanges.now.items)
-        (updated changed_by change.now (item_at number exchanges.now.items)) }
+        (updated after_transition change.now (item_at number exchanges.now.items)) }
     ensures queued { IsRecounted is_queued_to (queued_in endpoints.old) (queued_in endpoints.new)
         (item_at number exchanges.now.items)
-        (updated changed_by change.now (item_at number exchanges.now.items)) }
+        (updated after_transition change.now (item_at number exchanges.now.items)) }
 {
     exchanges.laws();
     let Some(listed) = found else {
@@ -247,7 +249,10 @@ fn recount(
 }
 
 /// The client that opened an exchange which is removed, if it is and there is one.
-fn client_of_removed(found: Option<&IndexedExchange>, change: &Option<Change>) -> Option<Peer>
+fn client_of_removed(
+    found: Option<&IndexedExchange>,
+    change: &Option<Transition>,
+) -> Option<DigestedEndpoint>
     ensures exact { result ≡ client_of_removed (λ x. x.client) change.now (option_copied found.entry) }
 {
     match change {

@@ -23,10 +23,10 @@ use crate::turns::first_turn;
 use coap_endpoint::{Endpoint, Target};
 use coap_message::{Moment, OutOfMemory};
 use coap_pending::due::{later, sooner};
-use coap_pending::{Change, Exchange, ExchangeNumber, Fire, Sending};
+use coap_pending::{Exchange, ExchangeNumber, Fire, Sending, Transition};
 use coap_store::{Answer, CacheKey, SharedKey, digests_of};
 use endpoint_counts::by_client::{count_of, depart, enter};
-use endpoint_counts::{EndpointMap, Peer, Stage, close_one, open_one};
+use endpoint_counts::{DigestedEndpoint, EndpointMap, Stage, close_one, open_one};
 use std::alloc::Global;
 use std::marker::Model;
 
@@ -137,11 +137,11 @@ impl Exchanges {
         ensures exact { result ≡ count (is_opened_by client) self.now.items }
         ensures within { AreWithin is_opened_by self.now }
     {
-        self.count_of_peer(Peer::new(client))
+        self.count_of_peer(DigestedEndpoint::new(client))
     }
 
     /// `count_of`, for a client whose digest is made already.
-    pub fn count_of_peer(&self, client: Peer) -> usize
+    pub fn count_of_peer(&self, client: DigestedEndpoint) -> usize
         ensures exact { result ≡ count (is_opened_by client) self.now.items }
         ensures within { AreWithin is_opened_by self.now }
     {
@@ -319,7 +319,7 @@ impl Exchanges {
         requires numbers { self.old.admitted < 2 ^ 64 - 1 }
         requires state { listed.state ≡ Queued }
         requires sending { listed.sending ≡ None }
-        requires now { listed.admitted ≤ 2 ^ 62 }
+        requires now { listed.opened_at ≤ 2 ^ 62 }
         requires room { length self.old.items < self.old.limit }
         requires client_room { count (is_opened_by listed.client) self.old.items
             < self.old.per_client }
@@ -328,7 +328,7 @@ impl Exchanges {
         ensures err { OnErr result (self.new ≡ self.old) }
     {
         let (opener, at) = (listed.client(), listed.origin());
-        let now = listed.exchange().admitted;
+        let now = listed.exchange().opened_at;
         self.table.laws();
         self.send_queue.heads.laws();
         self.endpoints.laws();
@@ -387,7 +387,7 @@ impl Exchanges {
         ensures sent { self.new
             ≡ record self.old { items = changed_at number (sent sending) self.old.items } }
     {
-        self.update(number, Some(Change::Send(sending)));
+        self.update(number, Some(Transition::Send(sending)));
     }
 
     /// Fires the timer of the exchange numbered `number`, whose request was sent, and returns what
@@ -404,7 +404,7 @@ impl Exchanges {
             Some(exchange) => exchange.fire_of(now),
             None => Fire::GiveUp,
         };
-        self.update(number, Some(Change::Fire(now)));
+        self.update(number, Some(Transition::Fire(now)));
         fire
     }
 
@@ -414,7 +414,7 @@ impl Exchanges {
         ensures acked { self.new
             ≡ record self.old { items = changed_at number acked self.old.items } }
     {
-        self.update(number, Some(Change::Acknowledge));
+        self.update(number, Some(Transition::Acknowledge));
     }
 
     /// Notes the answer of the exchange numbered `number`: a response, or the proxy's own answer.
@@ -423,7 +423,7 @@ impl Exchanges {
         ensures answered { self.new
             ≡ record self.old { items = changed_at number (answered answer) self.old.items } }
     {
-        self.update(number, Some(Change::Answer(answer)));
+        self.update(number, Some(Transition::Answer(answer)));
     }
 
     /// Taints the exchanges with this target whose request was sent and whose answer hasn't come,

@@ -2,7 +2,7 @@
 ghost use Rattle.std.specs.Prelude.{◌≡◌, IfOk};
 ghost use Rattle.std.specs.Option.{option_copied, option_map};
 ghost use Rattle.coap_store.specs.Digests.{digest_of_key, digest_of_target};
-ghost use Rattle.coap_pending.specs.Exchanges.{changed_by, is_queued, is_sent, tainted_by, CanChange};
+ghost use Rattle.coap_pending.specs.Exchanges.{after_transition, is_queued, is_sent, tainted_by, CanChange};
 ghost use Rattle.coap_exchange.specs.Opening.{opened};
 ghost use Rattle.coap_pending.specs.Table.{item_at, IsTable};
 
@@ -10,8 +10,8 @@ use crate::opening::Opening;
 use crate::table::Table;
 use coap_endpoint::Target;
 use coap_message::OutOfMemory;
-use coap_pending::{Change, Exchange, ExchangeNumber};
-use endpoint_counts::{Peer, Stage};
+use coap_pending::{Exchange, ExchangeNumber, Transition};
+use endpoint_counts::{DigestedEndpoint, Stage};
 use std::alloc::Global;
 use std::marker::Model;
 
@@ -20,9 +20,9 @@ use std::marker::Model;
 pub(crate) struct IndexedExchange {
     exchange: Exchange,
     /// The client that opened it.
-    client: Peer,
+    client: DigestedEndpoint,
     /// The endpoint that its request is sent to.
-    origin: Peer,
+    origin: DigestedEndpoint,
 }
 
 impl Model for IndexedExchange {
@@ -49,7 +49,7 @@ impl IndexedExchange {
         ensures exact { IfOk result (λ exchange. exchange ≡ opened opening.entry) }
     {
         let client = opening.client;
-        let origin = Peer::new(opening.key.key().target.at);
+        let origin = DigestedEndpoint::new(opening.key.key().target.at);
         Ok(IndexedExchange {
             exchange: opening.opened(alloc)?,
             client,
@@ -65,14 +65,14 @@ impl IndexedExchange {
     }
 
     /// The client that opened it.
-    pub(crate) fn client(&self) -> Peer
+    pub(crate) fn client(&self) -> DigestedEndpoint
         ensures exact { result ≡ self.now.client }
     {
         self.client
     }
 
     /// The endpoint that its request is sent to.
-    pub(crate) fn origin(&self) -> Peer
+    pub(crate) fn origin(&self) -> DigestedEndpoint
         ensures exact { result ≡ self.now.key.target.at }
     {
         self.origin
@@ -104,9 +104,9 @@ impl IndexedExchange {
     }
 
     /// Applies a change to the exchange.
-    pub(crate) fn change(&mut self, change: Change)
+    pub(crate) fn change(&mut self, change: Transition)
         requires { CanChange change self.old }
-        ensures exact { self.new ≡ changed_by change self.old }
+        ensures exact { self.new ≡ after_transition change self.old }
     {
         self.exchange.change(change);
     }
@@ -120,7 +120,7 @@ impl IndexedExchange {
 }
 
 /// The client that opened an exchange, if there is one.
-pub(crate) fn client_of(found: Option<&IndexedExchange>) -> Option<Peer>
+pub(crate) fn client_of(found: Option<&IndexedExchange>) -> Option<DigestedEndpoint>
     ensures exact { result ≡ option_map (λ x. x.client) (option_copied found.entry) }
 {
     match found {

@@ -6,7 +6,7 @@
 //! ```rust
 //! let mut exchanges = Exchanges::new(alloc, 256, 16)?;
 //! let opening = Opening {
-//!     client: Peer::new(client),
+//!     client: DigestedEndpoint::new(client),
 //!     key: &key,
 //!     is_get: true,
 //!     form,
@@ -16,7 +16,7 @@
 //! let number = exchanges.admit(opening)?;
 //! assert!(rt; exchanges.due(1, 93_000) == Some((0, number))); // it is its turn
 //! let sending = Sending {
-//!     asked: 0,
+//!     asked_event: 0,
 //!     id: 7,
 //!     timer: Timer::start(0, 250),
 //! };

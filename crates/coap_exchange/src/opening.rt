@@ -5,13 +5,13 @@ ghost use Rattle.coap_exchange.specs.Opening.{opened};
 use coap_message::{Moment, OutOfMemory, Seq};
 use coap_pending::{Exchange, ExchangeState};
 use coap_store::{SharedKey, Stored};
-use endpoint_counts::Peer;
+use endpoint_counts::DigestedEndpoint;
 use std::alloc::Global;
 
 /// A request that is to be sent, as an exchange is opened with it.
 pub struct Opening<'k> {
     /// The client that sent it.
-    pub client: Peer,
+    pub client: DigestedEndpoint,
     /// What its response is cached under. It is copied.
     pub key: &'k SharedKey,
     /// Whether the method is GET.
@@ -60,7 +60,7 @@ impl Opening<'_> {
             is_get,
             form,
             copy,
-            admitted: now,
+            opened_at: now,
             sending: None,
             tainted: false,
             state: ExchangeState::Queued,

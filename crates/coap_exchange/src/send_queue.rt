@@ -10,8 +10,8 @@ use crate::index::{Index, Sought, first_sought};
 use crate::indexed_exchange::IndexedExchange;
 use crate::table::Table;
 use coap_message::{Moment, OutOfMemory};
-use coap_pending::{Change, ExchangeNumber};
-use endpoint_counts::Peer;
+use coap_pending::{ExchangeNumber, Transition};
+use endpoint_counts::DigestedEndpoint;
 use ordered_index::OrderedIndex;
 use std::alloc::Global;
 
@@ -83,8 +83,8 @@ fn lower(first: Option<ExchangeNumber>, number: ExchangeNumber) -> Option<Exchan
 /// leaves the sent state.
 pub(crate) fn head_may_change_at(
     found: Option<&IndexedExchange>,
-    change: &Option<Change>,
-) -> Option<Peer>
+    change: &Option<Transition>,
+) -> Option<DigestedEndpoint>
     ensures exact { result ≡ head_may_change_at change.now (option_copied found.entry) }
 {
     let listed = found?;
@@ -106,7 +106,7 @@ pub(crate) fn head_of(
     exchanges: &Table<IndexedExchange>,
     index: &Index,
     queued: usize,
-    at: &Option<Peer>,
+    at: &Option<DigestedEndpoint>,
     sent: usize,
 ) -> Option<(u64, u64)>
     requires indexed { AreIndexed exchanges.now.items exchanges.now.limit index.now }

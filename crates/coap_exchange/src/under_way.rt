@@ -20,10 +20,10 @@ use coap_endpoint::Target;
 use coap_message::{Moment, OutOfMemory, Seq};
 use coap_pending::due::sooner;
 use coap_pending::{
-    Exchange, ExchangeNumber, Fire, Joining, Sending, Timer, Waiter, WaiterChange, WaiterNumber,
+    Exchange, ExchangeNumber, Fire, Joining, Sending, Timer, Waiter, WaiterNumber, WaiterTransition,
 };
 use coap_store::Answer;
-use endpoint_counts::Peer;
+use endpoint_counts::DigestedEndpoint;
 use ordered_index::OrderedIndex;
 use std::alloc::Global;
 use std::marker::Model;
@@ -297,7 +297,11 @@ impl UnderWay {
     ///
     /// # Errors
     /// Out of memory. Nothing is changed then.
-    pub fn join(&mut self, joining: Joining, client: Peer) -> Result<WaiterNumber, OutOfMemory>
+    pub fn join(
+        &mut self,
+        joining: Joining,
+        client: DigestedEndpoint,
+    ) -> Result<WaiterNumber, OutOfMemory>
         requires client { client ≡ joining.client }
         requires numbers { self.old.waiters.admitted < 2 ^ 64 - 1 }
         requires room { length self.old.waiters.items < self.old.waiters.limit }
@@ -363,7 +367,7 @@ impl UnderWay {
             } }
     {
         self.seek_waiter(number);
-        self.update_waiter(number, Some(WaiterChange::Deliver { bytes, id, timer }));
+        self.update_waiter(number, Some(WaiterTransition::Deliver { bytes, id, timer }));
     }
 
     /// Fires the timer of a waiter that was sent its answer: `Waiters::fire`.
@@ -385,13 +389,13 @@ impl UnderWay {
     }
 
     /// `Waiters::update`. Which waiter of its exchange is to be served first follows.
-    fn update_waiter(&mut self, number: WaiterNumber, change: Option<WaiterChange>)
+    fn update_waiter(&mut self, number: WaiterNumber, change: Option<WaiterTransition>)
         requires { waiters.CanUpdate change (item_at number self.old.waiters.items) }
         ensures { self.new
             ≡ record self.old {
               waiters =
                   record self.old.waiters {
-                    items = updated_at waiters.changed_by change number self.old.waiters.items;
+                    items = updated_at waiters.after_transition change number self.old.waiters.items;
                   };
             } }
     {

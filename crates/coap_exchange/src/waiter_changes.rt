@@ -5,24 +5,24 @@ ghost use Rattle.std.specs.Option.{option_copied, option_map};
 ghost use Rattle.indexmap.specs.IndexMap.{get};
 ghost use Rattle.coap_exchange.specs.WaiterIndex.{waiter_keys_at};
 ghost use Rattle.coap_pending.specs.Table.{item_at, changed_at, count, passes, IsTable};
-ghost use Rattle.coap_pending.specs.Waiters.{changed_by, is_waiting, CanChange, CanUpdate};
+ghost use Rattle.coap_pending.specs.Waiters.{after_transition, is_waiting, CanChange, CanUpdate};
 ghost use Rattle.coap_exchange.specs.Updates.{client_of_removed, updated, updated_at, Allows};
 
 use crate::table::{Items, Table, place_in};
 use crate::waiter_index::{WaiterKeys, waiter_keys_in, waiter_keys_of};
 use crate::waiters::Waiters;
-use coap_pending::{Waiter, WaiterChange, WaiterNumber};
-use endpoint_counts::Peer;
+use coap_pending::{Waiter, WaiterNumber, WaiterTransition};
+use endpoint_counts::DigestedEndpoint;
 use endpoint_counts::by_client::depart;
 use std::alloc::Global;
 
 impl Waiters {
     /// Changes the waiter numbered `number`, or removes it if there is no change. Nothing happens
     /// if there is no such waiter. What is counted of it and what it is looked up by follow.
-    pub(crate) fn update(&mut self, number: WaiterNumber, change: Option<WaiterChange>)
+    pub(crate) fn update(&mut self, number: WaiterNumber, change: Option<WaiterTransition>)
         requires { CanUpdate change (item_at number self.old.items) }
         ensures { self.new
-            ≡ record self.old { items = updated_at changed_by change number self.old.items } }
+            ≡ record self.old { items = updated_at after_transition change number self.old.items } }
     {
         let found = self.table.get(number);
         let waiting = waiting_without(self.waiting, &self.table, number, found);
@@ -40,14 +40,14 @@ impl Table<Waiter> {
     fn update(
         &mut self,
         number: WaiterNumber,
-        change: Option<WaiterChange>,
+        change: Option<WaiterTransition>,
         alloc: Global,
     ) -> WaiterKeys
         requires { Allows CanChange change (item_at number self.old.items) }
         ensures updated { self.new
-            ≡ record self.old { items = updated_at changed_by change number self.old.items } }
+            ≡ record self.old { items = updated_at after_transition change number self.old.items } }
         ensures keys { result
-            ≡ waiter_keys_at (updated changed_by change (item_at number self.old.items)) }
+            ≡ waiter_keys_at (updated after_transition change (item_at number self.old.items)) }
     {
         match change {
             Some(change) => self.change(number, change, alloc),
@@ -60,12 +60,17 @@ impl Table<Waiter> {
 
     /// Changes the waiter numbered `number`, if there is one, and returns what it is looked up by
     /// then.
-    fn change(&mut self, number: WaiterNumber, change: WaiterChange, alloc: Global) -> WaiterKeys
+    fn change(
+        &mut self,
+        number: WaiterNumber,
+        change: WaiterTransition,
+        alloc: Global,
+    ) -> WaiterKeys
         requires { IfSome (item_at number self.old.items) (CanChange change) }
         ensures changed { self.new
-            ≡ record self.old { items = changed_at number (changed_by change) self.old.items } }
+            ≡ record self.old { items = changed_at number (after_transition change) self.old.items } }
         ensures keys { result
-            ≡ waiter_keys_at (option_map (changed_by change) (item_at number self.old.items)) }
+            ≡ waiter_keys_at (option_map (after_transition change) (item_at number self.old.items)) }
     {
         change_under(&mut self.items, self.place, number, change, alloc)
     }
@@ -75,17 +80,17 @@ fn change_under(
     waiters: &mut Items<Waiter>,
     place: usize,
     number: WaiterNumber,
-    change: WaiterChange,
+    change: WaiterTransition,
     alloc: Global,
 ) -> WaiterKeys
     requires { IfSome (get nat_eq waiters.old number) (CanChange change) }
     ensures found { IfSome (get nat_eq waiters.old number) (λ w.
         waiters.new.entries
-        ≡ set_value (nat_eq number) waiters.old.entries (changed_by change w)) }
+        ≡ set_value (nat_eq number) waiters.old.entries (after_transition change w)) }
     ensures missing { IfNone (get nat_eq waiters.old number)
         (waiters.new.entries ≡ waiters.old.entries) }
     ensures keys { result
-        ≡ waiter_keys_at (option_map (changed_by change) (get nat_eq waiters.old number)) }
+        ≡ waiter_keys_at (option_map (after_transition change) (get nat_eq waiters.old number)) }
 {
     let Some(place) = place_in(waiters, place, number) else {
         return waiter_keys_in(None);
@@ -121,11 +126,11 @@ fn waiting_without(
 }
 
 /// The client of a waiter that is removed, if it is and there is one.
-fn client_of_removed(found: Option<&Waiter>, change: &Option<WaiterChange>) -> Option<Peer>
+fn client_of_removed(found: Option<&Waiter>, change: &Option<WaiterTransition>) -> Option<DigestedEndpoint>
     ensures exact { result ≡ client_of_removed (λ w. w.client) change.now (option_copied found.entry) }
 {
     match (found, change) {
-        (Some(waiter), None) => Some(Peer::new(waiter.client)),
+        (Some(waiter), None) => Some(DigestedEndpoint::new(waiter.client)),
         (None, _) | (_, Some(_)) => None,
     }
 }

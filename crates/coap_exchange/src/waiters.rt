@@ -18,9 +18,9 @@ use crate::waiter_index::{WaiterIndex, waiter_keys_in, waiter_keys_of};
 use coap_endpoint::Endpoint;
 use coap_message::{Moment, OutOfMemory, Seq};
 use coap_pending::due::{due_under, sooner};
-use coap_pending::{ExchangeNumber, Fire, Joining, Timer, Waiter, WaiterChange, WaiterNumber};
+use coap_pending::{ExchangeNumber, Fire, Joining, Timer, Waiter, WaiterNumber, WaiterTransition};
 use endpoint_counts::by_client::{count_of, depart, enter};
-use endpoint_counts::{EndpointMap, Peer};
+use endpoint_counts::{DigestedEndpoint, EndpointMap};
 use std::alloc::Global;
 use std::marker::Model;
 
@@ -117,11 +117,11 @@ impl Waiters {
         ensures exact { result ≡ count (is_of client) self.now.items }
         ensures within { AreWithin is_of self.now }
     {
-        self.count_of_peer(Peer::new(client))
+        self.count_of_peer(DigestedEndpoint::new(client))
     }
 
     /// `count_of`, for a client whose digest is made already.
-    pub fn count_of_peer(&self, client: Peer) -> usize
+    pub fn count_of_peer(&self, client: DigestedEndpoint) -> usize
         ensures exact { result ≡ count (is_of client) self.now.items }
         ensures within { AreWithin is_of self.now }
     {
@@ -272,7 +272,7 @@ impl Waiters {
         if self.table.is_full() {
             return Err(AdmitError::Full);
         }
-        let peer = Peer::new(joining.client);
+        let peer = DigestedEndpoint::new(joining.client);
         if count_of(&self.clients, peer) == self.table.per_client() {
             return Err(AdmitError::ClientFull);
         }
@@ -287,7 +287,7 @@ impl Waiters {
     pub(crate) fn admit_in_room(
         &mut self,
         joining: Joining,
-        peer: Peer,
+        peer: DigestedEndpoint,
     ) -> Result<WaiterNumber, OutOfMemory>
         requires numbers { self.old.admitted < 2 ^ 64 - 1 }
         requires peer { peer ≡ joining.client }
@@ -351,7 +351,7 @@ impl Waiters {
                   changed_at number (delivered bytes id timer) self.old.items;
             } }
     {
-        self.update(number, Some(WaiterChange::Deliver { bytes, id, timer }));
+        self.update(number, Some(WaiterTransition::Deliver { bytes, id, timer }));
     }
 
     /// Fires the timer of the waiter numbered `number`, which was sent its answer, and returns
@@ -368,7 +368,7 @@ impl Waiters {
             Some(waiter) => waiter.fire_of(now),
             None => Fire::GiveUp,
         };
-        self.update(number, Some(WaiterChange::Fire(now)));
+        self.update(number, Some(WaiterTransition::Fire(now)));
         fire
     }
 }

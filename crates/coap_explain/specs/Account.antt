@@ -18,15 +18,15 @@ use Rattle.coap_model.specs.State.{State}
 use Rattle.coap_core.specs.Told.{Told}
 use Rattle.coap_explain.specs.declared.answering.Answering.{Answering}
 use Rattle.coap_explain.specs.declared.answering.Answering.TheVariants.{Own, Passed, Unknown}
-use Rattle.coap_explain.specs.declared.due.Due.{Due}
-use Rattle.coap_explain.specs.declared.due.Due.TheVariants as dues
+use Rattle.coap_explain.specs.declared.due.TickSubject.{TickSubject}
+use Rattle.coap_explain.specs.declared.due.TickSubject.TheVariants as subjects
 use Rattle.coap_explain.specs.declared.due.DueClient.{DueClient}
 use Rattle.coap_explain.specs.declared.due.DueExchange.{DueExchange}
 use Rattle.coap_explain.specs.declared.lacks.Lack.{Lack}
 use Rattle.coap_explain.specs.declared.lacks.Usage.{Usage}
-use Rattle.coap_explain.specs.declared.outcomes.Before as program
-use Rattle.coap_explain.specs.declared.taken.Taken.{Taken}
-use Rattle.coap_explain.specs.declared.taken.Taken.TheVariants as ways
+use Rattle.coap_explain.specs.declared.outcomes.Noted as program
+use Rattle.coap_explain.specs.declared.routed.Routed.{Routed}
+use Rattle.coap_explain.specs.declared.routed.Routed.TheVariants as ways
 use Rattle.coap_explain.specs.Causes.{unprocessed_of}
 use Rattle.coap_explain.specs.Details.{dropped_text, refused_text}
 use Rattle.coap_explain.specs.Lacks.{to_join, to_open, usage_of}
@@ -73,23 +73,23 @@ abbrev pub message_text : Event → List ℕ
 message_text (arrival from bytes) = message_read (read_message bytes)
 message_text tick = []
 
-abbrev pub taken_text : Taken → List ℕ
-taken_text ways.Nowhere = []
-taken_text (ways.To target) = codes " " ++ target_text target
-taken_text ways.Unknown = codes " target: out of memory"
+abbrev pub routed_text : Routed → List ℕ
+routed_text ways.Nowhere = []
+routed_text (ways.To target) = codes " " ++ target_text target
+routed_text ways.Unknown = codes " target: out of memory"
 
 -- ---- what was noted before the step
 
 pub record Noted : Type 0 where
   -- what a tick is about, and the URI of the target of the exchange that is due
-  pub due : Due
+  pub due : TickSubject
   pub target : List ℕ
   -- what is made of a response
   pub answering : Answering
   -- a GET with the key of the last request could have shared an exchange's answer
   pub joins : Bool
 
-abbrev pub noted_seen : program.Before → Noted
+abbrev pub noted_seen : program.Noted → Noted
 noted_seen b =
     record { due = b.due; target = b.target.now; answering = b.answering; joins = b.joins }
 
@@ -116,16 +116,16 @@ abbrev pub sent_to_text : Option Endpoint → List ℕ → List ℕ
 sent_to_text to sent = sent_bytes_text (read_message sent) ++ to_text to
 
 -- the exchange that an answer is of
-abbrev pub of_text : Due → List ℕ → ℕ → List ℕ
-of_text (dues.Exchange x) target now = codes " of " ++ target ++ exchange_text now x
-of_text (dues.Client c) target now = []
-of_text dues.Nothing target now = []
+abbrev pub of_text : TickSubject → List ℕ → ℕ → List ℕ
+of_text (subjects.Exchange x) target now = codes " of " ++ target ++ exchange_text now x
+of_text (subjects.Client c) target now = []
+of_text subjects.Nothing target now = []
 
 -- a request to an origin, or the delivery of an answer to a client
-abbrev pub given_up_text : Due → List ℕ → ℕ → List ℕ
-given_up_text (dues.Exchange x) target now = codes " " ++ target ++ exchange_text now x
-given_up_text (dues.Client c) target now = client_text now c
-given_up_text dues.Nothing target now = []
+abbrev pub given_up_text : TickSubject → List ℕ → ℕ → List ℕ
+given_up_text (subjects.Exchange x) target now = codes " " ++ target ++ exchange_text now x
+given_up_text (subjects.Client c) target now = client_text now c
+given_up_text subjects.Nothing target now = []
 
 abbrev pub ticked_text : Outcome → Option Endpoint → List ℕ → ℕ → Noted → List ℕ
 ticked_text outcomes.SentRequest to sent now n = sent_to_text to sent
@@ -208,14 +208,14 @@ details_of event None sent now w n = []
 details_of event (Some report) sent now w n = done_text event report sent now w n
 
 -- the line of a turn, at this time of day, whose request the routes take there
-abbrev pub line_of : Told → List ℕ → Taken → Noted → Line
-line_of t time taken n = record {
+abbrev pub line_of : Told → List ℕ → Routed → Noted → Line
+line_of t time routed n = record {
   number = t.state.events;
   moment = t.turn.now;
   time = time;
   source = source_text t.turn.event;
   message = message_text t.turn.event;
-  target = taken_text taken;
+  target = routed_text routed;
   outcome = outcome_text t.report;
   details = details_of t.turn.event t.report t.bytes t.turn.now t.state n;
 }

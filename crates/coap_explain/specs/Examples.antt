@@ -12,7 +12,7 @@ use Rattle.coap_model.specs.Runs.{Turn}
 use Rattle.coap_model.specs.State.{State, new_state}
 use Rattle.coap_core.specs.Told.{Told}
 use Rattle.coap_explain.specs.declared.answering.Answering.TheVariants.{Passed}
-use Rattle.coap_explain.specs.declared.due.Due.TheVariants.{Nothing}
+use Rattle.coap_explain.specs.declared.due.TickSubject.TheVariants.{Nothing}
 use Rattle.coap_explain.specs.Account.{Noted}
 
 -- a proxy with these limits

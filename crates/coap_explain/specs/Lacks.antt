@@ -6,8 +6,8 @@ use Rattle.coap_endpoint.specs.declared.endpoint.Endpoint.{Endpoint}
 use Rattle.coap_model.specs.State.{State, client_counts, counts}
 use Rattle.coap_core.specs.Watching.{free_ids}
 use Rattle.coap_explain.specs.declared.lacks.Lack.{Lack}
-use Rattle.coap_explain.specs.declared.lacks.Share.{Share}
-use Rattle.coap_explain.specs.declared.lacks.Share.TheVariants.{Exchanges, ClientExchanges, Waiters, ClientWaiters, Con, ClientCon, Non, ClientNon, Ids}
+use Rattle.coap_explain.specs.declared.lacks.Need.{Need}
+use Rattle.coap_explain.specs.declared.lacks.Need.TheVariants.{Exchanges, ClientExchanges, Waiters, ClientWaiters, Con, ClientCon, Non, ClientNon, Ids}
 use Rattle.coap_explain.specs.declared.lacks.Usage.{Usage}
 
 -- what a proxy holds, of which a client has its share
@@ -19,17 +19,17 @@ usage_of w client = record {
   free_ids = free_ids w;
 }
 
--- a share is lacking only if it has reached its limit
-abbrev pub full : Share → ℕ → ℕ → Option Lack
-full share count limit =
+-- a need is lacking only if it has reached its limit
+abbrev pub full : Need → ℕ → ℕ → Option Lack
+full need count limit =
     if nat_lt count limit then None
-    else Some (record { share = share; count = count; limit = limit })
+    else Some (record { need = need; count = count; limit = limit })
 
 -- Message IDs are lacking only if fewer are free than are needed: 32,768 are given in 247 seconds
 abbrev pub short_of_ids : ℕ → ℕ → Option Lack
 short_of_ids free needed =
     if nat_le needed free then None
-    else Some (record { share = Ids; count = 32768 - free; limit = 32768 })
+    else Some (record { need = Ids; count = 32768 - free; limit = 32768 })
 
 abbrev pub of_waiters : Usage → Option Lack
 of_waiters u = full Waiters u.all.waiters u.limits.waiters

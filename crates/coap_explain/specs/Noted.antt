@@ -22,9 +22,9 @@ use Rattle.coap_explain.specs.declared.answering.Answering.TheVariants.{Own, Pas
 use Rattle.coap_explain.specs.declared.causes.BadGateway.TheVariants.{Reset}
 use Rattle.coap_explain.specs.declared.causes.Silence.{Silence}
 use Rattle.coap_explain.specs.declared.causes.Silence.TheVariants.{NotSent, NotAcknowledged, NotAnswered}
-use Rattle.coap_explain.specs.declared.due.Came.{Came}
-use Rattle.coap_explain.specs.declared.due.Due.{Due}
-use Rattle.coap_explain.specs.declared.due.Due.TheVariants as dues
+use Rattle.coap_explain.specs.declared.due.ResponseCause.{ResponseCause}
+use Rattle.coap_explain.specs.declared.due.TickSubject.{TickSubject}
+use Rattle.coap_explain.specs.declared.due.TickSubject.TheVariants as subjects
 use Rattle.coap_explain.specs.declared.due.DueAnswer.{DueAnswer}
 use Rattle.coap_explain.specs.declared.due.DueClient.{DueClient}
 use Rattle.coap_explain.specs.declared.due.DueExchange.{DueExchange}
@@ -57,7 +57,7 @@ exchange_of x waiting = record {
   origin = x.key.target.at;
   id = id_of x.sending;
   sends = sends_of x.sending;
-  admitted = x.admitted;
+  opened_at = x.opened_at;
   waiting = waiting;
   silence = silence_of x.state;
   answer = answer_in x.state;
@@ -69,7 +69,7 @@ took_until None now = now
 took_until (Some a) now = a.got
 
 abbrev pub took : DueExchange → ℕ → ℕ
-took x now = took_until x.answer now - x.admitted
+took x now = took_until x.answer now - x.opened_at
 
 -- a client that was sent its answer
 abbrev pub client_in : Endpoint → WaiterState → Option DueClient
@@ -80,48 +80,50 @@ client_in client (Delivering bytes id timer) =
 abbrev pub client_of : Waiter → Option DueClient
 client_of v = client_in v.client v.state
 
-abbrev pub due_client : Option DueClient → Due
-due_client None = dues.Nothing
-due_client (Some c) = dues.Client c
+abbrev pub due_client : Option DueClient → TickSubject
+due_client None = subjects.Nothing
+due_client (Some c) = subjects.Client c
 
-abbrev pub due_waiting_client : Option Waiter → Due
-due_waiting_client None = dues.Nothing
+abbrev pub due_waiting_client : Option Waiter → TickSubject
+due_waiting_client None = subjects.Nothing
 due_waiting_client (Some v) = due_client (client_of v)
 
-abbrev pub due_in : State → Option Exchange → Due
+abbrev pub due_in : State → Option Exchange → TickSubject
 due_in w None = due_waiting_client (due_waiter w)
-due_in w (Some x) = dues.Exchange (exchange_of x (due_waiting w))
+due_in w (Some x) = subjects.Exchange (exchange_of x (due_waiting w))
 
 -- the exchange that is due, or else the client
-abbrev pub due_of : State → Due
+abbrev pub due_of : State → TickSubject
 due_of w = due_in w (due_exchange w)
 
 -- ---- what came for an exchange, and why its clients get 5.02 if they do
 
-abbrev pub came_sent : Endpoint → Message → Exchange → Option Sending → Option Came
-came_sent from m x None = None
-came_sent from m x (Some s) =
+abbrev pub response_cause_sent :
+    Endpoint → Message → Exchange → Option Sending → Option ResponseCause
+response_cause_sent from m x None = None
+response_cause_sent from m x (Some s) =
     Some (record { origin = from; id = s.id; cause = gateway_of m (Some x) })
 
-abbrev pub came_for : Endpoint → Message → Exchange → Option Came
-came_for from m x = came_sent from m x x.sending
+abbrev pub response_cause_for : Endpoint → Message → Exchange → Option ResponseCause
+response_cause_for from m x = response_cause_sent from m x x.sending
 
-abbrev pub came_awaited : Endpoint → Message → Option Exchange → Option Came
-came_awaited from m None = None
-came_awaited from m (Some x) = came_for from m x
+abbrev pub response_cause_awaited : Endpoint → Message → Option Exchange → Option ResponseCause
+response_cause_awaited from m None = None
+response_cause_awaited from m (Some x) = response_cause_for from m x
 
-abbrev pub came_with : State → Endpoint → Message → Option Came
-came_with w from m =
+abbrev pub response_cause_with : State → Endpoint → Message → Option ResponseCause
+response_cause_with w from m =
     if is_reset m.kind then Some (record { origin = from; id = m.id; cause = Reset })
-    else (if is_response m.code then came_awaited from m (awaited w from m) else None)
+    else (if is_response m.code then response_cause_awaited from m (awaited w from m) else None)
 
-abbrev pub came_read : State → Endpoint → Result Message DecodeError → Option Came
-came_read w from (Ok m) = came_with w from m
-came_read w from (Err e) = None
+abbrev pub response_cause_read :
+    State → Endpoint → Result Message DecodeError → Option ResponseCause
+response_cause_read w from (Ok m) = response_cause_with w from m
+response_cause_read w from (Err e) = None
 
-abbrev pub came_of : State → Event → Option Came
-came_of w (arrival from bytes) = came_read w from (read_message bytes)
-came_of w tick = None
+abbrev pub response_cause_of : State → Event → Option ResponseCause
+response_cause_of w (arrival from bytes) = response_cause_read w from (read_message bytes)
+response_cause_of w tick = None
 
 -- ---- what is made of it
 

@@ -16,7 +16,7 @@ use Rattle.coap_core.specs.Watching.{due_exchange}
 use Rattle.coap_explain.specs.Account.{Noted, line_of, line_text}
 use Rattle.coap_explain.specs.Noted.{answering_of, due_of}
 use Rattle.coap_explain.specs.Targets.{target_text}
-use Rattle.coap_explain.specs.Ways.{taken_of}
+use Rattle.coap_explain.specs.Ways.{routed_of}
 
 -- ---- what is noted
 
@@ -55,7 +55,7 @@ told_of t s =
 abbrev pub line_said : State → Turn → Step → List ℕ
 line_said w t s =
     line_text
-    (line_of (told_of t s) [] (taken_of w.setting.routes t.event) (noted_of w t s.state))
+    (line_of (told_of t s) [] (routed_of w.setting.routes t.event) (noted_of w t s.state))
 
 -- the lines of a proxy for these turns, one after the other
 abbrev pub account : State → List Turn → List ℕ

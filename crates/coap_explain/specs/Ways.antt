@@ -11,25 +11,25 @@ use Rattle.coap_option.specs.Screening.{first_refused}
 use Rattle.coap_target.specs.declared.error.TargetError.{TargetError}
 use Rattle.coap_target.specs.declared.routes.Routes.{Routes}
 use Rattle.coap_target.specs.Request.{request_target}
-use Rattle.coap_explain.specs.declared.taken.Taken.{Taken}
-use Rattle.coap_explain.specs.declared.taken.Taken.TheVariants.{Nowhere, To}
+use Rattle.coap_explain.specs.declared.routed.Routed.{Routed}
+use Rattle.coap_explain.specs.declared.routed.Routed.TheVariants.{Nowhere, To}
 
-abbrev pub taken_to : Result Target TargetError → Taken
-taken_to (Ok t) = To t
-taken_to (Err e) = Nowhere
+abbrev pub routed_to : Result Target TargetError → Routed
+routed_to (Ok t) = To t
+routed_to (Err e) = Nowhere
 
-abbrev pub taken_unless : Routes → Message → Option ℕ → Taken
-taken_unless routes m None = taken_to (request_target routes m)
-taken_unless routes m (Some number) = Nowhere
+abbrev pub routed_unless : Routes → Message → Option ℕ → Routed
+routed_unless routes m None = routed_to (request_target routes m)
+routed_unless routes m (Some number) = Nowhere
 
 -- nowhere if one of its options is refused
-abbrev pub taken_with : Routes → Message → Taken
-taken_with routes m = taken_unless routes m (first_refused Request m.options)
+abbrev pub routed_with : Routes → Message → Routed
+routed_with routes m = routed_unless routes m (first_refused Request m.options)
 
-abbrev pub taken_read : Routes → Result Message DecodeError → Taken
-taken_read routes (Ok m) = if is_request m.code then taken_with routes m else Nowhere
-taken_read routes (Err e) = Nowhere
+abbrev pub routed_read : Routes → Result Message DecodeError → Routed
+routed_read routes (Ok m) = if is_request m.code then routed_with routes m else Nowhere
+routed_read routes (Err e) = Nowhere
 
-abbrev pub taken_of : Routes → Event → Taken
-taken_of routes (arrival from bytes) = taken_read routes (read_message bytes)
-taken_of routes tick = Nowhere
+abbrev pub routed_of : Routes → Event → Routed
+routed_of routes (arrival from bytes) = routed_read routes (read_message bytes)
+routed_of routes tick = Nowhere

@@ -24,8 +24,8 @@ use Rattle.coap_explain.specs.declared.causes.Silence.TheVariants.{NotSent, NotA
 use Rattle.coap_explain.specs.declared.causes.Unprocessed.{Unprocessed}
 use Rattle.coap_explain.specs.declared.causes.Unprocessed.TheVariants as unprocessed
 use Rattle.coap_explain.specs.declared.lacks.Lack.{Lack}
-use Rattle.coap_explain.specs.declared.lacks.Share.{Share}
-use Rattle.coap_explain.specs.declared.lacks.Share.TheVariants as shares
+use Rattle.coap_explain.specs.declared.lacks.Need.{Need}
+use Rattle.coap_explain.specs.declared.lacks.Need.TheVariants as needs
 
 -- ---- outcomes
 
@@ -59,33 +59,33 @@ storing_word NotStored = codes "not stored"
 -- ---- causes
 
 -- what is lacking: its name in an account, and its key in a log
-abbrev pub share_name : Share → List ℕ
-share_name shares.Exchanges = codes "exchanges"
-share_name shares.ClientExchanges = codes "client exchanges"
-share_name shares.Waiters = codes "waiters"
-share_name shares.ClientWaiters = codes "client waiters"
-share_name shares.Con = codes "con"
-share_name shares.ClientCon = codes "client con"
-share_name shares.Non = codes "non"
-share_name shares.ClientNon = codes "client non"
-share_name shares.Ids = codes "ids"
+abbrev pub need_name : Need → List ℕ
+need_name needs.Exchanges = codes "exchanges"
+need_name needs.ClientExchanges = codes "client exchanges"
+need_name needs.Waiters = codes "waiters"
+need_name needs.ClientWaiters = codes "client waiters"
+need_name needs.Con = codes "con"
+need_name needs.ClientCon = codes "client con"
+need_name needs.Non = codes "non"
+need_name needs.ClientNon = codes "client non"
+need_name needs.Ids = codes "ids"
 
-abbrev pub share_key : Share → List ℕ
-share_key shares.ClientExchanges = codes "client_exchanges"
-share_key shares.ClientWaiters = codes "client_waiters"
-share_key shares.ClientCon = codes "client_con"
-share_key shares.ClientNon = codes "client_non"
-share_key shares.Exchanges = share_name shares.Exchanges
-share_key shares.Waiters = share_name shares.Waiters
-share_key shares.Con = share_name shares.Con
-share_key shares.Non = share_name shares.Non
-share_key shares.Ids = share_name shares.Ids
+abbrev pub need_key : Need → List ℕ
+need_key needs.ClientExchanges = codes "client_exchanges"
+need_key needs.ClientWaiters = codes "client_waiters"
+need_key needs.ClientCon = codes "client_con"
+need_key needs.ClientNon = codes "client_non"
+need_key needs.Exchanges = need_name needs.Exchanges
+need_key needs.Waiters = need_name needs.Waiters
+need_key needs.Con = need_name needs.Con
+need_key needs.Non = need_name needs.Non
+need_key needs.Ids = need_name needs.Ids
 
--- how much of it is taken, and how much there may be
+-- how much of it is in use, and how much there may be
 abbrev pub lack_text : Option Lack → List ℕ
 lack_text None = []
 lack_text (Some l) =
-    codes " " ++ share_name l.share ++ codes " " ++ decimal l.count ++ codes "/"
+    codes " " ++ need_name l.need ++ codes " " ++ decimal l.count ++ codes "/"
     ++ decimal l.limit
 
 abbrev pub lacks_text : List (Option Lack) → List ℕ

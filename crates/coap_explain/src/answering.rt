@@ -7,7 +7,7 @@ ghost use Rattle.coap_explain.specs.Noted as spec;
 use crate::causes::BadGateway;
 use coap_core::{Core, Event, Exchange, Moment};
 use coap_endpoint::Endpoint;
-use coap_forward::{SentRequest, answer_of};
+use coap_forward::{AnsweredRequest, answer_of};
 use coap_message::{Kind, MessageRef};
 use coap_store::Store;
 use std::alloc::Global;
@@ -78,7 +78,7 @@ impl Answering {
         ensures { is_known result ≡ true
             → result ≡ spec.answering_for core.now now response.now exchange.now }
     {
-        let request = SentRequest {
+        let request = AnsweredRequest {
             is_get: exchange.is_get,
             copy: exchange.copy.as_ref(),
         };

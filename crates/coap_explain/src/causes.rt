@@ -9,7 +9,7 @@ ghost use Rattle.coap_explain.specs.Account as text;
 ghost use Rattle.coap_explain.specs.Causes.{gateway_of, is_other_tag, refusal_of, unprocessed_message, unprocessed_of};
 ghost use Rattle.coap_explain.specs.Words as spec;
 
-use crate::lacks::{Lack, Lacks, Share, Usage};
+use crate::lacks::{Lack, Lacks, Need, Usage};
 use coap_core::{Core, Exchange};
 use coap_endpoint::Endpoint;
 use coap_message::{Code, Kind, MessageRef};
@@ -18,39 +18,39 @@ use coap_store::{Store, tag_of};
 use std::io;
 use std::io::Write;
 
-impl Share {
-    /// The name of a share, as an account has it.
+impl Need {
+    /// The name of a need, as an account has it.
     fn name(self) -> &'static str
-        ensures { result.now ≡ spec.share_name self }
+        ensures { result.now ≡ spec.need_name self }
     {
         match self {
-            Share::Exchanges => "exchanges",
-            Share::ClientExchanges => "client exchanges",
-            Share::Waiters => "waiters",
-            Share::ClientWaiters => "client waiters",
-            Share::Con => "con",
-            Share::ClientCon => "client con",
-            Share::Non => "non",
-            Share::ClientNon => "client non",
-            Share::Ids => "ids",
+            Need::Exchanges => "exchanges",
+            Need::ClientExchanges => "client exchanges",
+            Need::Waiters => "waiters",
+            Need::ClientWaiters => "client waiters",
+            Need::Con => "con",
+            Need::ClientCon => "client con",
+            Need::Non => "non",
+            Need::ClientNon => "client non",
+            Need::Ids => "ids",
         }
     }
 
     /// The same as a key of a log.
     pub(crate) fn key(self) -> &'static str
-        ensures { result.now ≡ spec.share_key self }
+        ensures { result.now ≡ spec.need_key self }
     {
         match self {
-            Share::ClientExchanges => "client_exchanges",
-            Share::ClientWaiters => "client_waiters",
-            Share::ClientCon => "client_con",
-            Share::ClientNon => "client_non",
-            Share::Exchanges | Share::Waiters | Share::Con | Share::Non | Share::Ids => self.name(),
+            Need::ClientExchanges => "client_exchanges",
+            Need::ClientWaiters => "client_waiters",
+            Need::ClientCon => "client_con",
+            Need::ClientNon => "client_non",
+            Need::Exchanges | Need::Waiters | Need::Con | Need::Non | Need::Ids => self.name(),
         }
     }
 }
 
-/// Adds what is lacking of a share, if anything is: `NAME COUNT/LIMIT`.
+/// Adds what is lacking of a need, if anything is: `NAME COUNT/LIMIT`.
 fn put_lack<W: Write>(line: &mut W, lack: Option<Lack>) -> io::Result<()>
     ensures { OnOk result (Appends (W.contents line.old) (W.contents line.new)
         (spec.lack_text lack)) }
@@ -58,11 +58,11 @@ fn put_lack<W: Write>(line: &mut W, lack: Option<Lack>) -> io::Result<()>
     let Some(lack) = lack else {
         return Ok(());
     };
-    let (name, count, limit) = (lack.share.name(), lack.count, lack.limit);
+    let (name, count, limit) = (lack.need.name(), lack.count, lack.limit);
     write!(line, " {name} {count}/{limit}")
 }
 
-/// Adds what is lacking of each share.
+/// Adds what is lacking of each need.
 pub(crate) fn put_lacks<W: Write>(line: &mut W, lacks: &Lacks) -> io::Result<()>
     ensures { OnOk result (Appends (W.contents line.old) (W.contents line.new)
         (spec.lacks_text lacks.now)) }

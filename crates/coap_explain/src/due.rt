@@ -35,7 +35,7 @@ pub(crate) struct DueExchange {
     /// How often its request was sent.
     pub(crate) sends: u8,
     /// When it was opened, in milliseconds.
-    pub(crate) admitted: Moment,
+    pub(crate) opened_at: Moment,
     /// How many clients wait for it.
     pub(crate) waiting: u64,
     /// Why there is no answer, if none comes any more.
@@ -54,7 +54,7 @@ pub(crate) struct DueClient {
 
 /// What a tick is about, as it is before that.
 #[derive(Clone, Copy, Debug, PartialEq, Eq)]
-pub(crate) enum Due {
+pub(crate) enum TickSubject {
     Nothing,
     Exchange(DueExchange),
     Client(DueClient),
@@ -98,7 +98,7 @@ impl DueExchange {
             origin: exchange.key.target.at,
             id,
             sends,
-            admitted: exchange.admitted,
+            opened_at: exchange.opened_at,
             waiting: waiting as u64,
             silence: silence_of(&exchange.state),
             answer: answer_of(&exchange.state),
@@ -113,7 +113,7 @@ impl DueExchange {
             Some(answer) => answer.got,
             None => now,
         };
-        until.saturating_sub(self.admitted)
+        until.saturating_sub(self.opened_at)
     }
 
     /// Adds its origin, how often its request was sent, and how long it took.
@@ -155,43 +155,44 @@ impl DueClient {
     }
 }
 
-impl Due {
+impl TickSubject {
     /// What the next tick of a core is about.
-    pub(crate) fn of<S: Store + Drop>(core: &Core<S>) -> Due
+    pub(crate) fn of<S: Store + Drop>(core: &Core<S>) -> TickSubject
         ensures { result ≡ spec.due_of core.now }
     {
         if let Some(exchange) = core.due_exchange() {
-            return Due::Exchange(DueExchange::of(exchange, core.due_waiting()));
+            return TickSubject::Exchange(DueExchange::of(exchange, core.due_waiting()));
         }
         let Some(waiter) = core.due_waiter() else {
-            return Due::Nothing;
+            return TickSubject::Nothing;
         };
         match DueClient::of(waiter) {
-            Some(client) => Due::Client(client),
-            None => Due::Nothing,
+            Some(client) => TickSubject::Client(client),
+            None => TickSubject::Nothing,
         }
     }
 }
 
-/// A response that came for an exchange, and why a client gets 5.02, if it does.
+/// A response that came for an exchange, and why a client gets 5.02, if it does. What becomes of
+/// the response isn't found here, as `Answering` finds it for `--explain`: that may allocate.
 #[derive(Clone, Copy, Debug, PartialEq, Eq)]
-pub(crate) struct Came {
+pub(crate) struct ResponseCause {
     pub(crate) origin: Endpoint,
     /// The Message ID of the exchange's request.
     pub(crate) id: u16,
     pub(crate) cause: BadGateway,
 }
 
-impl Came {
+impl ResponseCause {
     /// What an event brings to an exchange of a core, if it does.
-    pub(crate) fn of<S: Store + Drop>(event: Event<'_>, core: &Core<S>) -> Option<Came>
-        ensures { result ≡ spec.came_of core.now (seen event.entry) }
+    pub(crate) fn of<S: Store + Drop>(event: Event<'_>, core: &Core<S>) -> Option<ResponseCause>
+        ensures { result ≡ spec.response_cause_of core.now (seen event.entry) }
     {
         let Event::Datagram { from, bytes } = event else {
             return None;
         };
         match MessageRef::read(bytes) {
-            Ok(message) => Came::of_message(from, &message, core),
+            Ok(message) => ResponseCause::of_message(from, &message, core),
             Err(_) => None,
         }
     }
@@ -201,11 +202,11 @@ impl Came {
         from: Endpoint,
         message: &MessageRef<'_>,
         core: &Core<S>,
-    ) -> Option<Came>
-        ensures { result ≡ spec.came_with core.now from message.now }
+    ) -> Option<ResponseCause>
+        ensures { result ≡ spec.response_cause_with core.now from message.now }
     {
         if message.kind() == Kind::Rst {
-            return Some(Came {
+            return Some(ResponseCause {
                 origin: from,
                 id: message.id(),
                 cause: BadGateway::Reset,
@@ -215,15 +216,19 @@ impl Came {
             return None;
         }
         let exchange = core.awaited(from, message)?;
-        Came::for_exchange(from, message, exchange)
+        ResponseCause::for_exchange(from, message, exchange)
     }
 
     /// What a response brings to the exchange that awaits it.
-    fn for_exchange(from: Endpoint, response: &MessageRef<'_>, exchange: &Exchange) -> Option<Came>
-        ensures { result ≡ spec.came_for from response.now exchange.now }
+    fn for_exchange(
+        from: Endpoint,
+        response: &MessageRef<'_>,
+        exchange: &Exchange,
+    ) -> Option<ResponseCause>
+        ensures { result ≡ spec.response_cause_for from response.now exchange.now }
     {
         match exchange.sending {
-            Some(sending) => Some(Came {
+            Some(sending) => Some(ResponseCause {
                 origin: from,
                 id: sending.id,
                 cause: BadGateway::of(response, Some(exchange)),

@@ -7,8 +7,8 @@ ghost use Rattle.coap_model.specs.declared.report.Storing.TheVariants as storing
 ghost use Rattle.coap_explain.specs.declared.causes.BadGateway.TheVariants as gateways;
 ghost use Rattle.coap_explain.specs.declared.causes.Refusal.TheVariants as refusals;
 ghost use Rattle.coap_explain.specs.declared.causes.Unprocessed.TheVariants as unprocessed;
-ghost use Rattle.coap_explain.specs.declared.lacks.Share.TheVariants as shares;
-ghost use Rattle.coap_explain.specs.declared.taken.Taken.TheVariants as ways;
+ghost use Rattle.coap_explain.specs.declared.lacks.Need.TheVariants as needs;
+ghost use Rattle.coap_explain.specs.declared.routed.Routed.TheVariants as ways;
 ghost use Rattle.coap_explain.specs.Causes.{refusal_of, unprocessed_of};
 ghost use Rattle.coap_model.specs.Examples as runs;
 ghost use Rattle.coap_explain.specs.Account.{line_of, line_text};
@@ -49,8 +49,8 @@ pub fn unprocessed_in_words()
 /// What is lacking, and codes.
 pub fn numbers_in_words()
     ensures lacks { spec.lacks_text
-        (Some (record { share = shares.ClientCon; count = 17; limit = 16 }) ∷ None
-        ∷ Some (record { share = shares.Ids; count = 32767; limit = 32768 }) ∷ [])
+        (Some (record { need = needs.ClientCon; count = 17; limit = 16 }) ∷ None
+        ∷ Some (record { need = needs.Ids; count = 32767; limit = 32768 }) ∷ [])
         ≡ codes " client con 17/16 ids 32767/32768" }
     ensures content { spec.code_text (code_of 2 5) ≡ codes "2.05" }
     ensures too_large { spec.code_text (code_of 4 13) ≡ codes "4.13" }

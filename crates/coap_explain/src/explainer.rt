@@ -9,10 +9,10 @@ ghost use Rattle.coap_explain.specs.Says.{IsSaid, Says};
 
 use crate::answering::Answering;
 use crate::causes::joins;
-use crate::due::Due;
+use crate::due::TickSubject;
 use crate::messages::{put_endpoint, put_kind, put_target};
-use crate::outcomes::{Before, put_outcome};
-use crate::taken::Taken;
+use crate::outcomes::{Noted, put_outcome};
+use crate::routed::Routed;
 use coap_core::{Core, Event, Watch, WatchedTurn};
 use coap_message::{MessageRef, Moment, OutOfMemory};
 use coap_store::Store;
@@ -36,7 +36,7 @@ pub struct Explainer<W: Write> {
     line: Vec<u8>,
     /// The time of day of the line, with a blank behind it.
     time: Vec<u8>,
-    due: Due,
+    due: TickSubject,
     /// The URI of the target that the exchange that is due has.
     target: Vec<u8>,
     answering: Answering,
@@ -129,15 +129,15 @@ fn put_head(line: &mut Vec<u8>, number: u64, now: Moment, time: &[u8]) -> io::Re
     line.write_all(time)
 }
 
-/// Adds what came, and where its request is taken.
-fn put_event(line: &mut Vec<u8>, event: Event<'_>, taken: &Taken) -> io::Result<()>
+/// Adds what came, and where its request is routed.
+fn put_event(line: &mut Vec<u8>, event: Event<'_>, routed: &Routed) -> io::Result<()>
     ensures { OnOk result (line.new.items
         ≡ line.old.items ++ spec.source_text (seen event.entry)
-        ++ spec.message_text (seen event.entry) ++ spec.taken_text taken.now) }
+        ++ spec.message_text (seen event.entry) ++ spec.routed_text routed.now) }
 {
     put_source(line, event)?;
     put_message(line, event)?;
-    taken.put(line)
+    routed.put(line)
 }
 
 /// What a line says beside its turn.
@@ -146,8 +146,8 @@ struct Beside<'a> {
     /// The time of day, with a blank behind it.
     time: &'a [u8],
     /// Where the routes take the request.
-    taken: &'a Taken,
-    before: Before<'a>,
+    routed: &'a Routed,
+    noted: Noted<'a>,
 }
 
 /// Adds the line of a turn.
@@ -160,11 +160,11 @@ fn put_line<S: Store + Drop>(
     ensures { OnOk result (line.new.items
         ≡ line.old.items
         ++ spec.line_text (spec.line_of (told turn.entry core.now) beside.entry.time.now
-        beside.entry.taken.now (spec.noted_seen beside.entry.before))) }
+        beside.entry.routed.now (spec.noted_seen beside.entry.noted))) }
 {
     put_head(line, core.events(), turn.now, beside.time)?;
-    put_event(line, turn.event, beside.taken)?;
-    put_outcome(line, core, turn, beside.before)?;
+    put_event(line, turn.event, beside.routed)?;
+    put_outcome(line, core, turn, beside.noted)?;
     line.write_all(b"\n")
 }
 
@@ -182,7 +182,7 @@ impl<W: Write> Explainer<W> {
             output,
             line: Vec::with_capacity(alloc, ROOM)?,
             time: Vec::with_capacity(alloc, TIME_ROOM)?,
-            due: Due::Nothing,
+            due: TickSubject::Nothing,
             target: Vec::with_capacity(alloc, ROOM)?,
             answering: Answering::Passed,
             since: None,
@@ -210,11 +210,11 @@ impl<W: Write> Explainer<W> {
     {
         self.time.clear();
         put_time(&mut self.time, self.since, turn.now)?;
-        let taken = Taken::of(self.alloc, turn.event, core.routes());
+        let routed = Routed::of(self.alloc, turn.event, core.routes());
         let beside = Beside {
             time: self.time.as_slice(),
-            taken: &taken,
-            before: Before {
+            routed: &routed,
+            noted: Noted {
                 due: self.due,
                 target: self.target.as_slice(),
                 answering: self.answering,
@@ -245,7 +245,7 @@ impl<W: Write> Watch for Explainer<W> {
     fn foresee<S: Store + Drop>(&mut self, turn: WatchedTurn<'_>, core: &Core<S>) {
         match turn.event {
             Event::Tick => {
-                self.due = Due::of(core);
+                self.due = TickSubject::of(core);
                 note_target(&mut self.target, core);
             }
             Event::Datagram { .. } => {

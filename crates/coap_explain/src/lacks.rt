@@ -11,7 +11,7 @@ use coap_store::Store;
 
 /// What may be short: a table, as all share it or for one client, or the Message IDs.
 #[derive(Clone, Copy, Debug, PartialEq, Eq)]
-pub(crate) enum Share {
+pub(crate) enum Need {
     Exchanges,
     ClientExchanges,
     Waiters,
@@ -23,21 +23,22 @@ pub(crate) enum Share {
     Ids,
 }
 
-/// A share of which too little is left: how much is taken, and how much there may be.
+/// What is short: how much of it is in use, and how much there may be.
 #[derive(Clone, Copy, Debug, PartialEq, Eq)]
 pub(crate) struct Lack {
-    pub(crate) share: Share,
+    pub(crate) need: Need,
     pub(crate) count: u64,
     pub(crate) limit: u64,
 }
 
-/// What of a message's needs is lacking, if anything is: at most five shares.
+/// What of a message's needs is lacking, if anything is: at most five.
 pub(crate) type Lacks = [Option<Lack>; 5];
 
-/// The number of Message IDs that are given in 247 seconds (RFC 7252, 4.4): half of all.
+/// The most Message IDs that are given in a window of 247 seconds (RFC 7252, 4.4): half of all.
 const IDS: u64 = 32_768;
 
-/// How much is taken, of all and of one client, with the limits, and how many Message IDs are free.
+/// How much is in use, of all and of one client, with the limits, and how many Message IDs are
+/// free.
 #[derive(Clone, Copy)]
 pub(crate) struct Usage {
     pub(crate) all: Counts,
@@ -46,18 +47,14 @@ pub(crate) struct Usage {
     pub(crate) free_ids: u64,
 }
 
-/// A share of which none is left.
-fn full(share: Share, count: u64, limit: u64) -> Option<Lack>
-    ensures { result ≡ spec.full share count limit }
+/// A need of which none is left.
+fn full(need: Need, count: u64, limit: u64) -> Option<Lack>
+    ensures { result ≡ spec.full need count limit }
 {
     if count < limit {
         return None;
     }
-    Some(Lack {
-        share,
-        count,
-        limit,
-    })
+    Some(Lack { need, count, limit })
 }
 
 /// The Message IDs, if fewer are free than are needed.
@@ -68,7 +65,7 @@ fn short_of_ids(free: u64, needed: u64) -> Option<Lack>
         return None;
     }
     Some(Lack {
-        share: Share::Ids,
+        need: Need::Ids,
         count: IDS.saturating_sub(free),
         limit: IDS,
     })
@@ -110,9 +107,9 @@ impl Usage {
         [
             None,
             None,
-            full(Share::Waiters, self.all.waiters, self.limits.waiters),
+            full(Need::Waiters, self.all.waiters, self.limits.waiters),
             full(
-                Share::ClientWaiters,
+                Need::ClientWaiters,
                 self.own.waiters,
                 self.limits.client_waiters,
             ),
@@ -125,15 +122,15 @@ impl Usage {
         ensures { result ≡ spec.to_open self.now }
     {
         [
-            full(Share::Exchanges, self.all.exchanges, self.limits.exchanges),
+            full(Need::Exchanges, self.all.exchanges, self.limits.exchanges),
             full(
-                Share::ClientExchanges,
+                Need::ClientExchanges,
                 self.own.exchanges,
                 self.limits.client_exchanges,
             ),
-            full(Share::Waiters, self.all.waiters, self.limits.waiters),
+            full(Need::Waiters, self.all.waiters, self.limits.waiters),
             full(
-                Share::ClientWaiters,
+                Need::ClientWaiters,
                 self.own.waiters,
                 self.limits.client_waiters,
             ),
@@ -148,18 +145,18 @@ impl Usage {
     {
         let (all, own) = if kind == Kind::Con {
             (
-                full(Share::Con, self.all.con_records, self.limits.con_records),
+                full(Need::Con, self.all.con_records, self.limits.con_records),
                 full(
-                    Share::ClientCon,
+                    Need::ClientCon,
                     self.own.con_records,
                     self.limits.client_con_records,
                 ),
             )
         } else {
             (
-                full(Share::Non, self.all.non_records, self.limits.non_records),
+                full(Need::Non, self.all.non_records, self.limits.non_records),
                 full(
-                    Share::ClientNon,
+                    Need::ClientNon,
                     self.own.non_records,
                     self.limits.client_non_records,
                 ),

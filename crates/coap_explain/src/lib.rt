@@ -27,8 +27,8 @@ mod logger;
 mod messages;
 mod outcomes;
 mod ring;
+mod routed;
 mod silent;
-mod taken;
 
 pub use explainer::Explainer;
 pub use logger::Logger;

@@ -79,11 +79,11 @@ pub(crate) fn put_number(line: &mut Line, key: &str, number: u64) -> io::Result<
     write!(line, "{number}")
 }
 
-/// Adds what is lacking: for each share its count and its limit.
+/// Adds what is lacking: for each need its count and its limit.
 pub(crate) fn put_lacks(line: &mut Line, lacks: &Lacks) -> io::Result<()> {
     for lack in lacks.iter().flatten() {
         let (count, limit) = (lack.count, lack.limit);
-        line.key(lack.share.key());
+        line.key(lack.need.key());
         write!(line, "{count}/{limit}")?;
     }
     Ok(())

@@ -1,7 +1,7 @@
 //! A watcher that logs what goes wrong.
 
 use crate::causes::{BadGateway, Silence, joins, overload_of};
-use crate::due::{Came, Due, DueAnswer, DueExchange};
+use crate::due::{DueAnswer, DueExchange, ResponseCause, TickSubject};
 use crate::lacks::{Lacks, Usage};
 use crate::log_fields::{
     Cause, NotedCause, TargetText, put_cause, put_exchange, put_lacks, put_number, put_peer,
@@ -39,8 +39,8 @@ pub struct Logger<W: Write> {
     left_out: u64,
     /// Whether the output took only a part of the last line.
     torn: bool,
-    due: Due,
-    came: Option<Came>,
+    due: TickSubject,
+    response: Option<ResponseCause>,
     causes: Ring<NotedCause>,
     silent: SilentOrigins,
     holders: Holders,
@@ -56,7 +56,7 @@ impl<W: Write + Drop> Drop for Logger<W> {
             left_out: _,
             torn: _,
             due: _,
-            came: _,
+            response: _,
             causes: _,
             silent: _,
             holders: _,
@@ -82,8 +82,8 @@ impl<W: Write + Drop> Logger<W> {
             limiter: Limiter::new(),
             left_out: 0,
             torn: false,
-            due: Due::Nothing,
-            came: None,
+            due: TickSubject::Nothing,
+            response: None,
             causes: Ring::new(alloc, CAUSES)?,
             silent: SilentOrigins::new(alloc)?,
             holders: Holders::new(alloc, limits)?,
@@ -158,10 +158,10 @@ impl<W: Write> Logger<W> {
 
     /// Notes that an exchange was given up, and logs it.
     fn on_given_up(&mut self, now: Moment) {
-        let Due::Exchange(exchange) = self.due else {
+        let TickSubject::Exchange(exchange) = self.due else {
             return;
         };
-        self.silent.note(exchange.origin, exchange.admitted);
+        self.silent.note(exchange.origin, exchange.opened_at);
         if let Some(id) = exchange.id {
             self.causes.note(NotedCause {
                 origin: exchange.origin,
@@ -175,18 +175,19 @@ impl<W: Write> Logger<W> {
 
     /// Notes why an exchange got an answer of the proxy's own, if it is for what came.
     fn note_answer(&mut self, now: Moment) {
-        let Some(came) = self.came else {
+        let Some(response) = self.response else {
             return;
         };
-        match came.cause {
-            // That is what is left if no other cause is known, and here it may be no cause at all.
+        match response.cause {
+            // `ResponseCause::of` says so of every response that has no other fault, also of those
+            // that are passed on; `cause_of` falls back on it.
             BadGateway::TooLong => {}
             BadGateway::Reset | BadGateway::Option(_) | BadGateway::Tag => {
                 self.causes.note(NotedCause {
-                    origin: came.origin,
-                    id: came.id,
+                    origin: response.origin,
+                    id: response.id,
                     got: now,
-                    cause: Cause::BadGateway(came.cause),
+                    cause: Cause::BadGateway(response.cause),
                 });
             }
         }
@@ -216,7 +217,7 @@ impl<W: Write> Logger<W> {
 
     /// Logs that a client was sent an answer that is logged.
     fn on_delivered(&mut self, client: Option<Endpoint>, now: Moment) {
-        let Due::Exchange(exchange) = self.due else {
+        let TickSubject::Exchange(exchange) = self.due else {
             return;
         };
         let (Some(client), Some(answer)) = (client, exchange.answer) else {
@@ -395,16 +396,16 @@ impl<W: Write> Logger<W> {
 
     /// Notes what the next tick is about; its target only if that may be logged.
     fn note_due<S: Store + Drop>(&mut self, core: &Core<S>, now: Moment) {
-        self.due = Due::of(core);
+        self.due = TickSubject::of(core);
         let Some(exchange) = core.due_exchange() else {
             return;
         };
         let may_be_told = match self.due {
-            Due::Exchange(due) => match due.answer {
+            TickSubject::Exchange(due) => match due.answer {
                 Some(answer) => is_logged(answer.code),
-                None => now > due.admitted,
+                None => now > due.opened_at,
             },
-            Due::Client(_) | Due::Nothing => false,
+            TickSubject::Client(_) | TickSubject::Nothing => false,
         };
         if may_be_told {
             self.target.take(&exchange.key.target);
@@ -419,7 +420,7 @@ impl<W: Write> Watch for Logger<W> {
     fn foresee<S: Store + Drop>(&mut self, turn: WatchedTurn<'_>, core: &Core<S>) {
         match turn.event {
             Event::Tick => self.note_due(core, turn.now),
-            Event::Datagram { .. } => self.came = Came::of(turn.event, core),
+            Event::Datagram { .. } => self.response = ResponseCause::of(turn.event, core),
         }
     }
 

@@ -8,7 +8,7 @@ ghost use Rattle.coap_explain.specs.Words as spec;
 
 use crate::answering::Answering;
 use crate::causes::{overload_of, put_lacks, put_refusal, put_unprocessed};
-use crate::due::Due;
+use crate::due::TickSubject;
 use crate::lacks::Usage;
 use crate::messages::{put_code, put_endpoint, put_sent};
 use coap_core::{Core, Event, Outcome, Report, Storing, WatchedTurn};
@@ -20,14 +20,15 @@ use std::io::Write;
 
 /// What was noted of a turn before its step, and what its request meets after it.
 #[derive(Clone, Copy)]
-pub(crate) struct Before<'a> {
+pub(crate) struct Noted<'a> {
     /// What a tick is about.
-    pub(crate) due: Due,
+    pub(crate) due: TickSubject,
     /// The URI of the target of the exchange that is due.
     pub(crate) target: &'a [u8],
     /// What is made of a response.
     pub(crate) answering: Answering,
-    /// Whether a GET with the key of the last request could have shared an exchange's answer.
+    /// Whether a GET with the key of the last request could have shared an exchange's answer: found
+    /// after the step.
     pub(crate) joins: bool,
 }
 
@@ -94,7 +95,7 @@ fn put_answering(
             line.write_all(b" ")?;
             cause.put(line)
         }
-        Answering::Passed => put_stored(line, code, storing),
+        Answering::Passed => put_code_and_storing(line, code, storing),
         Answering::Unknown => line.write_all(b" answer: out of memory"),
     }
 }
@@ -116,7 +117,7 @@ fn put_answered(
 }
 
 /// Adds the code of an answer, and what the cache did with it.
-fn put_stored(line: &mut Vec<u8>, code: Code, storing: Storing) -> io::Result<()>
+fn put_code_and_storing(line: &mut Vec<u8>, code: Code, storing: Storing) -> io::Result<()>
     ensures { OnOk result (line.new.items
         ≡ line.old.items ++ codes " " ++ spec.code_text code ++ codes " "
         ++ spec.storing_word storing) }
@@ -214,12 +215,12 @@ fn put_arrived<S: Store + Drop>(
     core: &Core<S>,
     outcome: Outcome,
     arrived: Arrived<'_>,
-    before: Before<'_>,
+    noted: Noted<'_>,
 ) -> io::Result<()>
     ensures { OnOk result (line.new.items
         ≡ line.old.items
         ++ text.arrived_text outcome arrived.entry.from arrived.entry.bytes.now
-        arrived.entry.sent.now core.now (text.noted_seen before.entry)) }
+        arrived.entry.sent.now core.now (text.noted_seen noted.entry)) }
 {
     let (bytes, sent) = (arrived.bytes, arrived.sent);
     match outcome {
@@ -229,9 +230,9 @@ fn put_arrived<S: Store + Drop>(
         Outcome::Again | Outcome::Hit | Outcome::Joined | Outcome::Opened => put_sent(line, sent),
         Outcome::NoRecordRoom => put_dropped(line, core, arrived),
         Outcome::Refused(code) => put_refused(line, code, bytes),
-        Outcome::Overloaded => put_overloaded(line, core, arrived, before.joins),
+        Outcome::Overloaded => put_overloaded(line, core, arrived, noted.joins),
         Outcome::NoId | Outcome::Acked => Ok(()),
-        Outcome::Answered { storing } => put_answered(line, before.answering, bytes, storing),
+        Outcome::Answered { storing } => put_answered(line, noted.answering, bytes, storing),
         // a tick's
         Outcome::SentRequest
         | Outcome::Resent
@@ -242,34 +243,34 @@ fn put_arrived<S: Store + Drop>(
 }
 
 /// Adds what was given up: a request to an origin, or the delivery of an answer to a client.
-fn put_given_up(line: &mut Vec<u8>, now: Moment, before: Before<'_>) -> io::Result<()>
+fn put_given_up(line: &mut Vec<u8>, now: Moment, noted: Noted<'_>) -> io::Result<()>
     ensures { OnOk result (line.new.items
         ≡ line.old.items
-        ++ text.given_up_text before.entry.due before.entry.target.now now) }
+        ++ text.given_up_text noted.entry.due noted.entry.target.now now) }
 {
-    match before.due {
-        Due::Exchange(exchange) => {
+    match noted.due {
+        TickSubject::Exchange(exchange) => {
             line.write_all(b" ")?;
-            line.write_all(before.target)?;
+            line.write_all(noted.target)?;
             exchange.put(line, now)
         }
-        Due::Client(client) => client.put(line, now),
-        Due::Nothing => Ok(()),
+        TickSubject::Client(client) => client.put(line, now),
+        TickSubject::Nothing => Ok(()),
     }
 }
 
 /// Adds the exchange that an answer is of.
-fn put_of(line: &mut Vec<u8>, now: Moment, before: Before<'_>) -> io::Result<()>
+fn put_of(line: &mut Vec<u8>, now: Moment, noted: Noted<'_>) -> io::Result<()>
     ensures { OnOk result (line.new.items
-        ≡ line.old.items ++ text.of_text before.entry.due before.entry.target.now now) }
+        ≡ line.old.items ++ text.of_text noted.entry.due noted.entry.target.now now) }
 {
-    match before.due {
-        Due::Exchange(exchange) => {
+    match noted.due {
+        TickSubject::Exchange(exchange) => {
             line.write_all(b" of ")?;
-            line.write_all(before.target)?;
+            line.write_all(noted.target)?;
             exchange.put(line, now)
         }
-        Due::Client(_) | Due::Nothing => Ok(()),
+        TickSubject::Client(_) | TickSubject::Nothing => Ok(()),
     }
 }
 
@@ -279,20 +280,20 @@ fn put_due(
     report: Report,
     sent: &[u8],
     now: Moment,
-    before: Before<'_>,
+    noted: Noted<'_>,
 ) -> io::Result<()>
     ensures { OnOk result (line.new.items
         ≡ line.old.items
         ++ text.ticked_text report.outcome report.send sent.now now
-        (text.noted_seen before.entry)) }
+        (text.noted_seen noted.entry)) }
 {
     match report.outcome {
         Outcome::SentRequest | Outcome::Resent => put_sent_to(line, report.send, sent),
         Outcome::Delivered => {
             put_sent_to(line, report.send, sent)?;
-            put_of(line, now, before)
+            put_of(line, now, noted)
         }
-        Outcome::GaveUp => put_given_up(line, now, before),
+        Outcome::GaveUp => put_given_up(line, now, noted),
         Outcome::Idle => Ok(()),
         // a datagram's
         Outcome::Ignored
@@ -316,12 +317,12 @@ fn put_details<S: Store + Drop>(
     core: &Core<S>,
     turn: WatchedTurn<'_>,
     report: Report,
-    before: Before<'_>,
+    noted: Noted<'_>,
 ) -> io::Result<()>
     ensures { OnOk result (line.new.items
         ≡ line.old.items
         ++ text.done_text (seen turn.entry.event) report turn.entry.sent.now turn.entry.now
-        core.now (text.noted_seen before.entry)) }
+        core.now (text.noted_seen noted.entry)) }
 {
     match turn.event {
         Event::Datagram { from, bytes } => {
@@ -330,9 +331,9 @@ fn put_details<S: Store + Drop>(
                 bytes,
                 sent: turn.sent,
             };
-            put_arrived(line, core, report.outcome, arrived, before)
+            put_arrived(line, core, report.outcome, arrived, noted)
         }
-        Event::Tick => put_due(line, report, turn.sent, turn.now, before),
+        Event::Tick => put_due(line, report, turn.sent, turn.now, noted),
     }
 }
 
@@ -341,16 +342,16 @@ pub(crate) fn put_outcome<S: Store + Drop>(
     line: &mut Vec<u8>,
     core: &Core<S>,
     turn: WatchedTurn<'_>,
-    before: Before<'_>,
+    noted: Noted<'_>,
 ) -> io::Result<()>
     ensures { OnOk result (line.new.items
         ≡ line.old.items ++ text.outcome_text turn.entry.report
         ++ text.details_of (seen turn.entry.event) turn.entry.report turn.entry.sent.now
-        turn.entry.now core.now (text.noted_seen before.entry)) }
+        turn.entry.now core.now (text.noted_seen noted.entry)) }
 {
     let Some(report) = turn.report else {
         return line.write_all(b" out of memory");
     };
     put_word(line, report.outcome)?;
-    put_details(line, core, turn, report, before)
+    put_details(line, core, turn, report, noted)
 }

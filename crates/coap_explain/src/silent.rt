@@ -20,7 +20,8 @@ struct SilentOrigin {
 #[derive(Drop)]
 pub(crate) struct SilentOrigins {
     all: Ring<SilentOrigin>,
-    /// How many were noted and not heard since, of those that are known or were.
+    /// How many were noted and not heard since, with those that the ring has lost: while it is 0,
+    /// `hear` needn't look.
     noted: u64,
 }
 

@@ -19,7 +19,7 @@ use Rattle.coap_option.proofs.Clean.{AreClean, IsClean}
 use Rattle.coap_endpoint.specs.declared.target.Target.{Target}
 use Rattle.coap_endpoint.specs.Target.{IsPort, IsShort, IsTarget}
 use Rattle.coap_store.proofs.Picked.{AreOptions-filter, AreOptions-weaken}
-use Rattle.coap_forward.specs.Forms.{is_used_up, goes_on, host_options, port_options, scheme_options, put_in, merged, target_options, tagged, forwarded}
+use Rattle.coap_forward.specs.Forms.{is_used_up, is_forwarded, host_options, port_options, scheme_options, put_in, merged, target_options, tagged, forwarded}
 use Rattle.coap_forward.specs.Messages.{is_method}
 
 -- no option of a list is used up
@@ -35,11 +35,11 @@ unused-clean os none = go [] os none
     go passed (o ∷ rest) none' = (λ used. absurd (let e = sym used ∙ none'.0 in cc), go (passed ++ o ∷ []) rest none'.1)
 
 -- none of what goes on is used up
-goes-unused : (code : Code) (os : List Opt) → AreUnused (filter (goes_on code) os)
+goes-unused : (code : Code) (os : List Opt) → AreUnused (filter (is_forwarded code) os)
 goes-unused code [] = tt
 goes-unused code (o ∷ os) = go (is_used_up o.number) refl (is_tag_of_get code o.number && is_recognised Request o.number (length o.value) 0) (goes-unused code os)
   where
-    go : (u : Bool) → is_used_up o.number ≡ u → (t : Bool) → AreUnused (filter (goes_on code) os) → AreUnused (cond (not (u || t)) (o ∷ filter (goes_on code) os) (filter (goes_on code) os))
+    go : (u : Bool) → is_used_up o.number ≡ u → (t : Bool) → AreUnused (filter (is_forwarded code) os) → AreUnused (cond (not (u || t)) (o ∷ filter (is_forwarded code) os) (filter (is_forwarded code) os))
     go true e t rest = rest
     go false e true rest = rest
     go false e false rest = (e, rest)
@@ -120,7 +120,7 @@ target-options t is = host t.host is.host
 
 -- what is sent on is in order
 pub sent-options : (m : Message) → AreOptions 0 m.options → first_refused Request m.options ≡ None → AreOptions 0 (sent_on m)
-sent-options m are screened = subst (AreOptions 0) (sym (sent-screened m screened)) (AreOptions-filter (goes_on m.code) 0 m.options are)
+sent-options m are screened = subst (AreOptions 0) (sym (sent-screened m screened)) (AreOptions-filter (is_forwarded m.code) 0 m.options are)
 
 -- ---- the tag
 

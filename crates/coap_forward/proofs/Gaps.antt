@@ -31,7 +31,7 @@ use Rattle.coap_endpoint.specs.declared.target.Target.{Target}
 use Rattle.coap_endpoint.specs.Target.{IsPort, IsShort, IsTarget}
 use Rattle.coap_store.specs.Renewing.{below, above}
 use Rattle.coap_store.proofs.Picked.{AreOptions-above, AreOptions-filter, AreOptions-weaken}
-use Rattle.coap_forward.specs.Forms.{is_used_up, goes_on, put_in, merged, host_options, port_options, scheme_options, target_options, tagged}
+use Rattle.coap_forward.specs.Forms.{is_used_up, is_forwarded, put_in, merged, host_options, port_options, scheme_options, target_options, tagged}
 use Rattle.coap_forward.proofs.Forms.{AreUnused, IsShortTag, AreOptions-merged, filter-put_in, sent-screened, sent-unused, sent-options, tagged-options, tagged-unused}
 use Rattle.coap_forward.specs.declared.form.Gap.{Gap}
 use Rattle.coap_forward.specs.declared.form.Gap.TheVariants.{BeforeHost, BeforePort, BeforePath, BeforeQuery, BeforeScheme, Last}
@@ -99,7 +99,7 @@ in-gap Last number is = let lt = ltb-true 39 number is in omega arith
 -- the others in a gap are in order after what may stand before it
 pub AreOptions-others : (code : Code) (gap : Gap) (before : ℕ) (os : List Opt) → before ≤ floor_of gap → AreOptions 0 os → AreOptions before (others_in code gap os)
 AreOptions-others code gap before os le are =
-    AreOptions-above (λ o. is_in gap o.number && goes_on code o) before 0 os (λ o is. let low = in-gap gap o.number (first-holds (is_in gap o.number) (goes_on code o) is) in omega arith) are
+    AreOptions-above (λ o. is_in gap o.number && is_forwarded code o) before 0 os (λ o is. let low = in-gap gap o.number (first-holds (is_in gap o.number) (is_forwarded code o) is) in omega arith) are
 
 -- an option in a gap has a number below the one that it ends at
 below-end : (gap : Gap) (number : ℕ) → number < 65536 → is_in gap number ≡ true → number ≤ end_of gap
@@ -124,7 +124,7 @@ last-others code gap before os are le = go 0 os before are (within gap le)
 
     go : (low : ℕ) (rest : List Opt) (at : ℕ) → AreOptions low rest → at ≤ end_of gap → last_number at (others_in code gap rest) ≤ end_of gap
     go low [] at are' le' = le'
-    go low (o ∷ rest) at are' le' = pick (is_in gap o.number) refl (goes_on code o) (λ n small. go o.number rest n are'.3 small)
+    go low (o ∷ rest) at are' le' = pick (is_in gap o.number) refl (is_forwarded code o) (λ n small. go o.number rest n are'.3 small)
       where
         pick : (b : Bool) → is_in gap o.number ≡ b → (g : Bool) → ((n : ℕ) → n ≤ end_of gap → last_number n (others_in code gap rest) ≤ end_of gap) → last_number at (cond (b && g) (o ∷ others_in code gap rest) (others_in code gap rest)) ≤ end_of gap
         pick true e true more = more o.number (below-end gap o.number are'.1 e)
@@ -266,13 +266,13 @@ module _ (gap : Gap) where
       go false e b f both = none-below 0 (o ∷ os) are (leb-false (floor_of gap) (last_number o.number os) e)
 
 -- where the span of the options that are forwarded doesn't reach into a gap, none of them is in it
-pub no-others : (code : Code) (gap : Gap) (os : List Opt) → AreOptions 0 os → meets gap (span_of (filter (goes_on code) os)) ≡ false → others_in code gap os ≡ []
+pub no-others : (code : Code) (gap : Gap) (os : List Opt) → AreOptions 0 os → meets gap (span_of (filter (is_forwarded code) os)) ≡ false → others_in code gap os ≡ []
 no-others code gap os are misses =
-    fuse (λ o. is_in gap o.number) (goes_on code) os
-    ∙ none-met gap (filter (goes_on code) os) (AreOptions-filter (goes_on code) 0 os are) misses
+    fuse (λ o. is_in gap o.number) (is_forwarded code) os
+    ∙ none-met gap (filter (is_forwarded code) os) (AreOptions-filter (is_forwarded code) 0 os are) misses
 
 -- what a survey says of the options that are forwarded
-pub known-others : (m : Message) (survey : Survey) → IsSurvey m survey → survey.others ≡ span_of (filter (goes_on m.code) m.options)
+pub known-others : (m : Message) (survey : Survey) → IsSurvey m survey → survey.others ≡ span_of (filter (is_forwarded m.code) m.options)
 known-others m survey is = is.others ∙ ap span_of (sent-screened m is.screened)
 
 -- what lies between two numbers in a gap is in it
@@ -301,7 +301,7 @@ spans s (x ∷ xs) = spans (record { least = s.least; greatest = x.number }) xs
 pub whole-gap : (m : Message) (survey : Survey) (gap : Gap) (n : ℕ) → IsSurvey m survey → AreOptions 0 m.options → whole gap survey ≡ Some n → others_in m.code gap m.options ≡ from_number n m.options
 whole-gap m survey gap n is are takes = go (key_from survey) refl survey.others refl takes
   where
-    sent : key_from survey ≡ Some n → filter (goes_on m.code) m.options ≡ from_number n m.options
+    sent : key_from survey ≡ Some n → filter (is_forwarded m.code) m.options ≡ from_number n m.options
     sent e = sym (sent-screened m is.screened) ∙ (is-tail m survey n is are e).sent
 
     all : (os : List Opt) → from_number n m.options ≡ os → (g : ℕ) → IsGreatest g (span_of os) → is_in gap n ≡ true → is_in gap g ≡ true → filter (λ o. is_in gap o.number) os ≡ os
@@ -321,7 +321,7 @@ whole-gap m survey gap n is are takes = go (key_from survey) refl survey.others 
             let same : k ≡ n = same_Some _ _ is' in
             let from : key_from survey ≡ Some n = e ∙ ap Some same in
             let greatest : IsGreatest span.greatest (span_of (from_number n m.options)) = subst (IsGreatest span.greatest) (sym f ∙ known-others m survey is ∙ ap span_of (sent from)) refl in
-            fuse (λ o. is_in gap o.number) (goes_on m.code) m.options ∙ ap (filter (λ o. is_in gap o.number)) (sent from)
+            fuse (λ o. is_in gap o.number) (is_forwarded m.code) m.options ∙ ap (filter (λ o. is_in gap o.number)) (sent from)
             ∙ all (from_number n m.options) refl span.greatest greatest (subst (λ (x : ℕ). is_in gap x ≡ true) same i) j
         pick true i false j is' = absurd cc
         pick false i b j is' = absurd cc
@@ -479,22 +479,22 @@ pub form-options : (t : Target) (tag : Option (List ℕ)) (m : Message) → IsTa
 form-options t tag m is short are screened =
     let os = sent_on m in
     let with = tagged tag os in
-    let sent : os ≡ filter (goes_on m.code) m.options = sent-screened m screened in
+    let sent : os ≡ filter (is_forwarded m.code) m.options = sent-screened m screened in
     let before_host : others_in m.code BeforeHost m.options ≡ below 3 with =
-    fuse (λ o. ltb o.number 3) (goes_on m.code) m.options ∙ ap (below 3) (sym sent) ∙ sym (below-tagged 3 tag os (omega arith))
+    fuse (λ o. ltb o.number 3) (is_forwarded m.code) m.options ∙ ap (below 3) (sym sent) ∙ sym (below-tagged 3 tag os (omega arith))
     in
     let before_port : tag_options tag ++ others_in m.code BeforePort m.options ≡ below 7 (above 3 with) =
-    ap (λ (l : List Opt). tag_options tag ++ l) (fuse-both (λ o. ltb 3 o.number) (λ o. ltb o.number 7) (goes_on m.code) m.options ∙ ap (λ (l : List Opt). below 7 (above 3 l)) (sym sent))
+    ap (λ (l : List Opt). tag_options tag ++ l) (fuse-both (λ o. ltb 3 o.number) (λ o. ltb o.number 7) (is_forwarded m.code) m.options ∙ ap (λ (l : List Opt). below 7 (above 3 l)) (sym sent))
     ∙ sym (between-tagged tag os)
     in
     let between = λ (low high : ℕ) (le : 4 ≤ low).
-    fuse-both (λ o. ltb low o.number) (λ o. ltb o.number high) (goes_on m.code) m.options ∙ ap (λ (l : List Opt). below high (above low l)) (sym sent) ∙ ap (below high) (sym (above-tagged low tag os le))
+    fuse-both (λ o. ltb low o.number) (λ o. ltb o.number high) (is_forwarded m.code) m.options ∙ ap (λ (l : List Opt). below high (above low l)) (sym sent) ∙ ap (below high) (sym (above-tagged low tag os le))
     in
     let before_path : others_in m.code BeforePath m.options ≡ below 11 (above 7 with) = between 7 11 (omega arith) in
     let before_query : others_in m.code BeforeQuery m.options ≡ below 15 (above 11 with) = between 11 15 (omega arith) in
     let before_scheme : others_in m.code BeforeScheme m.options ≡ below 39 (above 15 with) = between 15 39 (omega arith) in
     let last : others_in m.code Last m.options ≡ above 39 with =
-    fuse (λ o. ltb 39 o.number) (goes_on m.code) m.options ∙ ap (above 39) (sym sent) ∙ sym (above-tagged 39 tag os (omega arith))
+    fuse (λ o. ltb 39 o.number) (is_forwarded m.code) m.options ∙ ap (above 39) (sym sent) ∙ sym (above-tagged 39 tag os (omega arith))
     in
     in_pairs (others_in m.code BeforeHost m.options) (map (option_of 3) (given t.host)) (tag_options tag) (others_in m.code BeforePort m.options) (map (option_of 7) (given (port_value t.port)))
     (others_in m.code BeforePath m.options) (map (option_of 11) t.path) (others_in m.code BeforeQuery m.options) (map (option_of 15) t.query) (others_in m.code BeforeScheme m.options) (map (option_of 39) (given (scheme_value t.port))) (others_in m.code Last m.options)

@@ -22,7 +22,7 @@ use Rattle.coap_endpoint.specs.declared.target.Target.{Target}
 use Rattle.coap_endpoint.proofs.Lists.{All-weaken}
 use Rattle.coap_store.specs.Renewing.{tag_of}
 use Rattle.coap_store.specs.Showing.{is_content}
-use Rattle.coap_forward.specs.Forms.{is_used_up, goes_on, put_in, merged, target_options, tagged, forwarded, form_fits, tag_if_fits, tag_to_send, tag_for}
+use Rattle.coap_forward.specs.Forms.{is_used_up, is_forwarded, put_in, merged, target_options, tagged, forwarded, form_fits, tag_if_fits, tag_to_send, tag_for}
 use Rattle.coap_forward.specs.Gaps.{given}
 use Rattle.coap_forward.specs.Messages.{is_get}
 use Rattle.coap_forward.proofs.Forms.{All-target, IsTag, filter-put_in, in_key, sent-screened}
@@ -153,15 +153,15 @@ key-tagged (Some v) os is = filter-put_in (in_key GET) (option_of 4 v) os (ap (�
 -- ---- the tags of the request that is sent on
 
 -- of what goes on for a GET nothing is a recognised tag
-goes-untagged : (os : List Opt) → filter (counts Request 4) (filter (goes_on GET) os) ≡ []
+goes-untagged : (os : List Opt) → filter (counts Request 4) (filter (is_forwarded GET) os) ≡ []
 goes-untagged [] = refl
-goes-untagged (o ∷ os) = go (goes_on GET o) refl (counts Request 4 o) refl (goes-untagged os)
+goes-untagged (o ∷ os) = go (is_forwarded GET o) refl (counts Request 4 o) refl (goes-untagged os)
   where
     -- one that is stays
     stays : (n : ℕ) → n ≡ 4 → is_recognised Request 4 (length o.value) 0 ≡ true → not (is_used_up n || (is_tag_of_get GET n && is_recognised Request n (length o.value) 0)) ≡ false
     stays n e is = rw e (ap not is)
 
-    go : (b : Bool) → goes_on GET o ≡ b → (k : Bool) → counts Request 4 o ≡ k → filter (counts Request 4) (filter (goes_on GET) os) ≡ [] → filter (counts Request 4) (cond b (o ∷ filter (goes_on GET) os) (filter (goes_on GET) os)) ≡ []
+    go : (b : Bool) → is_forwarded GET o ≡ b → (k : Bool) → counts Request 4 o ≡ k → filter (counts Request 4) (filter (is_forwarded GET) os) ≡ [] → filter (counts Request 4) (cond b (o ∷ filter (is_forwarded GET) os) (filter (is_forwarded GET) os)) ≡ []
     go true e true f rest =
         let both = and_parts (o.number == 4) (is_recognised Request 4 (length o.value) 0) f in
         absurd (let g = sym e ∙ stays o.number (eqb-true o.number 4 both.0) both.1 in cc)
@@ -181,7 +181,7 @@ get-is code is = let same : ◌≡◌ {A = Code} (record { 0 = code.0 }) (record
 pub tags-forwarded : (token : List ℕ) (t : Target) (tag : Option (List ℕ)) (m : Message) (id : ℕ) → is_get m.code ≡ true → first_refused Request m.options ≡ None → IfSome tag IsTag → tags_of (forwarded token t tag m id) ≡ given tag
 tags-forwarded token t tag m id get screened is =
     let code = get-is m.code get in
-    let sent : sent_on m ≡ filter (goes_on GET) m.options = sent-screened m screened ∙ ap (λ (c : Code). filter (goes_on c) m.options) code in
+    let sent : sent_on m ≡ filter (is_forwarded GET) m.options = sent-screened m screened ∙ ap (λ (c : Code). filter (is_forwarded c) m.options) code in
     let none : filter (counts Request 4) (sent_on m) ≡ [] = ap (filter (counts Request 4)) sent ∙ goes-untagged m.options in
     ap (λ (s : Side). map (λ p. p.option.value) (filter (is_of s 4) (places (merged (target_options t) (tagged tag (sent_on m)))))) (ap side_of code)
     ∙ values-placed Request 4 (λ length before. refl) [] (merged (target_options t) (tagged tag (sent_on m)))

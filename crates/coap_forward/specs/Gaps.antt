@@ -8,7 +8,7 @@ use Rattle.coap_message.specs.Message.{Message}
 use Rattle.coap_message.specs.Options.{option_of}
 use Rattle.coap_message.specs.Uint.{uint_spelling}
 use Rattle.coap_option.specs.declared.numbers.TheConstants.{URI_HOST, ETAG, URI_PORT, URI_PATH, URI_QUERY, PROXY_SCHEME}
-use Rattle.coap_option.specs.Selection.{goes_on, sent_on}
+use Rattle.coap_option.specs.Selection.{is_forwarded, sent_on}
 use Rattle.coap_option.specs.declared.survey.Span.{Span}
 use Rattle.coap_option.specs.declared.survey.Survey.{Survey}
 use Rattle.coap_option.specs.Survey.{key_from}
@@ -59,7 +59,7 @@ end_of Last = 65535
 
 -- the options in a gap that are forwarded, of a request with this code
 abbrev pub others_in : Code → Gap → List Opt → List Opt
-others_in code gap options = filter (λ o. is_in gap o.number && goes_on code o) options
+others_in code gap options = filter (λ o. is_in gap o.number && is_forwarded code o) options
 
 -- a span of numbers reaches into the gap
 abbrev pub meets : Gap → Option Span → Bool

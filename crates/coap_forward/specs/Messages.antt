@@ -93,8 +93,9 @@ own_reply code options id token =
     record { kind = Non; code = code; id = id; token = token; options = options; payload = [] }
 
 -- 5.03, with the seconds after which to try again (RFC 7252, 5.9.3.4)
-abbrev pub busy_reply : ℕ → ℕ → List ℕ → Message
-busy_reply seconds id token = own_reply SERVICE_UNAVAILABLE (max_age_option seconds ∷ []) id token
+abbrev pub overload_reply : ℕ → ℕ → List ℕ → Message
+overload_reply seconds id token =
+    own_reply SERVICE_UNAVAILABLE (max_age_option seconds ∷ []) id token
 
 -- ---- replies that are sent at once
 

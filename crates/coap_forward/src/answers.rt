@@ -5,13 +5,13 @@ ghost use Rattle.coap_message.specs.declared.code.Code.{Code};
 ghost use Rattle.coap_message.specs.declared.kind.Kind.{Kind};
 ghost use Rattle.coap_message.specs.declared.kind.Kind.TheVariants.{Non};
 ghost use Rattle.coap_option.specs.declared.numbers.TheConstants.{OBSERVE};
-ghost use Rattle.coap_forward.specs.Answers.{is_storable, without_observe, taken_of, validates, fits, answer_if_fits, answer_of, copy_in, validated, left_of, left_to_show, bad_gateway, gateway_timeout, origin_answer, own_answer};
+ghost use Rattle.coap_forward.specs.Answers.{is_storable, without_observe, passed_part, validates, fits, answer_if_fits, answer_of, copy_in, validated, left_of, left_to_show, bad_gateway, gateway_timeout, origin_answer, own_answer};
 
 use coap_message::{
     Code, Kind, Message, MessageRef, Moment, OptionList, Options, OutOfMemory, Seq, Token,
 };
 use coap_option::{max_age, numbers, screen_response_ref};
-use coap_store::{Answer, RenewError, Stored, aged_fits, left_at, renewed, shows_max_age};
+use coap_store::{Answer, RenewError, Stored, aged_fits, is_cacheable, left_at, renewed};
 use std::alloc::Global;
 
 /// The greatest Max-Age, in seconds: it takes four bytes (RFC 7252, 5.10.5).
@@ -53,10 +53,14 @@ fn validates(to_get: bool, response: &MessageRef<'_>) -> bool
     to_get && response.code() == Code::VALID
 }
 
-/// A copy of what is taken from a response: it without Observe (RFC 7641, 2), and, if it validates,
-/// without its payload too.
-fn taken_of(alloc: Global, to_get: bool, response: &MessageRef<'_>) -> Result<Message, OutOfMemory>
-    ensures { IfOk result (λ message. message ≡ taken_of to_get response.now) }
+/// A copy of what is passed on of a response: it without Observe (RFC 7641, 2), and, if it
+/// validates, without its payload too.
+fn passed_part(
+    alloc: Global,
+    to_get: bool,
+    response: &MessageRef<'_>,
+) -> Result<Message, OutOfMemory>
+    ensures { IfOk result (λ message. message ≡ passed_part to_get response.now) }
 {
     let payload = if validates(to_get, response) {
         &[]
@@ -165,7 +169,7 @@ fn validated(
 
 /// What the answer for a response depends on of the request that was forwarded.
 #[derive(Clone, Copy)]
-pub struct SentRequest<'c> {
+pub struct AnsweredRequest<'c> {
     /// Whether it is a GET.
     pub is_get: bool,
     /// The stored response whose tag it had (RFC 7252, 5.6.2).
@@ -175,7 +179,8 @@ pub struct SentRequest<'c> {
 /// The answer that a message which came for a request makes (RFC 7252, 5.7.1). A response that may
 /// be passed on is copied. A 2.03 to a GET renews the stored response whose tag the request had
 /// (RFC 7252, 5.6.2). A Reset, a response that may not be passed on or wouldn't fit a datagram of
-/// `most` bytes, and a 2.03 that renews nothing give 5.02; a Reset doesn't allocate.
+/// `most` bytes, and a 2.03 that renews nothing give 5.02; a Reset doesn't allocate (the core
+/// answers one by `bad_gateway` itself).
 ///
 /// # Errors
 /// Out of memory.
@@ -183,7 +188,7 @@ pub struct SentRequest<'c> {
 pub fn answer_of(
     alloc: Global,
     most: usize,
-    request: SentRequest<'_>,
+    request: AnsweredRequest<'_>,
     now: Moment,
     response: &MessageRef<'_>,
 ) -> Result<Answer, OutOfMemory>
@@ -198,7 +203,7 @@ pub fn answer_of(
     if valid && request.copy.is_none() {
         return Ok(bad_gateway(alloc, now));
     }
-    let message = taken_of(alloc, request.is_get, response)?;
+    let message = passed_part(alloc, request.is_get, response)?;
     if !fits(&message, most) {
         return Ok(bad_gateway(alloc, now));
     }
@@ -233,5 +238,5 @@ pub(crate) fn left_to_show(to_get: bool, now: Moment, answer: &Answer) -> Option
 pub fn is_storable(answer: &Answer) -> bool
     ensures { result ≡ is_storable answer.now }
 {
-    !answer.own && shows_max_age(answer.message.code) && max_age(&answer.message) > 0
+    !answer.own && is_cacheable(answer.message.code) && max_age(&answer.message) > 0
 }

@@ -19,7 +19,7 @@ use coap_message::{
     Code, Datagram, Full, Head, Kind, Message, MessageRef, Token, put_head, put_option,
     put_options_from, put_payload, without_zeros,
 };
-use coap_option::{Span, Survey, goes_on, numbers};
+use coap_option::{Span, Survey, is_forwarded, numbers};
 use coap_store::tag_of;
 
 /// Where other options go among those of a target.
@@ -165,7 +165,7 @@ fn put_others(
     }
     let mut last = before;
     for option in options {
-        if gap.has(option.number) && goes_on(request.code(), option) {
+        if gap.has(option.number) && is_forwarded(request.code(), option) {
             put_option(out, room, last, option.number, option.value)?;
             last = option.number;
         }

@@ -17,7 +17,7 @@
 //!     b"\x48\x01\0\0\0\0\0\0\0\0\0\x01\xB4temp".as_slice()
 //! );
 //! // its response, received at `now`
-//! let sent = SentRequest {
+//! let sent = AnsweredRequest {
 //!     is_get: true,
 //!     copy: None,
 //! };
@@ -33,7 +33,7 @@ mod part;
 mod token;
 mod writing;
 
-pub use answers::{SentRequest, answer_of, bad_gateway, gateway_timeout, is_storable};
+pub use answers::{AnsweredRequest, answer_of, bad_gateway, gateway_timeout, is_storable};
 pub use changes::{created_by, is_change};
 pub use form::{Form, put_forwarded, validating_tag};
 pub use token::{number_of, token_of};

@@ -21,7 +21,7 @@ use Rattle.coap_model.proofs.Stores.{store-empty}
 use Rattle.coap_model.proofs.CaseSent.{keeps_forwarding}
 use Rattle.coap_model.proofs.CaseAnswered.{keeps_answering, keeps_answering_con, keeps_acknowledging}
 use Rattle.coap_model.proofs.CaseDelivered.{keeps_delivering}
-use Rattle.coap_model.proofs.CaseClientChanged.{keeps_closing, keeps_redelivering, keeps_abandoning}
+use Rattle.coap_model.proofs.CaseWaiterChanged.{keeps_closing, keeps_redelivering, keeps_abandoning}
 
 -- the tables after an observation agree with its action in front of the actions before it
 pub record IsKept (history : List Action) (e : Observation) (w : State) : Type 0 where

@@ -5,14 +5,14 @@ use Rattle.coap_message.specs.Spelling.{IsMessage}
 use Rattle.coap_message.specs.declared.code.TheConstants.Code.{GATEWAY_TIMEOUT}
 use Rattle.std.specs.Prelude.{◌&&◌, not}
 use Rattle.coap_forward.specs.Messages.{is_rst}
-use Rattle.coap_forward.specs.Answers.{fits, validates, taken_of, is_passed_on, bad_gateway, own_answer, origin_answer, answer_if_fits, validated, gateway_timeout, answer_of, shown}
+use Rattle.coap_forward.specs.Answers.{fits, validates, passed_part, is_passed_on, bad_gateway, own_answer, origin_answer, answer_if_fits, validated, gateway_timeout, answer_of, shown}
 use Rattle.coap_store.specs.Renewing.{is_validated, renewed}
 use Rattle.coap_model.proofs.Encodings.{own_reply-is}
 
 -- an answer is obtained at the moment of its response
 pub got-is : (most now : ℕ) (to_get : Bool) (copy : Option Message) (m : Message) → (answer_of most to_get copy now m).got ≡ now
 unfolding answer_of
-got-is most now to_get copy m = go (not (is_rst m.kind) && is_passed_on most to_get m) (validates to_get m) (taken_of to_get m) copy
+got-is most now to_get copy m = go (not (is_rst m.kind) && is_passed_on most to_get m) (validates to_get m) (passed_part to_get m) copy
   where
     fitting : (b : Bool) (r : Message) → (cond b (origin_answer now r) (own_answer now bad_gateway)).got ≡ now
     fitting true r = refl

@@ -38,7 +38,7 @@ use Rattle.coap_forward.specs.Messages.{is_ack, is_rst, is_bare, is_empty, bring
 use Rattle.coap_model.specs.State.{State, records_of}
 use Rattle.coap_model.specs.Step.{message_in}
 use Rattle.coap_model.specs.Responses.{has_id, awaits, awaiting}
-use Rattle.coap_model.specs.Standing.{sent, stage_of, told, service_of}
+use Rattle.coap_model.specs.Standing.{sent, stage_of, delivering, service_of}
 use Rattle.coap_dedup.specs.Lists.{record_of}
 use Rattle.coap_dedup.specs.Records.{living_at}
 use Rattle.coap_model.specs.History.{last_of, Action, Position, IsPositionOf, Never, Somewhere, Opens, Sends, Asks, Serves, Matches, in_acknowledgement, separate, by_reset, Brings, Meets, Ends}
@@ -365,9 +365,9 @@ module _ (w : State) (history : List Action) (c : Bears history w) (now : ℕ) (
   pub not-settled : (x : ℕ) → Acknowledges w.setting history now x (arrival source bytes) → ⊥
   not-settled x a = not-about x a.asking a.was_asked a.asks a.unsettled a.message a.brings (bare-so a.message a.empty (ap (λ (k : Kind). is_ack k || is_rst k) a.kind)) a.id_is
 
--- ---- the answers to clients
+-- ---- the answers to waiters
 
--- a client was sent its answer in these bytes, with this id, by this timer
+-- a waiter was sent its answer in these bytes, with this id, by this timer
 pub record WasDelivered (setting : Setting) (history : List Action) (v : Numbered Waiter) : Type 0 where
   pub bytes : List ℕ
   pub id : ℕ
@@ -375,15 +375,15 @@ pub record WasDelivered (setting : Setting) (history : List Action) (v : Numbere
   pub state_is : v.1.state ≡ Delivering bytes id timer
   pub delivering : IsDelivering setting history v bytes id timer
 
--- so was a client that hasn't acknowledged its answer yet
-pub told-delivered : (setting : Setting) (history : List Action) (v : Numbered Waiter) → IsWaiterOf setting history v → service_in v.1.state ≡ told → WasDelivered setting history v
-told-delivered setting history v f e = go v.1.state refl e f
+-- so was a waiter that hasn't acknowledged its answer yet
+pub delivering-delivered : (setting : Setting) (history : List Action) (v : Numbered Waiter) → IsWaiterOf setting history v → service_in v.1.state ≡ delivering → WasDelivered setting history v
+delivering-delivered setting history v f e = go v.1.state refl e f
   where
-    go : (s : WaiterState) → v.1.state ≡ s → service_in s ≡ told → IsWaiterIn setting history v s → WasDelivered setting history v
+    go : (s : WaiterState) → v.1.state ≡ s → service_in s ≡ delivering → IsWaiterIn setting history v s → WasDelivered setting history v
     go (Waiting exchange) is e g = absurd cc
     go (Delivering bytes id timer) is e g = record { bytes = bytes; id = id; timer = timer; state_is = is; delivering = g }
 
--- and so was a client whose answer was sent with an id
+-- and so was a waiter whose answer was sent with an id
 sent-delivered : (setting : Setting) (history : List Action) (v : Numbered Waiter) (id now : ℕ) → IsWaiterOf setting history v → is_delivered_as id now v.1.state ≡ true → WasDelivered setting history v
 sent-delivered setting history v id now f e = go v.1.state refl e f
   where
@@ -401,7 +401,7 @@ bare-kind Ack e = inl refl
 bare-kind Rst e = inr refl
 
 module _ (w : State) (history : List Action) (c : Bears history w) (now : ℕ) (source : Endpoint) (bytes : List ℕ) where
-  -- an Empty message closes the client that was sent its answer with this id at its source
+  -- an Empty message closes the waiter that was sent its answer with this id at its source
   closes-one : (m : Message) (v : Numbered Waiter) → IsBytes bytes → message_in w.setting.limits.datagram bytes ≡ Some m → is_bare m ≡ true → IsWaiterOf w.setting history v → Has v w.waiters → waiters.was_sent_as source m.id now v.1 ≡ true → Closes w.setting history now v.0 (arrival source bytes)
   closes-one m v fits read bare f there passes =
       let came = message_in-is w.setting.limits.datagram bytes m fits read in
@@ -430,7 +430,7 @@ module _ (w : State) (history : List Action) (c : Bears history w) (now : ℕ) (
         id_is = sym (eqb-true was.id m.id both.0) ∙ d.id_is;
       }
 
-  -- so the client that is found is closed
+  -- so the waiter that is found is closed
   pub closes-here : (m : Message) (n : ℕ) → IsBytes bytes → message_in w.setting.limits.datagram bytes ≡ Some m → IsOfAnswer w now source m n → Closes w.setting history now n (arrival source bytes)
   closes-here m n fits read about = go (find (λ (v : Numbered Waiter). waiters.was_sent_as source m.id now v.1) w.waiters) refl about.first
     where
@@ -440,24 +440,24 @@ module _ (w : State) (history : List Action) (c : Bears history w) (now : ℕ) (
           let f = find-holds (λ u. IsWaiterOf w.setting history u × Has u w.waiters) (λ (u : Numbered Waiter). waiters.was_sent_as source m.id now u.1) w.waiters v (All-there (IsWaiterOf w.setting history) w.waiters c.waiters) is in
           subst (λ (k : ℕ). Closes w.setting history now k (arrival source bytes)) (same_Some v.0 n e) (closes-one m v fits read about.bare f.0.0 f.0.1 f.1)
 
-  -- what is read from a datagram that closes a client
+  -- what is read from a datagram that closes a waiter
   closing-read : {n : ℕ} (k : Closes w.setting history now n (arrival source bytes)) → (source ≡ k.to) × (message_in w.setting.limits.datagram bytes ≡ Some k.message)
   closing-read k =
       let b = k.brings in
       let came = arrival-same source k.to bytes b.bytes b.came in
       (came.0, message_in-again w.setting.limits.datagram bytes k.message (ap read_message came.1 ∙ read_again b.bytes k.message b.spells) (rw came.1 b.short))
 
-  -- the message that closes a client is bare
+  -- the message that closes a waiter is bare
   closing-bare : {n : ℕ} (k : Closes w.setting history now n (arrival source bytes)) → is_bare k.message ≡ true
   closing-bare k =
       bare-so k.message k.empty
       (⊎_elim (λ (ack : k.message.kind ≡ Ack). ap (λ (kind : Kind). is_ack kind || is_rst kind) ack) (λ (reset : k.message.kind ≡ Rst). ap (λ (kind : Kind). is_ack kind || is_rst kind) reset) k.kind)
 
-  -- a client that is closed passes the test
+  -- a waiter that is closed passes the test
   closed-passes : {n : ℕ} (k : Closes w.setting history now n (arrival source bytes)) (v : Numbered Waiter) → n ≡ v.0 → IsWaiterOf w.setting history v → Has v w.waiters → waiters.was_sent_as source k.message.id now v.1 ≡ true
   closed-passes {n} k v number f there =
       let e = sym (service-is w history c v there) ∙ ap (λ (u : ℕ). service_of u history) (sym number) ∙ k.service in
-      let was = told-delivered w.setting history v f (same_Some (service_in v.1.state) told e) in
+      let was = delivering-delivered w.setting history v f (same_Some (service_in v.1.state) delivering e) in
       let d = was.delivering in
       let position = d.only k.serving k.was_served (subst (λ (u : ℕ). Serves u k.serving) number k.serves) in
       let to : v.1.client ≡ k.to = same_Some v.1.client k.to (sym d.sent ∙ ap (λ (p : Position). p.action.observation.report.send) (sym position) ∙ k.sent) in
@@ -469,9 +469,9 @@ module _ (w : State) (history : List Action) (c : Bears history w) (now : ℕ) (
       let test : is_delivered_as k.message.id now (Delivering was.bytes was.id was.timer) ≡ true = and_from (was.id == k.message.id) (nat_lt (now - was.timer.started) 247000) (eq-eqb was.id k.message.id id) (lt-ltb (now - was.timer.started) 247000 (omega (arith, soon, began, moment))) in
       and_from (same_endpoint v.1.client source) (is_delivered_as k.message.id now v.1.state) ((Tells-both same_endpoint Tells-endpoint v.1.client source).1 (to ∙ sym (closing-read k).0)) (ap (is_delivered_as k.message.id now) was.state_is ∙ test)
 
-  -- so a message that is ignored closes no client
+  -- so a message that is ignored closes no waiter
   pub not-closed : IsNothing w now source bytes → (n : ℕ) → Closes w.setting history now n (arrival source bytes) → ⊥
-  not-closed none n k = in_table (served-there w history c n told k.service)
+  not-closed none n k = in_table (served-there w history c n delivering k.service)
     where
       test : Numbered Waiter → Bool
       test v = waiters.was_sent_as source k.message.id now v.1

@@ -13,7 +13,7 @@ use Rattle.coap_limits.specs.declared.limits.Limit.TheVariants.{CacheEntries}
 use Rattle.coap_limits.specs.Limits.{AreLimits}
 use Rattle.coap_model.specs.Setting.{Setting}
 use Rattle.coap_model.specs.State.{State}
-use Rattle.coap_model.specs.History.{Observation, Action, takes, Gets}
+use Rattle.coap_model.specs.History.{Observation, Action, accepts_answer, Gets}
 use Rattle.coap_model.specs.Pairs.{Pairs}
 use Rattle.coap_model.specs.Changed.{asked_of, key_asked, to_get, Unchanged, IsTold}
 use Rattle.coap_model.specs.Cached.{Cached, cached_key, cached_size, entry_marked, entry_of_cached, copied, entry_got, IsCacheOf, kept, too_large, hit, otherwise, WasCacheAt, StandsFirst, IsStored, IsStoreOf}
@@ -27,7 +27,7 @@ use Rattle.coap_model.proofs.OwedActions.{given_again, given_dropped, given_no_r
 
 module _ (setting : Setting) (past : List Action) (d : Action) where
   -- an answer that is small enough is kept, unless memory runs out
-  small-so : (o : Outcome) → JustifiedBy o setting past d → takes o ≡ true → (h : IsObtainedHere setting past d) → size_here h ≤ setting.limits.cache_bytes → IsKeptIfGrown o
+  small-so : (o : Outcome) → JustifiedBy o setting past d → accepts_answer o ≡ true → (h : IsObtainedHere setting past d) → size_here h ≤ setting.limits.cache_bytes → IsKeptIfGrown o
   small-so (Answered Kept) j t h small = inl refl
   small-so (Answered NoMemory) j t h small = inr refl
   small-so (Answered TooLarge) j t h small = absurd (let large = j.large in let same = one-size h j.here in omega (arith, small, large, same))
@@ -35,7 +35,7 @@ module _ (setting : Setting) (past : List Action) (d : Action) where
   small-so _ j t h small = absurd cc
 
   -- an answer that is larger than the limit is too large
-  large-so : (o : Outcome) → JustifiedBy o setting past d → takes o ≡ true → (h : IsObtainedHere setting past d) → setting.limits.cache_bytes < size_here h → o ≡ Answered TooLarge
+  large-so : (o : Outcome) → JustifiedBy o setting past d → accepts_answer o ≡ true → (h : IsObtainedHere setting past d) → setting.limits.cache_bytes < size_here h → o ≡ Answered TooLarge
   large-so (Answered Kept) j t h large = absurd (let small = j.small in let same = one-size h j.here in omega (arith, small, large, same))
   large-so (Answered NoMemory) j t h large = absurd (let small = j.small in let same = one-size h j.here in omega (arith, small, large, same))
   large-so (Answered TooLarge) j t h large = refl
@@ -43,7 +43,7 @@ module _ (setting : Setting) (past : List Action) (d : Action) where
   large-so _ j t h large = absurd cc
 
   -- an answer that wasn't obtained isn't stored
-  other-so : (o : Outcome) → JustifiedBy o setting past d → takes o ≡ true → ¬ IsObtainedHere setting past d → o ≡ Answered NotStored
+  other-so : (o : Outcome) → JustifiedBy o setting past d → accepts_answer o ≡ true → ¬ IsObtainedHere setting past d → o ≡ Answered NotStored
   other-so (Answered Kept) j t none = absurd (none j.here)
   other-so (Answered NoMemory) j t none = absurd (none j.here)
   other-so (Answered TooLarge) j t none = absurd (none j.here)

@@ -1,4 +1,4 @@
--- Serving a client preserves what is carried.
+-- Serving a waiter preserves what is carried.
 use Rattle.std.proofs.Common.{◌≡◌, ◌≢◌, ◌⊎◌, inl, ⊎_elim, ℕ, ◌+◌, ◌<◌, ◌≤◌, Bool, true, false, cond, eqb, List, [], ◌∷◌, length, map, Option, Some, None, refl, sym, ap, ◌∙◌, subst, arith}
 use Rattle.std.specs.Prelude.{not}
 use Rattle.std.specs.List.{AllByRecursion, list_any}
@@ -45,18 +45,18 @@ use Rattle.coap_model.specs.Due.{IsToServe}
 use Rattle.coap_model.specs.Justified.{EndsWith, verdict_on}
 use Rattle.coap_model.specs.Runs.{observation_of}
 use Rattle.coap_model.specs.Carries.{HasNumber, HasExchange, stage_seen, standing_seen, IsTimer, AreOfBytes, IsDone, IsState, IsExchangeOf, IsWaiting, IsDelivering, IsWaiterIn, IsWaiterOf, Bears}
-use Rattle.coap_model.proofs.CaseClientChanged.{others-are}
+use Rattle.coap_model.proofs.CaseWaiterChanged.{others-are}
 use Rattle.coap_model.proofs.Rules.{IsTold, done_with, to_acknowledge}
-use Rattle.coap_model.proofs.DueByHistory.{acting, turn-is, client-turn}
+use Rattle.coap_model.proofs.DueByHistory.{acting, turn-is, waiter-turn}
 use Rattle.coap_model.proofs.FirstDue.{first_due-holds}
 use Rattle.std.proofs.lemmas.Option.{same_Some}
-use Rattle.coap_model.proofs.Frames.{clock_frame, numbers_frame, exchanges_frame, waiter_frame, unused_frame, same_act-client, sends-grow, schedules_with, opened-before, admitted-before}
+use Rattle.coap_model.proofs.Frames.{clock_frame, numbers_frame, exchanges_frame, waiter_frame, unused_frame, same_act-waiter, sends-grow, schedules_with, opened-before, admitted-before}
 use Rattle.coap_model.proofs.GivenIds.{ids-given, room-called}
 use Rattle.coap_model.proofs.Lists.{Has, Has-holds, Has-all, All-there, All-filter, All-map}
 use Rattle.coap_model.proofs.Positions.{here, in-order, doing, admitted-later, same_serves, Never-at, one-opened, admitted-number}
 use Rattle.coap_model.proofs.CaseQuiet.{remembered-still}
 use Rattle.coap_model.proofs.CaseReplied.{id-same}
-use Rattle.coap_model.proofs.NumbersAndStages.{gone-seen, told-seen, kept-but, kept-all, who-waits}
+use Rattle.coap_model.proofs.NumbersAndStages.{gone-seen, delivering-seen, kept-but, kept-all, who-waits}
 use Rattle.coap_model.proofs.ShownResponses.{shown-is, shown-fits}
 use Rattle.coap_model.proofs.Endings.{ending-holdable}
 use Rattle.coap_model.proofs.Stores.{store-otherwise}
@@ -64,7 +64,7 @@ use Rattle.coap_model.proofs.Tables.{item-Has, item-holds, one-item, without-few
 
 -- ---- what is served
 
--- what is known of a client that is served with an answer
+-- what is known of a waiter that is served with an answer
 pub record IsServed (w : State) (history : List Action) (number exchange : ℕ) (v : Waiter) (x : Exchange) (a : Answer) : Type 0 where
   pub waits : IsWaiting w.setting history (number, v) exchange
   pub is : IsExchangeOf w.setting history (exchange, x)
@@ -79,7 +79,7 @@ done-by setting history x a Sent e state = absurd cc
 done-by setting history x a Acked e state = absurd cc
 done-by setting history x a (Done b) e state = subst (IsDone setting history x) (same_Some b a e) state
 
--- a client whose exchange has its answer is served with it
+-- a waiter whose exchange has its answer is served with it
 pub served : (w : State) (history : List Action) (c : Bears history w) (number exchange : ℕ) (v : Waiter) (x : Exchange) (a : Answer) → item_at number w.waiters ≡ Some v → v.state ≡ Waiting exchange → item_at exchange w.exchanges ≡ Some x → answer_at x ≡ Some a → IsServed w history number exchange v x a
 served w history c number exchange v x a found waits there answer =
     let g : IsWaiting w.setting history (number, v) exchange = subst (IsWaiterIn w.setting history (number, v)) waits (item-holds (IsWaiterOf w.setting history) number w.waiters v c.waiters found) in
@@ -106,9 +106,9 @@ ending-fits w kind to_get now id x key p a token tags most ending short wide lon
 con-told : (bytes : List ℕ) (m : Message) → Spells bytes m → is_con_datagram bytes ≡ is_con m.kind
 con-told bytes m spells = ap (λ (o : Option Head). option_map_or (λ h. is_con h.kind) o false) (head_read bytes m (read_again bytes m spells))
 
--- ---- the remaining clients
+-- ---- the remaining waiters
 
--- what is known of the remaining clients after one was served: one fewer waits, for its exchange
+-- what is known of the remaining waiters after one was served: one fewer waits, for its exchange
 pub record IsServing (w : State) (number exchange : ℕ) (left : List (Numbered Waiter)) : Type 0 where
   pub rising : IsRising 0 left
   pub fewer : length left ≤ length w.waiters
@@ -126,7 +126,7 @@ module _ (w : State) (history : List Action) (c : Bears history w) (number excha
   waited_not : (x : ℕ) → x ≢ exchange → one_if (passes (waits_for x) (item_at number w.waiters)) ≡ 0
   waited_not x other = ap one_if (ap (passes (waits_for x)) found ∙ ap (waits_in_state x) waits ∙ ne_eqb exchange x (λ same. other (sym same)))
 
-  -- a client that is finished is removed
+  -- a waiter that is finished is removed
   serving-done : IsServing w number exchange (without number w.waiters)
   serving-done =
       record {
@@ -168,7 +168,7 @@ module _ (w : State) (history : List Action) (c : Bears history w) (number excha
       let some = Has-holds (λ z. 0 < count (waits_for z.0) w.waiters) w.exchanges y c.whole.waited there in
       omega arith
 
-  -- the exchange stays as long as a client waits for it
+  -- the exchange stays as long as a waiter waits for it
   data IsLeft (xs : List (Numbered Exchange)) : Type 0 where
     closed : count (waits_for exchange) left ≡ 0 → xs ≡ without exchange w.exchanges → IsLeft xs
     kept : 0 < count (waits_for exchange) left → xs ≡ w.exchanges → IsLeft xs
@@ -228,7 +228,7 @@ module _ (w : State) (history : List Action) (c : Bears history w) (number excha
   left-count test xs (closed none is) = let e = ap (count test) is in let l = count-without test exchange 0 w.exchanges c.whole.rising in omega arith
   left-count test xs (kept some is) = let e = ap (count test) is in omega arith
 
-  -- a client waits for each remaining exchange
+  -- a waiter waits for each remaining exchange
   left-waited : (xs : List (Numbered Exchange)) → IsLeft xs → AllByRecursion (λ y. 0 < count (waits_for y.0) left) xs
   left-waited xs (closed none is) =
       subst (AllByRecursion (λ y. 0 < count (waits_for y.0) left)) (sym is)
@@ -241,7 +241,7 @@ module _ (w : State) (history : List Action) (c : Bears history w) (number excha
       by_number y there true e = subst (λ (n : ℕ). 0 < count (waits_for n) left) (sym (eqb-true _ _ e)) some
       by_number y there false e = others-waited y there (eqb-false _ _ e)
 
-  -- the exchange of each remaining client is there
+  -- the exchange of each remaining waiter is there
   left-awaited : (xs : List (Numbered Exchange)) → IsLeft xs → AllByRecursion (λ u. HasExchange u.1.state xs) left
   left-awaited xs l = All-weaken (λ u. HasExchange u.1.state w.exchanges × Has u left) (λ u. HasExchange u.1.state xs) left (λ u h. still u h.1 u.1.state refl h.0) (All-there (λ u. HasExchange u.1.state w.exchanges) left r.awaited)
     where
@@ -258,7 +258,7 @@ module _ (w : State) (history : List Action) (c : Bears history w) (number excha
 -- it is due to be served since the end of its exchange
 served-at : (w : State) (history : List Action) (c : Bears history w) (at number exchange : ℕ) (v : Waiter) (x : Exchange) (a : Answer) (f : IsServed w history number exchange v x a) → item_due w ≡ Some (OfWaiter at number) → item_at number w.waiters ≡ Some v → v.state ≡ Waiting exchange → item_at exchange w.exchanges ≡ Some x → answer_at x ≡ Some a → at ≡ f.done.ending.action.observation.now
 served-at w history c at number exchange v x a f due found waits there answer =
-    let d = first_due-holds (λ u. Has u w.waiters) (due_after w.exchanges) w.waiters (at, number) (Has-all w.waiters) (client-turn w history c at number due) in
+    let d = first_due-holds (λ u. Has u w.waiters) (due_after w.exchanges) w.waiters (at, number) (Has-all w.waiters) (waiter-turn w history c at number due) in
     let here : due_after w.exchanges v ≡ Some at = subst (λ (u : Waiter). due_after w.exchanges u ≡ Some at) (one-item 0 w.waiters d.0 (number, v) c.whole.waiters_rise d.1 (item-Has number w.waiters v found) d.2) d.3 in
     let moment : Some a.got ≡ Some at = sym (ap (λ (s : WaiterState). due_in s w.exchanges) waits ∙ ap moment_of (ap answer_of there ∙ answer)) ∙ here in
     sym (same_Some a.got at moment) ∙ f.done.got
@@ -274,7 +274,7 @@ to-serve w history c at number exchange v x a f moment =
       at_is = moment;
     }
 
--- the exchange ended after the client was admitted
+-- the exchange ended after the waiter was admitted
 ended-later : (w : State) (history : List Action) (number exchange : ℕ) (v : Waiter) (x : Exchange) (a : Answer) (f : IsServed w history number exchange v x a) → IsPositionOf f.done.ending.before f.waits.admitted.admission
 ended-later w history number exchange v x a f =
     ⊎_elim
@@ -294,7 +294,7 @@ ended-later w history number exchange v x a f =
     no-both GaveUp e f = absurd (omega arith)
     no-both _ e f = absurd cc
 
--- ---- the client
+-- ---- the waiter
 
 -- if it is finished, the others stay as they are; if it has to acknowledge its answer, it was sent
 -- it once
@@ -310,7 +310,7 @@ module _ (w : State) (history : List Action) (c : Bears history w) (now draw at 
 
   -- the timer starts with this observation
   sends-first : (left : List (Numbered Waiter)) → sends_by (serves number) (served_action left ∷ history) ≡ (served_action left).observation ∷ []
-  sends-first left = sends-grow (serves number) history (served_action left) (same_act-client number) refl ∙ ap (λ (es : List Observation). (served_action left).observation ∷ es) f.waits.no_sends
+  sends-first left = sends-grow (serves number) history (served_action left) (same_act-waiter number) refl ∙ ap (λ (es : List Observation). (served_action left).observation ∷ es) f.waits.no_sends
 
   told-here : (left : List (Numbered Waiter)) → IsDelivering w.setting (served_action left ∷ history) (number, delivered (spelling reply) (next_id w) (started now draw) v) (spelling reply) (next_id w) (started now draw)
   told-here left =
@@ -333,7 +333,7 @@ module _ (w : State) (history : List Action) (c : Bears history w) (now draw at 
         tags_gone = refl;
       }
 
-  -- what is known of the remaining clients
+  -- what is known of the remaining waiters
   record AreServed (left : List (Numbered Waiter)) : Type 0 where
     pub serving : IsServing w number exchange left
     pub seen : map standing_seen left ≡ standing_in (served_action left ∷ history)
@@ -346,7 +346,7 @@ module _ (w : State) (history : List Action) (c : Bears history w) (now draw at 
   are-served _ (done_with other) =
       record {
         serving = serving-done w history c number exchange v found waits;
-        seen = gone-seen number w.waiters ∙ ap (stages.others_than number) c.whole.waiters ∙ sym (ap (λ (b : Bool). cond b (map (stages.as_told number) (standing_in history)) (stages.others_than number (standing_in history))) (kind-told ∙ other));
+        seen = gone-seen number w.waiters ∙ ap (stages.others_than number) c.whole.waiters ∙ sym (ap (λ (b : Bool). cond b (map (stages.as_delivering number) (standing_in history)) (stages.others_than number (standing_in history))) (kind-told ∙ other));
         each = others-are w history c number (served_action (without number w.waiters)) refl;
       }
   are-served _ (to_acknowledge con) =
@@ -356,7 +356,7 @@ module _ (w : State) (history : List Action) (c : Bears history w) (now draw at 
       let there = item-Has number w.waiters v found in
       record {
         serving = serving-told w history c number exchange v found waits (spelling reply) (next_id w) (started now draw);
-        seen = told-seen number (next_id w) (spelling reply) (started now draw) w.waiters ∙ ap (map (stages.as_told number)) c.whole.waiters ∙ sym (ap (λ (b : Bool). cond b (map (stages.as_told number) (standing_in history)) (stages.others_than number (standing_in history))) (kind-told ∙ con));
+        seen = delivering-seen number (next_id w) (spelling reply) (started now draw) w.waiters ∙ ap (map (stages.as_delivering number)) c.whole.waiters ∙ sym (ap (λ (b : Bool). cond b (map (stages.as_delivering number) (standing_in history)) (stages.others_than number (standing_in history))) (kind-told ∙ con));
         each =
             All-map (λ u. IsWaiterOf w.setting history u × Has u w.waiters) (IsWaiterOf w.setting (e ∷ history)) (changed number change) w.waiters
             (λ u g.
@@ -368,7 +368,7 @@ module _ (w : State) (history : List Action) (c : Bears history w) (now draw at 
 
 -- ---- the rule
 
--- serving a client preserves what is carried
+-- serving a waiter preserves what is carried
 pub keeps_delivering : (w : State) (history : List Action) (c : Bears history w) (now draw at number exchange : ℕ) (v : Waiter) (x : Exchange) (a : Answer) (left : List (Numbered Waiter)) → w.last ≤ now → if_due now (item_due w) ≡ Some (OfWaiter at number) → item_at number w.waiters ≡ Some v → v.state ≡ Waiting exchange → item_at exchange w.exchanges ≡ Some x → answer_at x ≡ Some a → IsTold w now draw number (given_to w now v x.is_get a) left
     → Bears (doing (serves number) (observation_of now draw tick (tells w now v exchange (given_to w now v x.is_get a) left)) ∷ history) (tells w now v exchange (given_to w now v x.is_get a) left).state
 keeps_delivering w history c now draw at number exchange v x a left onward due found waits there answer told =

@@ -22,8 +22,8 @@ use Rattle.coap_model.specs.Cached.{IsStoreOf}
 use Rattle.coap_message.specs.declared.kind.Kind.TheVariants.{Con, Non}
 use Rattle.coap_dedup.specs.Records.{Records}
 use Rattle.coap_model.specs.State.{State, later}
-use Rattle.coap_model.specs.History.{moves, serves, Action, opens_one, admits_one, takes, Gets}
-use Rattle.coap_model.specs.Standing.{Standing, Open, standing_by, open_by, standing_in}
+use Rattle.coap_model.specs.History.{moves, serves, Action, opens_one, admits_one, accepts_answer, Gets}
+use Rattle.coap_model.specs.Standing.{WaiterStanding, Open, standing_by, open_by, standing_in}
 use Rattle.coap_model.specs.Justified.{AllJustified}
 use Rattle.coap_model.specs.Carries.{HasNumber, HasExchange, stage_seen, Ids, IsExchangeOf, AreRemembered, AreSchedules, Bears}
 use Rattle.coap_model.proofs.Frames.{is_flying, tainted_here, tainted-all, exchange_changed, clock_frame, numbers_frame, exchange_frame, waiters_frame, unused_frame, opened-before, admitted-before}
@@ -36,7 +36,7 @@ pub record IsMove (n : ℕ) (e : Action) : Type 0 where
   pub act : e.act ≡ moves n
   pub opens : opens_one e.observation.report.outcome ≡ 0
   pub admits : admits_one e.observation.report.outcome ≡ 0
-  pub stands : (standing : List Standing) → standing_by e.observation.report.outcome e.act e.observation.event e.observation.bytes standing ≡ standing
+  pub stands : (standing : List WaiterStanding) → standing_by e.observation.report.outcome e.act e.observation.event e.observation.bytes standing ≡ standing
 
 -- What is known of the exchanges before one of them changes: they are those of the table, except
 -- for taints, and the others are already right.
@@ -49,7 +49,7 @@ pub record AreOthers (w : State) (history : List Action) (e : Action) (n : ℕ) 
   pub others : AllByRecursion (λ y. y.0 ≢ n → IsExchangeOf w.setting (e ∷ history) y) xs
 
 -- if no answer is accepted, they are those of the table
-pub others-quiet : (w : State) (history : List Action) (c : Bears history w) (e : Action) (n : ℕ) → e.act ≡ moves n → takes e.observation.report.outcome ≡ false → AreOthers w history e n w.exchanges
+pub others-quiet : (w : State) (history : List Action) (c : Bears history w) (e : Action) (n : ℕ) → e.act ≡ moves n → accepts_answer e.observation.report.outcome ≡ false → AreOthers w history e n w.exchanges
 others-quiet w history c e n act none =
     record {
       rising = c.whole.rising;

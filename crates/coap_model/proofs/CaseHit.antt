@@ -90,7 +90,7 @@ keeps_hitting w history c now draw client bytes m key entry onward first get ver
     subst (λ (k : CacheKey). IsStoreOf w.setting (e ∷ history) (used entry_key k w.store)) (sym may.key_is)
     (store-hit w.setting history w.store e client m key.target entry refl came.brings may.target_is (subst (λ (k : CacheKey). of_key entry_key k w.store ≡ Some entry) may.key_is found) c.store)
     in
-    keeps_still w history c e (ids_after w history c now draw client bytes m onward first) (used entry_key key w.store) _ _ (record { act = refl; opens = refl; admits = refl; sends = refl; takes = refl; leaves_open = λ standing xs. refl; stands = λ standing. refl }) onward
+    keeps_still w history c e (ids_after w history c now draw client bytes m onward first) (used entry_key key w.store) _ _ (record { act = refl; opens = refl; admits = refl; sends = refl; accepts_answer = refl; leaves_open = λ standing xs. refl; stands = λ standing. refl }) onward
     (reply-ids w history c now draw client bytes m onward first e _ reply refl gives spells refl free refl refl) (reply-room w history c now draw client bytes m onward first free) stored
     (first-remembered w history c now client bytes m onward draw no_item s first refl (λ most wide long. hit-fits w history c key entry found most now m (next_id w) m.token (tags_of m) wide long came.brings.spells.message.token)) (
       record {

@@ -62,7 +62,7 @@ exchanges-below : (w : State) (history : List Action) → Bears history w → Al
 exchanges-below w history c =
     All-weaken (IsExchangeOf w.setting history) (λ x. x.0 < w.opened + 1) w.exchanges (λ x f. let i = opened-number f.opened in let h = c.numbers.opened in omega (arith, i.1)) c.exchanges
 
--- and so are those of clients
+-- and so are those of waiters
 waiters-below : (w : State) (history : List Action) → Bears history w → AllByRecursion (λ v. v.0 < w.admitted + 1) w.waiters
 waiters-below w history c = All-weaken (IsWaiterOf w.setting history) (λ v. v.0 < w.admitted + 1) w.waiters (λ v f. below v f) c.waiters
   where
@@ -73,18 +73,18 @@ waiters-below w history c = All-weaken (IsWaiterOf w.setting history) (λ v. v.0
         go (Waiting exchange) g = let i = admitted-number g.admitted in let h = c.numbers.admitted in omega (arith, i.1)
         go (Delivering bytes id timer) g = let i = admitted-number g.admitted in let h = c.numbers.admitted in omega (arith, i.1)
 
--- ---- a client that is admitted
+-- ---- a waiter that is admitted
 
 module _ (w : State) (history : List Action) (c : Bears history w) (e : Action) (client : Endpoint) (m : Message) (exchange : ℕ) (act : e.act ≡ admits (admitted_in history + 1) exchange) (outcome : admits_one e.observation.report.outcome ≡ 1) where
-  -- the waiting clients then
-  abbrev pub clients : List (Numbered Waiter)
-  clients = w.waiters ++ new_waiter w client m exchange ∷ []
+  -- the waiters then
+  abbrev pub waiters_then : List (Numbered Waiter)
+  waiters_then = w.waiters ++ new_waiter w client m exchange ∷ []
 
   -- its number is the next one
   pub position : w.admitted + 1 ≡ admitted_in history + 1
   position = let h = c.numbers.admitted in omega arith
 
-  -- no exchange changes its state, and no client is served
+  -- no exchange changes its state, and no waiter is served
   pub unmoved : (n : ℕ) → e.act ≢ moves n
   unmoved n same = let g = sym act ∙ same in cc
 
@@ -95,38 +95,38 @@ module _ (w : State) (history : List Action) (c : Bears history w) (e : Action) 
   pub still-unused : AreUnused w.setting (e ∷ history)
   still-unused = unused_frame w.setting history e (λ n above. unmoved n) (λ n above. unserved n) c.unused
 
-  -- the client is in the history
-  pub clients-seen : map standing_seen clients ≡ standing_in history ++ record { number = admitted_in history + 1; client = client; service = stages.waits exchange } ∷ []
-  clients-seen = map-append standing_seen w.waiters (new_waiter w client m exchange ∷ []) ∙ (λ i. c.whole.waiters i ++ record { number = position i; client = client; service = stages.waits exchange } ∷ [])
+  -- the waiter is in the history
+  pub waiters-seen : map standing_seen waiters_then ≡ standing_in history ++ record { number = admitted_in history + 1; client = client; service = stages.waits exchange } ∷ []
+  waiters-seen = map-append standing_seen w.waiters (new_waiter w client m exchange ∷ []) ∙ (λ i. c.whole.waiters i ++ record { number = position i; client = client; service = stages.waits exchange } ∷ [])
 
-  -- the numbers of the clients rise
-  pub clients-rise : IsRising 0 clients
-  clients-rise = IsRising-push 0 (w.admitted + 1) w.waiters (new_waiter w client m exchange).1 (omega arith) (waiters-below w history c) c.whole.waiters_rise
+  -- the numbers of the waiters rise
+  pub waiters-rise : IsRising 0 waiters_then
+  waiters-rise = IsRising-push 0 (w.admitted + 1) w.waiters (new_waiter w client m exchange).1 (omega arith) (waiters-below w history c) c.whole.waiters_rise
 
-  -- a client that was admitted and never served is there
-  pub clients-there : (n k : ℕ) → Somewhere (Admits n k) (e ∷ history) → Never (Serves n) (e ∷ history) → HasNumber n clients
-  clients-there n k was never =
+  -- a waiter that was admitted and never served is there
+  pub waiters-there : (n k : ℕ) → Somewhere (Admits n k) (e ∷ history) → Never (Serves n) (e ∷ history) → HasNumber n waiters_then
+  waiters-there n k was never =
       ⊎_elim
-      (λ (same : here history e ≡ was.position). let h = subst (Admits n k) (sym same) was.holds in subst (λ (j : ℕ). HasNumber j clients) (position ∙ sym h.number) (HasNumber-last (w.admitted + 1) w.waiters (new_waiter w client m exchange).1))
+      (λ (same : here history e ≡ was.position). let h = subst (Admits n k) (sym same) was.holds in subst (λ (j : ℕ). HasNumber j waiters_then) (position ∙ sym h.number) (HasNumber-last (w.admitted + 1) w.waiters (new_waiter w client m exchange).1))
       (λ there. HasNumber-push n w.waiters (new_waiter w client m exchange ∷ []) (c.whole.unserved n k (record { position = was.position; is_there = there; holds = was.holds }) never.1))
       was.is_there
 
-  -- each client waits for an exchange that exists
-  pub clients-awaited : (xs : List (Numbered Exchange)) → HasNumber exchange xs → ((n : ℕ) → HasNumber n w.exchanges → HasNumber n xs) → AllByRecursion (λ u. HasExchange u.1.state xs) clients
-  clients-awaited xs own more =
+  -- each waiter waits for an exchange that exists
+  pub waiters-awaited : (xs : List (Numbered Exchange)) → HasNumber exchange xs → ((n : ℕ) → HasNumber n w.exchanges → HasNumber n xs) → AllByRecursion (λ u. HasExchange u.1.state xs) waiters_then
+  waiters-awaited xs own more =
       All-append (λ u. HasExchange u.1.state xs) w.waiters (new_waiter w client m exchange ∷ [])
       (All-weaken (λ u. HasExchange u.1.state w.exchanges) (λ u. HasExchange u.1.state xs) w.waiters (λ u has. HasExchange-on u.1.state w.exchanges xs more has) c.whole.awaited)
       (own, tt)
 
-  -- and each exchange still has a client that waits for it
-  pub still-waited : AllByRecursion (λ y. 0 < count (waits_for y.0) clients) w.exchanges
+  -- and each exchange still has a waiter that waits for it
+  pub still-waited : AllByRecursion (λ y. 0 < count (waits_for y.0) waiters_then) w.exchanges
   still-waited =
-      All-weaken (λ y. 0 < count (waits_for y.0) w.waiters) (λ y. 0 < count (waits_for y.0) clients) w.exchanges
+      All-weaken (λ y. 0 < count (waits_for y.0) w.waiters) (λ y. 0 < count (waits_for y.0) waiters_then) w.exchanges
       (λ y some. let one = count-push (waits_for y.0) w.waiters (new_waiter w client m exchange) in omega arith) c.whole.waited
 
-  -- each client is one that the history admitted
-  pub clients-are : IsRequestOf w.setting client m e.observation.event → Never (Ends exchange) history → (opened : WasOpened w.setting (e ∷ history) exchange) → is_get opened.request.code ≡ is_get m.code → verdict_on w.setting opened.request ≡ verdict_on w.setting m → AllByRecursion (IsWaiterOf w.setting (e ∷ history)) clients
-  clients-are asked unended opened method verdict =
+  -- each waiter is one that the history admitted
+  pub waiters-are : IsRequestOf w.setting client m e.observation.event → Never (Ends exchange) history → (opened : WasOpened w.setting (e ∷ history) exchange) → is_get opened.request.code ≡ is_get m.code → verdict_on w.setting opened.request ≡ verdict_on w.setting m → AllByRecursion (IsWaiterOf w.setting (e ∷ history)) waiters_then
+  waiters-are asked unended opened method verdict =
       All-append (IsWaiterOf w.setting (e ∷ history)) w.waiters (new_waiter w client m exchange ∷ []) (waiters_frame w.setting history e w.waiters unserved c.waiters) (
         record {
           admitted = record { exchange = exchange; admission = here history e; client = client; request = m; was_admitted = inl refl; admits = record { act = act ∙ ap (λ (n : ℕ). admits n exchange) (sym position); outcome = outcome; number = position }; asked = asked };
@@ -223,16 +223,16 @@ keeps_joining w history c now draw client bytes m key exchange send told onward 
       schedules = schedules_frame history e refl c.schedules;
       whole = record {
         exchanges = c.whole.exchanges;
-        waiters = clients-seen w history c e client m exchange refl refl;
+        waiters = waiters-seen w history c e client m exchange refl refl;
         rising = c.whole.rising;
-        waiters_rise = clients-rise w history c e client m exchange refl refl;
-        awaited = clients-awaited w history c e client m exchange refl refl w.exchanges joined.1 (λ n has. has);
+        waiters_rise = waiters-rise w history c e client m exchange refl refl;
+        awaited = waiters-awaited w history c e client m exchange refl refl w.exchanges joined.1 (λ n has. has);
         waited = still-waited w history c e client m exchange refl refl;
         unended = λ n was never. c.whole.unended n (opened-before history e n refl was) never.1;
-        unserved = clients-there w history c e client m exchange refl refl;
+        unserved = waiters-there w history c e client m exchange refl refl;
       };
       exchanges = exchanges_frame w.setting history e w.exchanges refl (unmoved w history c e client m exchange refl refl) c.exchanges;
-      waiters = clients-are w history c e client m exchange refl refl came joined.0.unended (opened-later e joined.0.opened) (joined.0.method ∙ sym get) (joined.0.verdict ∙ sym verdict);
+      waiters = waiters-are w history c e client m exchange refl refl came joined.0.unended (opened-later e joined.0.opened) (joined.0.method ∙ sym get) (joined.0.verdict ∙ sym verdict);
       store = store-otherwise w.setting history w.store e refl refl c.store;
       con_records = remembered.0;
       non_records = remembered.1;
@@ -284,10 +284,10 @@ keeps_opening w history c now draw client bytes m key send told onward first ver
       schedules = schedules_frame history e refl c.schedules;
       whole = record {
         exchanges = map-append stage_seen w.exchanges (x ∷ []) ∙ (λ i. c.whole.exchanges i ++ record { number = number i; client = client; stage = stages.queued } ∷ []);
-        waiters = clients-seen w history c e client m (w.opened + 1) is refl ∙ (λ i. standing_in history ++ record { number = admitted_in history + 1; client = client; service = stages.waits (number i) } ∷ []);
+        waiters = waiters-seen w history c e client m (w.opened + 1) is refl ∙ (λ i. standing_in history ++ record { number = admitted_in history + 1; client = client; service = stages.waits (number i) } ∷ []);
         rising = IsRising-push 0 (w.opened + 1) w.exchanges x.1 (omega arith) (exchanges-below w history c) c.whole.rising;
-        waiters_rise = clients-rise w history c e client m (w.opened + 1) is refl;
-        awaited = clients-awaited w history c e client m (w.opened + 1) is refl (w.exchanges ++ x ∷ []) (HasNumber-last (w.opened + 1) w.exchanges x.1) (λ n has. HasNumber-push n w.exchanges (x ∷ []) has);
+        waiters_rise = waiters-rise w history c e client m (w.opened + 1) is refl;
+        awaited = waiters-awaited w history c e client m (w.opened + 1) is refl (w.exchanges ++ x ∷ []) (HasNumber-last (w.opened + 1) w.exchanges x.1) (λ n has. HasNumber-push n w.exchanges (x ∷ []) has);
         waited =
             All-append (λ y. 0 < count (waits_for y.0) (w.waiters ++ v ∷ [])) w.exchanges (x ∷ [])
             (still-waited w history c e client m (w.opened + 1) is refl)
@@ -297,7 +297,7 @@ keeps_opening w history c now draw client bytes m key send told onward first ver
             (λ (same : here history e ≡ was.position). let h = subst (Opens n) (sym same) was.holds in subst (λ (k : ℕ). HasNumber k (w.exchanges ++ x ∷ [])) (number ∙ sym h.1) (HasNumber-last (w.opened + 1) w.exchanges x.1))
             (λ there. HasNumber-push n w.exchanges (x ∷ []) (c.whole.unended n (record { position = was.position; is_there = there; holds = was.holds }) never.1))
             was.is_there;
-        unserved = clients-there w history c e client m (w.opened + 1) is refl;
+        unserved = waiters-there w history c e client m (w.opened + 1) is refl;
       };
       exchanges =
           All-append (IsExchangeOf w.setting (e ∷ history)) w.exchanges (x ∷ []) (exchanges_frame w.setting history e w.exchanges refl other c.exchanges) (
@@ -322,7 +322,7 @@ keeps_opening w history c now draw client bytes m key send told onward first ver
             },
             tt,
           );
-      waiters = clients-are w history c e client m (w.opened + 1) is refl came unused.1 opened refl refl;
+      waiters = waiters-are w history c e client m (w.opened + 1) is refl came unused.1 opened refl refl;
       store = store-otherwise w.setting history w.store e refl refl c.store;
       con_records = remembered.0;
       non_records = remembered.1;

@@ -8,8 +8,8 @@ use Rattle.coap_pending.specs.declared.ids.Ids.{Ids as Given}
 use Rattle.coap_pending.specs.Ids.{given_in}
 use Rattle.coap_model.specs.Cached.{leaves, IsStoreOf}
 use Rattle.coap_model.specs.State.{State, reserved, later}
-use Rattle.coap_model.specs.History.{no_item, moves, serves, Action, opens_one, admits_one, takes, gives_id, last_of}
-use Rattle.coap_model.specs.Standing.{Standing, Open, standing_by, open_by, standing_in, open_in}
+use Rattle.coap_model.specs.History.{no_item, moves, serves, Action, opens_one, admits_one, accepts_answer, gives_id, last_of}
+use Rattle.coap_model.specs.Standing.{WaiterStanding, Open, standing_by, open_by, standing_in, open_in}
 use Rattle.coap_model.specs.Schedules.{is_sending}
 use Rattle.coap_model.specs.Justified.{AllJustified}
 use Rattle.coap_model.specs.Remembered.{is_remembered}
@@ -25,11 +25,11 @@ pub record IsQuiet (e : Action) : Type 0 where
   pub opens : opens_one e.observation.report.outcome ≡ 0
   pub admits : admits_one e.observation.report.outcome ≡ 0
   pub sends : is_sending e.observation.report.outcome ≡ false
-  pub takes : takes e.observation.report.outcome ≡ false
-  pub leaves_open : (standing : List Standing) (xs : List Open) → open_by e.observation.report.outcome e.act e.observation.event e.observation.report.send standing xs ≡ xs
-  pub stands : (standing : List Standing) → standing_by e.observation.report.outcome e.act e.observation.event e.observation.bytes standing ≡ standing
+  pub accepts_answer : accepts_answer e.observation.report.outcome ≡ false
+  pub leaves_open : (standing : List WaiterStanding) (xs : List Open) → open_by e.observation.report.outcome e.act e.observation.event e.observation.report.send standing xs ≡ xs
+  pub stands : (standing : List WaiterStanding) → standing_by e.observation.report.outcome e.act e.observation.event e.observation.bytes standing ≡ standing
 
--- it acts on no exchange and on no client
+-- it acts on no exchange and on no waiter
 pub acts-on-none : (e : Action) → e.act ≡ no_item → (x : ℕ) → e.act ≢ moves x
 acts-on-none e act x same = let f = sym act ∙ same in cc
 
@@ -71,7 +71,7 @@ keeps_still w history c e ids store con non q onward given room stored remembere
         unended = λ x s never. c.whole.unended x (opened-before history e x q.opens s) never.1;
         unserved = λ v x s never. c.whole.unserved v x (admitted-before history e v x q.admits s) never.1;
       };
-      exchanges = exchanges_frame w.setting history e w.exchanges q.takes unmoved c.exchanges;
+      exchanges = exchanges_frame w.setting history e w.exchanges q.accepts_answer unmoved c.exchanges;
       waiters = waiters_frame w.setting history e w.waiters unserved c.waiters;
       store = stored;
       con_records = remembered.0;
@@ -94,4 +94,4 @@ room-still w history c later onward now after = c.within.ids now (omega arith)
 pub keeps_quiet : (w : State) (history : List Action) (c : Bears history w) (e : Action) → IsQuiet e → leaves e.observation.report.outcome ≡ true → ((k : Kind) → is_remembered e.observation.report.outcome k ≡ false) → w.last ≤ e.observation.now → gives_id e.observation ≡ 0
     → AllJustified w.setting (e ∷ history) → Bears (e ∷ history) (later w e.observation.now)
 keeps_quiet w history c e q leaving none onward gives past =
-    keeps_still w history c e w.ids w.store w.con_records w.non_records q onward (ids-kept history w (later w e.observation.now) e c.clock c.ids onward refl gives refl) (room-still w history c e.observation.now onward) (store-otherwise w.setting history w.store e leaving q.takes c.store) (remembered-still w history c e onward none) past
+    keeps_still w history c e w.ids w.store w.con_records w.non_records q onward (ids-kept history w (later w e.observation.now) e c.clock c.ids onward refl gives refl) (room-still w history c e.observation.now onward) (store-otherwise w.setting history w.store e leaving q.accepts_answer c.store) (remembered-still w history c e onward none) past

@@ -22,7 +22,7 @@ use Rattle.coap_message.specs.Codes.{is_request, is_response}
 use Rattle.coap_pending.specs.declared.exchange.Exchange.{Exchange}
 use Rattle.coap_pending.specs.Table.{Numbered}
 use Rattle.coap_model.specs.Responses.{awaiting}
-use Rattle.coap_forward.specs.Messages.{is_con, brings_requests, reset, own_reply, busy_reply, at_once, reply_id}
+use Rattle.coap_forward.specs.Messages.{is_con, brings_requests, reset, own_reply, overload_reply, at_once, reply_id}
 use Rattle.coap_model.specs.Remembered.{remembered_at}
 use Rattle.coap_model.specs.Verdicts.{may_ask}
 use Rattle.coap_model.specs.State.{State, next_id, known_of, has_record_room, remembers, repeats, drops, reserved, has_ids, can_reply, ignores, rejects}
@@ -35,11 +35,11 @@ use Rattle.coap_model.specs.Justified.{Comes, IsNew, HasIdFor, SaysAgain, IsAwai
 use Rattle.coap_model.specs.Runs.{observation_of}
 use Rattle.coap_model.specs.Carries.{Ids, Bears}
 use Rattle.coap_model.proofs.GivenIds.{ids-kept, ids-given, room-called}
-use Rattle.coap_model.proofs.Encodings.{reset-is, own_reply-is, busy_reply-is, message_in-is, message_in-again}
+use Rattle.coap_model.proofs.Encodings.{reset-is, own_reply-is, overload_reply-is, message_in-is, message_in-again}
 use Rattle.coap_model.proofs.Positions.{doing, arrival-same}
 use Rattle.coap_model.proofs.Verdicts.{deserved-code}
 use Rattle.coap_model.proofs.Rules.{by_response, recorded-kind, recorded-response, Asked, Recorded, IsFirst, IsNotCon, IsNothing, verdict_in, IsDenied, IsFull, head_of_read}
-use Rattle.coap_model.proofs.OwnReplies.{at_once-is, own-short, busy-short, reply-due, free-one, free-none}
+use Rattle.coap_model.proofs.OwnReplies.{at_once-is, own-short, overload-short, reply-due, free-one, free-none}
 use Rattle.coap_model.proofs.RecordsOfHistory.{known-is, record-full, first-new, first-remembered}
 use Rattle.coap_model.proofs.AbsentFromHistory.{deserves, lacks_room}
 use Rattle.coap_model.proofs.CountsAndRoom.{ids-free, ids-none}
@@ -127,7 +127,7 @@ module _ (w : State) (history : List Action) (c : Bears history w) (now draw : �
       let reply = own_reply code [] (next_id w) m.token in
       let spells : Spells s.bytes (at_once m reply) = spelled (at_once m reply) (at_once-is m reply (own_reply-is code [] (next_id w) m.token some tt short_token)) in
       let gives : gives_id e.observation ≡ (if is_con m.kind then 0 else 1) = ap (λ (b : Bool). if b then 0 else 1) takes-ids in
-      keeps_still w history c e ids_after w.store _ _ (record { act = refl; opens = refl; admits = refl; sends = refl; takes = refl; leaves_open = λ standing xs. refl; stands = λ standing. refl }) onward (reply-ids e _ reply refl gives spells refl free refl refl) (reply-room free)
+      keeps_still w history c e ids_after w.store _ _ (record { act = refl; opens = refl; admits = refl; sends = refl; accepts_answer = refl; leaves_open = λ standing xs. refl; stands = λ standing. refl }) onward (reply-ids e _ reply refl gives spells refl free refl refl) (reply-room free)
       (store-otherwise w.setting history w.store e refl refl c.store)
       (first-remembered w history c now client bytes m onward draw no_item s first refl (λ most wide long. omega (arith, wide, own-short m code (next_id w) m.token short_token)))
       (record { act = refl; client = client; request = m; id = next_id w; asked = came; new = is_new; deserved = deserved; ids = has-id free; tells = record { sent = refl; spells = spells } }, c.past)
@@ -138,12 +138,12 @@ module _ (w : State) (history : List Action) (c : Bears history w) (now draw : �
   keeps_overloading key verdict full free =
       let s = overloads w now client m in
       let e = doing no_item (observation_of now draw (arrival client bytes) s) in
-      let reply = busy_reply w.setting.limits.retry_s (next_id w) m.token in
-      let spells : Spells s.bytes (at_once m reply) = spelled (at_once m reply) (at_once-is m reply (busy_reply-is w.setting.limits.retry_s (next_id w) m.token short_token)) in
+      let reply = overload_reply w.setting.limits.retry_s (next_id w) m.token in
+      let spells : Spells s.bytes (at_once m reply) = spelled (at_once m reply) (at_once-is m reply (overload_reply-is w.setting.limits.retry_s (next_id w) m.token short_token)) in
       let gives : gives_id e.observation ≡ (if is_con m.kind then 0 else 1) = ap (λ (b : Bool). if b then 0 else 1) takes-ids in
-      keeps_still w history c e ids_after w.store _ _ (record { act = refl; opens = refl; admits = refl; sends = refl; takes = refl; leaves_open = λ standing xs. refl; stands = λ standing. refl }) onward (reply-ids e _ reply refl gives spells refl free refl refl) (reply-room free)
+      keeps_still w history c e ids_after w.store _ _ (record { act = refl; opens = refl; admits = refl; sends = refl; accepts_answer = refl; leaves_open = λ standing xs. refl; stands = λ standing. refl }) onward (reply-ids e _ reply refl gives spells refl free refl refl) (reply-room free)
       (store-otherwise w.setting history w.store e refl refl c.store)
-      (first-remembered w history c now client bytes m onward draw no_item s first refl (λ most wide long. omega (arith, wide, busy-short m w.setting.limits.retry_s (next_id w) m.token short_token)))
+      (first-remembered w history c now client bytes m onward draw no_item s first refl (λ most wide long. omega (arith, wide, overload-short m w.setting.limits.retry_s (next_id w) m.token short_token)))
       (record { act = refl; client = client; request = m; key = key; id = next_id w; asked = came; verdict = verdict; no_room = lacks_room w history c now client key m onward full; new = is_new; ids = has-id free; tells = record { sent = refl; spells = spells } }, c.past)
 
   -- and so does silence because no id is free
@@ -153,7 +153,7 @@ module _ (w : State) (history : List Action) (c : Bears history w) (now draw : �
       let s = lacks_id w now in
       let e = doing no_item (observation_of now draw (arrival client bytes) s) in
       let lack = free-none w now m.kind came.kind free in
-      keeps_still w history c e w.ids w.store _ _ (record { act = refl; opens = refl; admits = refl; sends = refl; takes = refl; leaves_open = λ standing xs. refl; stands = λ standing. refl }) onward (ids-kept history w _ e c.clock c.ids onward refl refl refl) (room-still w history c now onward)
+      keeps_still w history c e w.ids w.store _ _ (record { act = refl; opens = refl; admits = refl; sends = refl; accepts_answer = refl; leaves_open = λ standing xs. refl; stands = λ standing. refl }) onward (ids-kept history w _ e c.clock c.ids onward refl refl refl) (room-still w history c now onward)
       (store-otherwise w.setting history w.store e refl refl c.store)
       (first-remembered w history c now client bytes m onward draw no_item s first refl (λ most wide long. omega arith))
       (record { act = refl; client = client; request = m; asked = came; kind = lack.0; new = is_new; no_ids = ids-none 1 now history w c onward lack.1; silent = record { sent = refl; bytes = refl } }, c.past)
@@ -177,11 +177,11 @@ keeps_repeating w history c now draw source bytes m known onward fits recorded f
     go : (reply : Option (List ℕ)) → known.reply ≡ reply → Bears (doing no_item (observation_of now draw (arrival source bytes) (repeats w now source reply)) ∷ history) (repeats w now source reply).state
     go None is =
         let e = doing no_item (observation_of now draw (arrival source bytes) (repeats w now source None)) in
-        keeps_quiet w history c e (record { act = refl; opens = refl; admits = refl; sends = refl; takes = refl; leaves_open = λ standing xs. refl; stands = λ standing. refl }) refl (λ k. refl) onward refl
+        keeps_quiet w history c e (record { act = refl; opens = refl; admits = refl; sends = refl; accepts_answer = refl; leaves_open = λ standing xs. refl; stands = λ standing. refl }) refl (λ k. refl) onward refl
         (record { act = refl; source = source; message = m; known = known; comes = recorded-came w source bytes m fits recorded; found = same; says_again = subst (λ (o : Option (List ℕ)). SaysAgain source o e.observation) (sym is) (record { sent = refl; bytes = refl }) }, c.past)
     go (Some reply) is =
         let e = doing no_item (observation_of now draw (arrival source bytes) (repeats w now source (Some reply))) in
-        keeps_quiet w history c e (record { act = refl; opens = refl; admits = refl; sends = refl; takes = refl; leaves_open = λ standing xs. refl; stands = λ standing. refl }) refl (λ k. refl) onward refl
+        keeps_quiet w history c e (record { act = refl; opens = refl; admits = refl; sends = refl; accepts_answer = refl; leaves_open = λ standing xs. refl; stands = λ standing. refl }) refl (λ k. refl) onward refl
         (record { act = refl; source = source; message = m; known = known; comes = recorded-came w source bytes m fits recorded; found = same; says_again = subst (λ (o : Option (List ℕ)). SaysAgain source o e.observation) (sym is) (refl, refl) }, c.past)
 
 -- and so does silence if there is no room to remember what arrived
@@ -191,7 +191,7 @@ keeps_dropping w history c now draw source bytes m onward fits recorded wanted u
     let e = doing no_item (observation_of now draw (arrival source bytes) (drops w now)) in
     let kind = recorded-kind m recorded.recorded in
     let same = known-is w history c now source bytes m onward m.kind kind in
-    keeps_quiet w history c e (record { act = refl; opens = refl; admits = refl; sends = refl; takes = refl; leaves_open = λ standing xs. refl; stands = λ standing. refl }) refl (λ k. refl) onward refl (
+    keeps_quiet w history c e (record { act = refl; opens = refl; admits = refl; sends = refl; accepts_answer = refl; leaves_open = λ standing xs. refl; stands = λ standing. refl }) refl (λ k. refl) onward refl (
       record {
         act = refl;
         source = source;
@@ -231,7 +231,7 @@ pub keeps_rejecting : (w : State) (history : List Action) (c : Bears history w) 
     → Bears (doing no_item (observation_of now draw (arrival source bytes) (rejects w now source head.id)) ∷ history) (rejects w now source head.id).state
 keeps_rejecting w history c now draw source bytes head onward is con none =
     let e = doing no_item (observation_of now draw (arrival source bytes) (rejects w now source head.id)) in
-    keeps_quiet w history c e (record { act = refl; opens = refl; admits = refl; sends = refl; takes = refl; leaves_open = λ standing xs. refl; stands = λ standing. refl }) refl (λ k. refl) onward refl
+    keeps_quiet w history c e (record { act = refl; opens = refl; admits = refl; sends = refl; accepts_answer = refl; leaves_open = λ standing xs. refl; stands = λ standing. refl }) refl (λ k. refl) onward refl
     (record { act = refl; source = source; bytes = bytes; head = head; came = refl; head_is = is; con = con_is head.kind con; unprocessable = unprocessable w history c e.observation source bytes onward refl none; tells = record { sent = refl; spells = spelled (reset head.id) (reset-is head.id) } }, c.past)
 
 -- and so does doing nothing
@@ -239,5 +239,5 @@ pub keeps_ignoring : (w : State) (history : List Action) (c : Bears history w) (
     → Bears (doing no_item (observation_of now draw (arrival source bytes) (ignores w now)) ∷ history) (ignores w now).state
 keeps_ignoring w history c now draw source bytes onward quiet none =
     let e = doing no_item (observation_of now draw (arrival source bytes) (ignores w now)) in
-    keeps_quiet w history c e (record { act = refl; opens = refl; admits = refl; sends = refl; takes = refl; leaves_open = λ standing xs. refl; stands = λ standing. refl }) refl (λ k. refl) onward refl
+    keeps_quiet w history c e (record { act = refl; opens = refl; admits = refl; sends = refl; accepts_answer = refl; leaves_open = λ standing xs. refl; stands = λ standing. refl }) refl (λ k. refl) onward refl
     (record { act = refl; source = source; bytes = bytes; came = refl; no_con = λ head is con. absurd (let f = quiet head is in let g = sym f ∙ ap is_con con in cc); unprocessable = unprocessable w history c e.observation source bytes onward refl none; silent = record { sent = refl; bytes = refl } }, c.past)

@@ -69,7 +69,7 @@ answer-kept (Done a) = response-kept a.message
 exchange-kept : (x : Numbered Exchange) → exchange_size x ≤ exchange_bytes x
 exchange-kept x = omega (arith, key-kept x.1.key, copy-kept x.1.copy, answer-kept x.1.state)
 
--- a waiting client
+-- a waiter that waits
 waiter-kept : (v : Waiter) (state : WaiterState) → waiter_size v state ≤ length v.token + length (pieces_spelling v.tags) + answer_bytes state
 waiter-kept v (Waiting exchange) = omega (arith, tags-kept v.tags)
 waiter-kept v (Delivering bytes id timer) = omega arith

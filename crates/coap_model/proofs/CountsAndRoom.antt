@@ -12,14 +12,14 @@ use Rattle.coap_pending.specs.Table.{count}
 use Rattle.coap_model.specs.State.{State, exchanges_of, reserved, has_ids, has_exchange_room, has_waiter_room, has_room_to_join, has_room_to_open, waiters_of}
 use Rattle.coap_model.specs.History.{Action}
 use Rattle.coap_model.specs.Standing as service
-use Rattle.coap_model.specs.Standing.{Open, Standing, is_queued, is_sent_to, open_in, standing_in, count_if, count_open, waiting_in, queued_in, outstanding_to, window_ids, HasIds, HasRoomToJoin, HasRoomToOpen}
+use Rattle.coap_model.specs.Standing.{Open, WaiterStanding, is_queued, is_sent_to, open_in, standing_in, count_if, count_open, waiting_in, queued_in, outstanding_to, window_ids, HasIds, HasRoomToJoin, HasRoomToOpen}
 use Rattle.coap_model.specs.Carries.{stage_seen, standing_seen, Bears}
 use Rattle.coap_model.proofs.NumbersAndStages.{counted-seen, queued-same, sent-same, waiting-same}
 use Rattle.coap_model.proofs.JoinedTests.{both-below, not-both, one_false}
 
 -- ---- what is counted
 
--- there are as many clients in the table as are pending
+-- there are as many waiters in the table as are pending
 pub waiters-length : (history : List Action) (w : State) → Bears history w → length w.waiters ≡ length (standing_in history)
 waiters-length history w c = sym (length-map w.waiters standing_seen) ∙ ap length c.whole.waiters
 
@@ -27,9 +27,9 @@ waiters-length history w c = sym (length-map w.waiters standing_seen) ∙ ap len
 pub exchanges-length : (history : List Action) (w : State) → Bears history w → length w.exchanges ≡ length (open_in history)
 exchanges-length history w c = sym (length-map w.exchanges stage_seen) ∙ ap length c.whole.exchanges
 
--- as many clients wait for an exchange
+-- as many waiters wait for an exchange
 pub waiting-count : (history : List Action) (w : State) → Bears history w → count is_waiting w.waiters ≡ waiting_in history
-waiting-count history w c = counted-seen standing_seen is_waiting (λ s. service.is_waiting s.service) (λ v. waiting-same v.1.state) w.waiters ∙ ap (count_if (λ (s : Standing). service.is_waiting s.service)) c.whole.waiters
+waiting-count history w c = counted-seen standing_seen is_waiting (λ s. service.is_waiting s.service) (λ v. waiting-same v.1.state) w.waiters ∙ ap (count_if (λ (s : WaiterStanding). service.is_waiting s.service)) c.whole.waiters
 
 -- as many requests are queued
 pub queued-count : (history : List Action) (w : State) → Bears history w → count exchanges.is_queued w.exchanges ≡ queued_in history
@@ -45,7 +45,7 @@ exchanges-count client history w c = counted-seen stage_seen (exchanges.is_opene
 
 -- and as many pending requests are its
 pub waiters-count : (client : Endpoint) (history : List Action) (w : State) → Bears history w → waiters_of client w ≡ service.waiters_of client history
-waiters-count client history w c = counted-seen standing_seen (is_of client) (λ s. same_endpoint s.client client) (λ v. refl) w.waiters ∙ ap (count_if (λ (s : Standing). same_endpoint s.client client)) c.whole.waiters
+waiters-count client history w c = counted-seen standing_seen (is_of client) (λ s. same_endpoint s.client client) (λ v. refl) w.waiters ∙ ap (count_if (λ (s : WaiterStanding). same_endpoint s.client client)) c.whole.waiters
 
 -- ---- ids
 
@@ -86,7 +86,7 @@ module _ (client : Endpoint) (history : List Action) (w : State) (c : Bears hist
   exchange-none e less fewer = not-both (exchanges-length history w c) (exchanges-count client history w c) refl refl e less fewer
 
 module _ (now : ℕ) (client : Endpoint) (history : List Action) (w : State) (c : Bears history w) (onward : w.last ≤ now) where
-  -- if the tables have room for one more client at an exchange, there is room according to the
+  -- if the tables have room for one more waiter at an exchange, there is room according to the
   -- history
   pub join-there : has_room_to_join w now client ≡ true → HasRoomToJoin w.setting.limits now client history
   join-there e =

@@ -16,9 +16,9 @@ use Rattle.coap_model.proofs.Rules.{Rule, refusing, lacking, overloading, hittin
 use Rattle.coap_model.proofs.Turns.{turn-exchange}
 use Rattle.coap_model.proofs.CaseReplied.{request-came}
 use Rattle.coap_model.proofs.CaseDelivered.{served, ending-fits}
-use Rattle.coap_model.proofs.CaseClientChanged.{told-is}
+use Rattle.coap_model.proofs.CaseWaiterChanged.{delivering-is}
 use Rattle.coap_model.proofs.Acceptances.{taken-short}
-use Rattle.coap_model.proofs.OwnReplies.{own-short, busy-short}
+use Rattle.coap_model.proofs.OwnReplies.{own-short, overload-short}
 use Rattle.coap_model.proofs.CaseHit.{hit-fits}
 use Rattle.coap_model.proofs.Lists.{find-holds, All-filter}
 use Rattle.coap_endpoint.proofs.Lists.{All-weaken}
@@ -42,7 +42,7 @@ reset-short id = omega (arith, spelling-length (reset id))
 rule_fits : {w : State} {now draw : ℕ} {grown : Bool} {event : Event} {s : Step} (history : List Action) → Bears history w → AreLimits w.setting.limits → Rule w now draw grown event s → length s.bytes ≤ w.setting.limits.datagram
 rule_fits {w = w} history c are (refusing client bytes m code first denied free) = let came = request-came w client bytes m first.fits first.asked in omega (arith, (are Datagram).0, own-short m code (next_id w) m.token came.brings.spells.message.token)
 rule_fits {w = w} history c are (lacking client bytes m first free) = omega arith
-rule_fits {w = w} history c are (overloading client bytes m key first verdict lacks free) = let came = request-came w client bytes m first.fits first.asked in omega (arith, (are Datagram).0, busy-short m w.setting.limits.retry_s (next_id w) m.token came.brings.spells.message.token)
+rule_fits {w = w} history c are (overloading client bytes m key first verdict lacks free) = let came = request-came w client bytes m first.fits first.asked in omega (arith, (are Datagram).0, overload-short m w.setting.limits.retry_s (next_id w) m.token came.brings.spells.message.token)
 rule_fits {w = w} {now = now} history c are (hitting client bytes m key entry first get verdict found usable free) = let came = request-came w client bytes m first.fits first.asked in hit-fits w history c key entry found w.setting.limits.datagram now m (next_id w) m.token (tags_of m) (are Datagram).0 (omega arith) came.brings.spells.message.token
 rule_fits {w = w} history c are (joining client bytes m key exchange send told first get verdict none found room up) = taken-short client m send told up w.setting.limits.datagram (are Datagram).0
 rule_fits {w = w} history c are (opening client bytes m key send told first verdict none short room up) = taken-short client m send told up w.setting.limits.datagram (are Datagram).0
@@ -76,7 +76,7 @@ rule_fits {w = w} history c are (giving_up at number x turn over) = omega arith
 rule_fits {w = w} {now = now} history c are (delivering at number exchange v x a left due found waits there answer told) =
     let s = served w history c number exchange v x a found waits there answer in
     ending-fits w v.kind x.is_get now (next_id w) exchange x.key s.done.ending a v.token v.tags w.setting.limits.datagram s.done.with s.short (are Datagram).0 (omega arith)
-rule_fits {w = w} {now = now} history c are (redelivering at number v bytes id timer turn fire) = (told-is w history c number id v bytes timer turn.found turn.state).short w.setting.limits.datagram (are Datagram).0 (omega arith)
+rule_fits {w = w} {now = now} history c are (redelivering at number v bytes id timer turn fire) = (delivering-is w history c number id v bytes timer turn.found turn.state).short w.setting.limits.datagram (are Datagram).0 (omega arith)
 rule_fits {w = w} history c are (abandoning at number v bytes id timer turn fire) = omega arith
 rule_fits {w = w} history c are (idling nothing) = omega arith
 rule_fits {w = w} history c are (stuck s) = omega arith

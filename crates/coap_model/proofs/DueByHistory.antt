@@ -26,7 +26,7 @@ use Rattle.coap_model.specs.Verdicts.{may_ask}
 use Rattle.coap_model.specs.State.{State}
 use Rattle.coap_model.specs.Ticks as ticks
 use Rattle.coap_model.specs.Ticks.{exchange_due, waiter_due, first_item, item_due, if_due, next_due}
-use Rattle.coap_model.specs.Standing.{Stage, Open, queued, sent, stage_of, Standing, Service, told, service_of}
+use Rattle.coap_model.specs.Standing.{Stage, Open, queued, sent, stage_of, WaiterStanding, Service, delivering, service_of}
 use Rattle.coap_model.specs.Schedules.{sends_by, next_send}
 use Rattle.coap_model.specs.Due.{IsToSend, IsToRepeat, IsToEnd, IsExchangeDue, to_send, to_repeat, to_end, IsToServe, IsToServeAgain, IsWaiterDue, to_serve, to_serve_again, IsDueAt, ComesBefore, IsSooner, IsNextDue}
 use Rattle.coap_model.specs.Justified.{IsActing, verdict_on}
@@ -74,13 +74,13 @@ stage-is w history c x there = ap (λ (os : List Open). option_map (λ (o : Open
 pub staged-there : (w : State) (history : List Action) → Bears history w → (n : ℕ) (stage : Stage) → stage_of n history ≡ Some stage → HasNumber n w.exchanges
 staged-there w history c n stage is = found-stage n w.exchanges (λ none. let e = sym none ∙ ap (λ (os : List Open). option_map (λ (o : Open). o.stage) (find (λ (o : Open). o.number == n) os)) c.whole.exchanges ∙ is in cc)
 
--- each client of the tables has its stage in the history
+-- each waiter of the tables has its stage in the history
 pub service-is : (w : State) (history : List Action) → Bears history w → (v : Numbered Waiter) → Has v w.waiters → service_of v.0 history ≡ Some (service_in v.1.state)
-service-is w history c v there = ap (λ (ss : List Standing). option_map (λ (s : Standing). s.service) (find (λ (s : Standing). s.number == v.0) ss)) (sym c.whole.waiters) ∙ service-found v.0 w.waiters v.1 (Has-item 0 w.waiters v c.whole.waiters_rise there)
+service-is w history c v there = ap (λ (ss : List WaiterStanding). option_map (λ (s : WaiterStanding). s.service) (find (λ (s : WaiterStanding). s.number == v.0) ss)) (sym c.whole.waiters) ∙ service-found v.0 w.waiters v.1 (Has-item 0 w.waiters v c.whole.waiters_rise there)
 
--- if the history has a stage for a client, the client is in the table
+-- if the history has a stage for a waiter, the waiter is in the table
 pub served-there : (w : State) (history : List Action) → Bears history w → (n : ℕ) (service : Service) → service_of n history ≡ Some service → HasNumber n w.waiters
-served-there w history c n service is = found-service n w.waiters (λ none. let e = sym none ∙ ap (λ (ss : List Standing). option_map (λ (s : Standing). s.service) (find (λ (s : Standing). s.number == n) ss)) c.whole.waiters ∙ is in cc)
+served-there w history c n service is = found-service n w.waiters (λ none. let e = sym none ∙ ap (λ (ss : List WaiterStanding). option_map (λ (s : WaiterStanding). s.service) (find (λ (s : WaiterStanding). s.number == n) ss)) c.whole.waiters ∙ is in cc)
 
 -- ---- what is due according to the tables is due according to the history
 
@@ -97,7 +97,7 @@ exchange-due w history c x there f at due = go x.1.state refl f.state due
     ending : Never (Ends x.0) history → at ≡ last → IsExchangeDue w.setting history x.0 at
     ending unended e = to_end (record { opened = f.opened; unended = unended; at_is = e ∙ ap (λ (n : ℕ). n + w.setting.limits.exchange_ms) f.admitted })
 
-    turn : x.1.state ≡ Queued → Never (Ends x.0) history → (b : Bool) → blocked ≡ b → Some (cond b last x.1.admitted) ≡ Some at → IsExchangeDue w.setting history x.0 at
+    turn : x.1.state ≡ Queued → Never (Ends x.0) history → (b : Bool) → blocked ≡ b → Some (cond b last x.1.opened_at) ≡ Some at → IsExchangeDue w.setting history x.0 at
     turn is unended true t e = ending unended (sym (same_Some last at e))
     turn is unended false t e =
         let free = leb-false _ _ t in
@@ -108,7 +108,7 @@ exchange-due w history c x there f at due = go x.1.state refl f.state due
           verdict = f.verdict;
           stage = stage-is w history c x there ∙ ap (λ (s : ExchangeState). Some (stage_at x.1.key.target.at s)) is;
           free = omega (arith, free, as_many);
-          at_is = sym (same_Some x.1.admitted at e) ∙ f.admitted;
+          at_is = sym (same_Some x.1.opened_at at e) ∙ f.admitted;
         })
 
     go : (s : ExchangeState) → x.1.state ≡ s → IsState w.setting history x s → due_in s blocked w.setting.limits.exchange_ms x.1 ≡ Some at → IsExchangeDue w.setting history x.0 at
@@ -137,9 +137,9 @@ answer-of P n xs a all e = go (item_at n xs) refl e
     go None is f = absurd cc
     go (Some x) is f = (x, item-holds P n xs x all is, state x x.state refl f, is)
 
--- a client that is due is due to be served, or to be served again
-pub client-due : (w : State) (history : List Action) → Bears history w → (v : Numbered Waiter) → Has v w.waiters → IsWaiterOf w.setting history v → (at : ℕ) → due_after w.exchanges v.1 ≡ Some at → IsDueAt w.setting history (serves v.0) at
-client-due w history c v there f at due = go v.1.state refl f due
+-- a waiter that is due is due to be served, or to be served again
+pub waiter-due : (w : State) (history : List Action) → Bears history w → (v : Numbered Waiter) → Has v w.waiters → IsWaiterOf w.setting history v → (at : ℕ) → due_after w.exchanges v.1 ≡ Some at → IsDueAt w.setting history (serves v.0) at
+waiter-due w history c v there f at due = go v.1.state refl f due
   where
     moment : (exchange : ℕ) → IsWaiterIn w.setting history v (Waiting exchange) → (o : Option Answer) → answer_in exchange w.exchanges ≡ o → moment_of o ≡ Some at → IsToServe w.setting history v.0 at
     moment exchange g None is e = absurd cc
@@ -163,7 +163,7 @@ client-due w history c v there f at due = go v.1.state refl f due
 
 pub data IsListed (w : State) (a : Act) (m : ℕ) : Type 0 where
   of_exchange : (x : Numbered Exchange) (k : ℕ) → Has x w.exchanges → moves x.0 ≡ a → due_of w x.1 ≡ Some k → k ≤ m → IsListed w a m
-  of_client : (v : Numbered Waiter) (k : ℕ) → Has v w.waiters → serves v.0 ≡ a → due_after w.exchanges v.1 ≡ Some k → k ≤ m → IsListed w a m
+  of_waiter : (v : Numbered Waiter) (k : ℕ) → Has v w.waiters → serves v.0 ≡ a → due_after w.exchanges v.1 ≡ Some k → k ≤ m → IsListed w a m
 
 -- an exchange of the history is in the table, with its stage
 record IsThere (w : State) (history : List Action) (x : ℕ) : Type 0 where
@@ -205,11 +205,11 @@ send-listed w history c x at d = go y.1.state refl
             go true e = let le = leb-true m n e in absurd (omega (arith, le, less))
             go false e = refl
 
-    moment : y.1.admitted ≡ at
+    moment : y.1.opened_at ≡ at
     moment = t.is.admitted ∙ ap (λ (p : Position). p.action.observation.now) (sym (one-opened t.number d.opened t.is.opened).0) ∙ sym d.at_is
 
     go : (s : ExchangeState) → y.1.state ≡ s → IsListed w (moves x) at
-    go Queued is = of_exchange y y.1.admitted t.there (ap moves (sym t.number)) (ap (λ (s : ExchangeState). due_in s (is_blocked w.setting.limits.nstart w.exchanges y.1) w.setting.limits.exchange_ms y.1) is ∙ rw free refl) (let e = moment in omega (arith, e))
+    go Queued is = of_exchange y y.1.opened_at t.there (ap moves (sym t.number)) (ap (λ (s : ExchangeState). due_in s (is_blocked w.setting.limits.nstart w.exchanges y.1) w.setting.limits.exchange_ms y.1) is ∙ rw free refl) (let e = moment in omega (arith, e))
     go Sent is = absurd (let e = ap (λ (s : ExchangeState). Some (stage_at y.1.key.target.at s)) (sym is) ∙ stage in cc)
     go Acked is = absurd (let e = ap (λ (s : ExchangeState). Some (stage_at y.1.key.target.at s)) (sym is) ∙ stage in cc)
     go (Done a) is = absurd (let e = ap (λ (s : ExchangeState). Some (stage_at y.1.key.target.at s)) (sym is) ∙ stage in cc)
@@ -254,7 +254,7 @@ end-listed w history c x at d = go y.1.state refl t.is.state
 
     blocked : y.1.state ≡ Queued → (b : Bool) → is_blocked w.setting.limits.nstart w.exchanges y.1 ≡ b → IsListed w (moves x) at
     blocked is true e = of_exchange y (deadline w.setting.limits.exchange_ms y.1) t.there (ap moves (sym t.number)) (ap (λ (s : ExchangeState). due_in s (is_blocked w.setting.limits.nstart w.exchanges y.1) w.setting.limits.exchange_ms y.1) is ∙ rw e refl) (let l = last in omega (arith, l))
-    blocked is false e = of_exchange y y.1.admitted t.there (ap moves (sym t.number)) (ap (λ (s : ExchangeState). due_in s (is_blocked w.setting.limits.nstart w.exchanges y.1) w.setting.limits.exchange_ms y.1) is ∙ rw e refl) (let l = last in omega (arith, l))
+    blocked is false e = of_exchange y y.1.opened_at t.there (ap moves (sym t.number)) (ap (λ (s : ExchangeState). due_in s (is_blocked w.setting.limits.nstart w.exchanges y.1) w.setting.limits.exchange_ms y.1) is ∙ rw e refl) (let l = last in omega (arith, l))
 
     go : (s : ExchangeState) → y.1.state ≡ s → IsState w.setting history y s → IsListed w (moves x) at
     go Queued is state = blocked is (is_blocked w.setting.limits.nstart w.exchanges y.1) refl
@@ -262,7 +262,7 @@ end-listed w history c x at d = go y.1.state refl t.is.state
     go Acked is state = of_exchange y (deadline w.setting.limits.exchange_ms y.1) t.there (ap moves (sym t.number)) (ap (λ (s : ExchangeState). due_in s (is_blocked w.setting.limits.nstart w.exchanges y.1) w.setting.limits.exchange_ms y.1) is) (let l = last in omega (arith, l))
     go (Done a) is state = absurd (Never-at (Ends x) history state.ending d.unended state.was_ended (subst (λ (n : ℕ). Ends n state.ending) (sym t.number) state.ends))
 
--- a client that is due to be served is due according to the tables
+-- a waiter that is due to be served is due according to the tables
 serve-listed : (w : State) (history : List Action) → Bears history w → (v at : ℕ) → IsToServe w.setting history v at → IsListed w (serves v) at
 serve-listed w history c v at d = go u.1.state refl t.2
   where
@@ -295,7 +295,7 @@ serve-listed w history c v at d = go u.1.state refl t.2
             let position = ended-once w.setting history y.0 state.ending d.ending c.past state.was_ended d.was_ended state.ends ends in
             let answer : answer_in exchange w.exchanges ≡ Some a = ap answer_of found ∙ ap answer_in_state is in
             let moment : a.got ≡ at = state.got ∙ ap (λ (p : Position). p.action.observation.now) position ∙ sym d.at_is in
-            of_client u a.got t.3 (ap serves (sym t.1)) (ap (λ (s : WaiterState). waiters.due_in s w.exchanges) waits ∙ ap moment_of answer) (omega (arith, moment))
+            of_waiter u a.got t.3 (ap serves (sym t.1)) (ap (λ (s : WaiterState). waiters.due_in s w.exchanges) waits ∙ ap moment_of answer) (omega (arith, moment))
 
     go : (s : WaiterState) → u.1.state ≡ s → IsWaiterIn w.setting history u s → IsListed w (serves v) at
     go (Waiting exchange) is g =
@@ -304,24 +304,24 @@ serve-listed w history c v at d = go u.1.state refl t.2
         answered exchange is g (subst (λ (s : WaiterState). HasExchange s w.exchanges) is (subst (λ (a : Waiter). HasExchange a.state w.exchanges) same has.2))
     go (Delivering bytes id timer) is g = absurd (Never-at (Serves v) history g.serving d.unserved g.was_served (subst (λ (n : ℕ). Serves n g.serving) (sym t.1) g.is_serving))
 
--- a client that is due to be served again is due according to the tables
+-- a waiter that is due to be served again is due according to the tables
 serve-again-listed : (w : State) (history : List Action) → Bears history w → (v at : ℕ) → IsToServeAgain history v at → IsListed w (serves v) at
 serve-again-listed w history c v at d = go u.1.state refl t.2
   where
     t : (u : Numbered Waiter) × (v ≡ u.0) × IsWaiterOf w.setting history u × Has u w.waiters
-    t = at-number (IsWaiterOf w.setting history) v w.waiters (served-there w history c v told d.service) c.waiters
+    t = at-number (IsWaiterOf w.setting history) v w.waiters (served-there w history c v delivering d.service) c.waiters
 
     u : Numbered Waiter
     u = t.0
 
-    service : Some (service_in u.1.state) ≡ Some told
+    service : Some (service_in u.1.state) ≡ Some delivering
     service = sym (service-is w history c u t.3) ∙ ap (λ (n : ℕ). service_of n history) (sym t.1) ∙ d.service
 
     go : (s : WaiterState) → u.1.state ≡ s → IsWaiterIn w.setting history u s → IsListed w (serves v) at
     go (Waiting exchange) is g = absurd (let e = ap (λ (s : WaiterState). Some (service_in s)) (sym is) ∙ service in cc)
     go (Delivering bytes id timer) is g =
         let moment : timer.due ≡ at = timer-due timer _ g.timer_is ∙ ap (λ (n : ℕ). next_send (sends_by (serves n) history)) (sym t.1) ∙ sym d.at_is in
-        of_client u timer.due t.3 (ap serves (sym t.1)) (ap (λ (s : WaiterState). waiters.due_in s w.exchanges) is) (omega (arith, moment))
+        of_waiter u timer.due t.3 (ap serves (sym t.1)) (ap (λ (s : WaiterState). waiters.due_in s w.exchanges) is) (omega (arith, moment))
 
 -- everything that is due according to the history is due according to the tables
 pub listed : (w : State) (history : List Action) → Bears history w → (a : Act) (at : ℕ) → IsDueAt w.setting history a at → IsListed w a at
@@ -338,24 +338,24 @@ listed w history c (serves v) at (to_serve_again d) = serve-again-listed w histo
 -- which of the two tables has the item that is due first
 data IsChosen (o p : Option Due) (i : DueItem) : Type 0 where
   an_exchange : (x : Due) → o ≡ Some x → i ≡ OfExchange x.0 x.1 → ((v : Due) → p ≡ Some v → x.0 ≤ v.0) → IsChosen o p i
-  a_client : (v : Due) → p ≡ Some v → i ≡ OfWaiter v.0 v.1 → ((x : Due) → o ≡ Some x → v.0 < x.0) → IsChosen o p i
+  a_waiter : (v : Due) → p ≡ Some v → i ≡ OfWaiter v.0 v.1 → ((x : Due) → o ≡ Some x → v.0 < x.0) → IsChosen o p i
 
 chosen : (o p : Option Due) (i : DueItem) → first_item o p ≡ Some i → IsChosen o p i
 chosen None None i e = absurd cc
-chosen None (Some v) i e = a_client v refl (sym (same_Some (OfWaiter v.0 v.1) i e)) (λ x f. absurd cc)
+chosen None (Some v) i e = a_waiter v refl (sym (same_Some (OfWaiter v.0 v.1) i e)) (λ x f. absurd cc)
 chosen (Some x) None i e = an_exchange x refl (sym (same_Some (OfExchange x.0 x.1) i e)) (λ v f. absurd cc)
 chosen (Some x) (Some v) i e = go (leb x.0 v.0) refl e
   where
     go : (b : Bool) → leb x.0 v.0 ≡ b → cond b (Some (OfExchange x.0 x.1)) (Some (OfWaiter v.0 v.1)) ≡ Some i → IsChosen (Some x) (Some v) i
     go true t f = an_exchange x refl (sym (same_Some (OfExchange x.0 x.1) i f)) (λ u g. subst (λ (z : Due). x.0 ≤ z.0) (same_Some v u g) (leb-true _ _ t))
-    go false t f = a_client v refl (sym (same_Some (OfWaiter v.0 v.1) i f)) (λ y g. subst (λ (z : Due). v.0 < z.0) (same_Some x y g) (leb-false _ _ t))
+    go false t f = a_waiter v refl (sym (same_Some (OfWaiter v.0 v.1) i f)) (λ y g. subst (λ (z : Due). v.0 < z.0) (same_Some x y g) (leb-false _ _ t))
 
 -- an item has exactly one moment and one number
 exchange_parts : (a b m n : ℕ) → OfExchange a m ≡ OfExchange b n → ◌≡◌ {A = Due} (b, n) (a, m)
 exchange_parts a b m n e = let p : a ≡ b = cc in let q : m ≡ n = cc in λ i. (sym p i, sym q i)
 
-client_parts : (a b m n : ℕ) → OfWaiter a m ≡ OfWaiter b n → ◌≡◌ {A = Due} (b, n) (a, m)
-client_parts a b m n e = let p : a ≡ b = cc in let q : m ≡ n = cc in λ i. (sym p i, sym q i)
+waiter_parts : (a b m n : ℕ) → OfWaiter a m ≡ OfWaiter b n → ◌≡◌ {A = Due} (b, n) (a, m)
+waiter_parts a b m n e = let p : a ≡ b = cc in let q : m ≡ n = cc in λ i. (sym p i, sym q i)
 
 module _ (w : State) (history : List Action) (c : Bears history w) where
   -- the exchange that is due first is due according to the history
@@ -364,10 +364,10 @@ module _ (w : State) (history : List Action) (c : Bears history w) where
       let f = first_due-holds (λ y. IsExchangeOf w.setting history y × Has y w.exchanges) (due_of w) w.exchanges d (All-there (IsExchangeOf w.setting history) w.exchanges c.exchanges) e in
       subst (λ (n : ℕ). IsDueAt w.setting history (moves n) d.0) f.2 (exchange-due w history c f.0 f.1.1 f.1.0 d.0 f.3)
 
-  client-first : (d : Due) → waiter_due w ≡ Some d → IsDueAt w.setting history (serves d.1) d.0
-  client-first d e =
+  waiter-first : (d : Due) → waiter_due w ≡ Some d → IsDueAt w.setting history (serves d.1) d.0
+  waiter-first d e =
       let f = first_due-holds (λ u. IsWaiterOf w.setting history u × Has u w.waiters) (due_after w.exchanges) w.waiters d (All-there (IsWaiterOf w.setting history) w.waiters c.waiters) e in
-      subst (λ (n : ℕ). IsDueAt w.setting history (serves n) d.0) f.2 (client-due w history c f.0 f.1.1 f.1.0 d.0 f.3)
+      subst (λ (n : ℕ). IsDueAt w.setting history (serves n) d.0) f.2 (waiter-due w history c f.0 f.1.1 f.1.0 d.0 f.3)
 
   -- the item that is due first is due according to the history
   pub least-due : (i : DueItem) → item_due w ≡ Some i → IsDueAt w.setting history (act_of i) (ticks.moment_of i)
@@ -375,7 +375,7 @@ module _ (w : State) (history : List Action) (c : Bears history w) where
     where
       go : IsChosen (exchange_due w) (waiter_due w) i → IsDueAt w.setting history (act_of i) (ticks.moment_of i)
       go (an_exchange x due is first) = subst (λ (j : DueItem). IsDueAt w.setting history (act_of j) (ticks.moment_of j)) (sym is) (exchange-first x due)
-      go (a_client v due is first) = subst (λ (j : DueItem). IsDueAt w.setting history (act_of j) (ticks.moment_of j)) (sym is) (client-first v due)
+      go (a_waiter v due is first) = subst (λ (j : DueItem). IsDueAt w.setting history (act_of j) (ticks.moment_of j)) (sym is) (waiter-first v due)
 
   -- the item that is due first of both tables is due first in its table
   pub exchange-turn : (at number : ℕ) → item_due w ≡ Some (OfExchange at number) → exchange_due w ≡ Some (at, number)
@@ -383,21 +383,21 @@ module _ (w : State) (history : List Action) (c : Bears history w) where
     where
       go : IsChosen (exchange_due w) (waiter_due w) (OfExchange at number) → exchange_due w ≡ Some (at, number)
       go (an_exchange x due is first) = due ∙ (λ i. Some (exchange_parts at x.0 number x.1 is i))
-      go (a_client v due is first) = absurd cc
+      go (a_waiter v due is first) = absurd cc
 
-  pub client-turn : (at number : ℕ) → item_due w ≡ Some (OfWaiter at number) → waiter_due w ≡ Some (at, number)
-  client-turn at number e = go (chosen (exchange_due w) (waiter_due w) (OfWaiter at number) e)
+  pub waiter-turn : (at number : ℕ) → item_due w ≡ Some (OfWaiter at number) → waiter_due w ≡ Some (at, number)
+  waiter-turn at number e = go (chosen (exchange_due w) (waiter_due w) (OfWaiter at number) e)
     where
       go : IsChosen (exchange_due w) (waiter_due w) (OfWaiter at number) → waiter_due w ≡ Some (at, number)
       go (an_exchange x due is first) = absurd cc
-      go (a_client v due is first) = due ∙ (λ i. Some (client_parts at v.0 number v.1 is i))
+      go (a_waiter v due is first) = due ∙ (λ i. Some (waiter_parts at v.0 number v.1 is i))
 
   -- no exchange is due before the first of them
   exchange-later : (d : Due) → exchange_due w ≡ Some d → (x : Numbered Exchange) (k : ℕ) → Has x w.exchanges → due_of w x.1 ≡ Some k → NotBefore d (k, x.0)
   exchange-later d e x k there due = Has-holds (IsNotBefore (due_of w) d) w.exchanges x (first_due-least (due_of w) w.exchanges d e) there k due
 
-  client-later : (d : Due) → waiter_due w ≡ Some d → (v : Numbered Waiter) (k : ℕ) → Has v w.waiters → due_after w.exchanges v.1 ≡ Some k → NotBefore d (k, v.0)
-  client-later d e v k there due = Has-holds (IsNotBefore (due_after w.exchanges) d) w.waiters v (first_due-least (due_after w.exchanges) w.waiters d e) there k due
+  waiter-later : (d : Due) → waiter_due w ≡ Some d → (v : Numbered Waiter) (k : ℕ) → Has v w.waiters → due_after w.exchanges v.1 ≡ Some k → NotBefore d (k, v.0)
+  waiter-later d e v k there due = Has-holds (IsNotBefore (due_after w.exchanges) d) w.waiters v (first_due-least (due_after w.exchanges) w.waiters d e) there k due
 
   -- and there is a first one if any is due
   exchange-some : (x : Numbered Exchange) (k : ℕ) → Has x w.exchanges → due_of w x.1 ≡ Some k → (d : Due) × (exchange_due w ≡ Some d)
@@ -407,8 +407,8 @@ module _ (w : State) (history : List Action) (c : Bears history w) where
       go None e = absurd (let none = Has-holds (λ y. due_of w y.1 ≡ None) w.exchanges x (first_due-none (due_of w) w.exchanges e) there in let f = sym none ∙ due in cc)
       go (Some d) e = (d, e)
 
-  client-some : (v : Numbered Waiter) (k : ℕ) → Has v w.waiters → due_after w.exchanges v.1 ≡ Some k → (d : Due) × (waiter_due w ≡ Some d)
-  client-some v k there due = go (waiter_due w) refl
+  waiter-some : (v : Numbered Waiter) (k : ℕ) → Has v w.waiters → due_after w.exchanges v.1 ≡ Some k → (d : Due) × (waiter_due w ≡ Some d)
+  waiter-some v k there due = go (waiter_due w) refl
     where
       go : (o : Option Due) → waiter_due w ≡ o → (d : Due) × (waiter_due w ≡ Some d)
       go None e = absurd (let none = Has-holds (λ y. due_after w.exchanges y.1 ≡ None) w.waiters v (first_due-none (due_after w.exchanges) w.waiters e) there in let f = sym none ∙ due in cc)
@@ -427,20 +427,20 @@ module _ (w : State) (history : List Action) (c : Bears history w) where
 
       clients : (x : Due) → waiter_due w ≡ Some x → (y : Numbered Waiter) (k : ℕ) → Has y w.waiters → due_after w.exchanges y.1 ≡ Some k → k ≤ m → ¬ IsSooner (serves y.0) m (serves x.1) x.0
       clients x due y k there is le sooner =
-          let not = client-later x due y k there is in
+          let not = waiter-later x due y k there is in
           let later = not.moment in
           let number = not.number in
           ⊎_elim (λ (less : m < x.0). omega (arith, less)) (λ (same : (m ≡ x.0) × ComesBefore (serves y.0) (serves x.1)). let at = same.0 in let lower = same.1 in omega arith) sooner
 
-      client-exchange : (x : Due) → ((v : Due) → waiter_due w ≡ Some v → x.0 ≤ v.0) → (y : Numbered Waiter) (k : ℕ) → Has y w.waiters → due_after w.exchanges y.1 ≡ Some k → k ≤ m → ¬ IsSooner (serves y.0) m (moves x.1) x.0
-      client-exchange x first y k there is le sooner =
-          let some = client-some y k there is in
+      waiter-exchange : (x : Due) → ((v : Due) → waiter_due w ≡ Some v → x.0 ≤ v.0) → (y : Numbered Waiter) (k : ℕ) → Has y w.waiters → due_after w.exchanges y.1 ≡ Some k → k ≤ m → ¬ IsSooner (serves y.0) m (moves x.1) x.0
+      waiter-exchange x first y k there is le sooner =
+          let some = waiter-some y k there is in
           let no_later = first some.0 some.1 in
-          let later = (client-later some.0 some.1 y k there is).moment in
+          let later = (waiter-later some.0 some.1 y k there is).moment in
           ⊎_elim (λ (less : m < x.0). omega (arith, less)) (λ (same : (m ≡ x.0) × ComesBefore (serves y.0) (moves x.1)). same.1) sooner
 
-      exchange-client : (v : Due) → ((x : Due) → exchange_due w ≡ Some x → v.0 < x.0) → (y : Numbered Exchange) (k : ℕ) → Has y w.exchanges → due_of w y.1 ≡ Some k → k ≤ m → ¬ IsSooner (moves y.0) m (serves v.1) v.0
-      exchange-client v first y k there is le sooner =
+      exchange-waiter : (v : Due) → ((x : Due) → exchange_due w ≡ Some x → v.0 < x.0) → (y : Numbered Exchange) (k : ℕ) → Has y w.exchanges → due_of w y.1 ≡ Some k → k ≤ m → ¬ IsSooner (moves y.0) m (serves v.1) v.0
+      exchange-waiter v first y k there is le sooner =
           let some = exchange-some y k there is in
           let before = first some.0 some.1 in
           let later = (exchange-later some.0 some.1 y k there is).moment in
@@ -448,9 +448,9 @@ module _ (w : State) (history : List Action) (c : Bears history w) where
 
       go : IsChosen (exchange_due w) (waiter_due w) i → IsListed w a m → ¬ IsSooner a m (act_of i) (ticks.moment_of i)
       go (an_exchange x due is first) (of_exchange y k there act when le) = subst (λ (j : DueItem). ¬ IsSooner a m (act_of j) (ticks.moment_of j)) (sym is) (subst (λ (b : Act). ¬ IsSooner b m (moves x.1) x.0) act (exchanges x due y k there when le))
-      go (an_exchange x due is first) (of_client y k there act when le) = subst (λ (j : DueItem). ¬ IsSooner a m (act_of j) (ticks.moment_of j)) (sym is) (subst (λ (b : Act). ¬ IsSooner b m (moves x.1) x.0) act (client-exchange x first y k there when le))
-      go (a_client v due is first) (of_exchange y k there act when le) = subst (λ (j : DueItem). ¬ IsSooner a m (act_of j) (ticks.moment_of j)) (sym is) (subst (λ (b : Act). ¬ IsSooner b m (serves v.1) v.0) act (exchange-client v first y k there when le))
-      go (a_client v due is first) (of_client y k there act when le) = subst (λ (j : DueItem). ¬ IsSooner a m (act_of j) (ticks.moment_of j)) (sym is) (subst (λ (b : Act). ¬ IsSooner b m (serves v.1) v.0) act (clients v due y k there when le))
+      go (an_exchange x due is first) (of_waiter y k there act when le) = subst (λ (j : DueItem). ¬ IsSooner a m (act_of j) (ticks.moment_of j)) (sym is) (subst (λ (b : Act). ¬ IsSooner b m (moves x.1) x.0) act (waiter-exchange x first y k there when le))
+      go (a_waiter v due is first) (of_exchange y k there act when le) = subst (λ (j : DueItem). ¬ IsSooner a m (act_of j) (ticks.moment_of j)) (sym is) (subst (λ (b : Act). ¬ IsSooner b m (serves v.1) v.0) act (exchange-waiter v first y k there when le))
+      go (a_waiter v due is first) (of_waiter y k there act when le) = subst (λ (j : DueItem). ¬ IsSooner a m (act_of j) (ticks.moment_of j)) (sym is) (subst (λ (b : Act). ¬ IsSooner b m (serves v.1) v.0) act (clients v due y k there when le))
 
   -- if no item is due first, nothing is due
   pub nothing-due : item_due w ≡ None → (a : Act) (m : ℕ) → ¬ IsDueAt w.setting history a m
@@ -458,7 +458,7 @@ module _ (w : State) (history : List Action) (c : Bears history w) where
     where
       go : IsListed w a m → (o : Option Due) → exchange_due w ≡ o → (p : Option Due) → waiter_due w ≡ p → first_item o p ≡ None → ⊥
       go (of_exchange y k there act when le) None f p g none = let some = exchange-some y k there when in absurd (let h = sym f ∙ some.1 in cc)
-      go (of_client y k there act when le) None f None g none = let some = client-some y k there when in absurd (let h = sym g ∙ some.1 in cc)
+      go (of_waiter y k there act when le) None f None g none = let some = waiter-some y k there when in absurd (let h = sym g ∙ some.1 in cc)
       go l None f (Some v) g none = absurd cc
       go l (Some x) f None g none = absurd cc
       go l (Some x) f (Some v) g none = both (leb x.0 v.0) none

@@ -14,7 +14,7 @@ use Rattle.coap_message.specs.Reading.{read_message}
 use Rattle.coap_message.proofs.Spellings.{spelling-length}
 use Rattle.coap_message.proofs.WholeMessages.{read_is}
 use Rattle.coap_store.specs.Renewing.{max_age_option}
-use Rattle.coap_forward.specs.Messages.{acknowledgement, reset, own_reply, busy_reply}
+use Rattle.coap_forward.specs.Messages.{acknowledgement, reset, own_reply, overload_reply}
 use Rattle.coap_model.specs.Step.{message_in}
 
 -- ---- a Max-Age
@@ -52,8 +52,8 @@ pub own_reply-is : (code : Code) (options : List Opt) (id : ℕ) (token : List �
 own_reply-is code options id token some are short = record { token = short; options = are; bare = record { token = λ e. absurd (some e); options = λ e. absurd (some e); payload = λ e. absurd (some e) } }
 
 -- and so is one that says when to try again
-pub busy_reply-is : (seconds id : ℕ) (token : List ℕ) → length token ≤ 8 → IsMessage (busy_reply seconds id token)
-busy_reply-is seconds id token short = own_reply-is _ (max_age_option seconds ∷ []) id token (λ e. absurd (omega arith)) (max_age-options seconds) short
+pub overload_reply-is : (seconds id : ℕ) (token : List ℕ) → length token ≤ 8 → IsMessage (overload_reply seconds id token)
+overload_reply-is seconds id token short = own_reply-is _ (max_age_option seconds ∷ []) id token (λ e. absurd (omega arith)) (max_age-options seconds) short
 
 -- ---- what is read
 

@@ -1,4 +1,4 @@
--- Forged acknowledgements of an answer close no client.
+-- Forged acknowledgements of an answer close no waiter.
 use Rattle.std.proofs.Common.{◌≡◌, inl, inr, ℕ, [], ◌∷◌, codes, Some, refl, sym, ap, ◌∙◌, subst, arith}
 use Rattle.std.proofs.lemmas.Option.{same_Some}
 use Rattle.coap_endpoint.specs.declared.endpoint.Endpoint.{Endpoint}
@@ -60,11 +60,11 @@ by_its_id = record {
   id_is = refl;
 }
 
--- the client was served at no other position
+-- the waiter was served at no other position
 not-served : (p q : Position) → p ≡ q → (p.action.observation.report.outcome ≡ Delivered → ⊥) → Serves 1 q → ⊥
 not-served p q same none s = none (ap (λ (r : Position). r.action.observation.report.outcome) same ∙ s.outcome)
 
--- the client was served at one position
+-- the waiter was served at one position
 served-there : (p : Position) → IsPositionOf (in_con ∷ past_con) p → Serves 1 p → here past_con in_con ≡ p
 served-there p (inl e) s = e
 served-there p (inr (inl e)) s = absurd (not-served (here (asked ∷ opened_con ∷ []) answered) p e (λ same. cc) s)

@@ -66,7 +66,7 @@ nothing_got s =
     (λ (t : IsPositionOf (opened ∷ []) p.ending). ⊎_elim (λ (e : here [] opened ≡ p.ending). no_end opened [] p.ending p.admitted.exchange refl e p.ends) (λ (h : ⊥). h) t)
     p.was_ended
 
--- an action that admits no client
+-- an action that admits no waiter
 no_admission : (d : Action) (before : List Action) (p : Position) (v x : ℕ) → admits_one d.observation.report.outcome ≡ 0 → here before d ≡ p → Admits v x p → ⊥
 no_admission d before p v x not same a = let o : 0 ≡ 1 = sym not ∙ ap (λ (q : Position). admits_one q.action.observation.report.outcome) same ∙ a.outcome in omega (arith, o)
 
@@ -85,7 +85,7 @@ early s =
     unadmitted : IsPositionOf (asked ∷ []) s.to_serve.admitted.admission → ⊥
     unadmitted at = ⊎_elim (λ (e : here [] asked ≡ s.to_serve.admitted.admission). no_admission asked [] s.to_serve.admitted.admission s.waiter s.to_serve.admitted.exchange refl e s.to_serve.admitted.admits) (λ (h : ⊥). h) at
 
--- the client that is admitted by the first of three actions, whatever was requested
+-- the waiter that is admitted by the first of three actions, whatever was requested
 one_admission : (o d : Action) (p : Position) (v x : ℕ) → admits_one d.observation.report.outcome ≡ 0 → IsPositionOf (answered ∷ d ∷ o ∷ []) p → Admits v x p → p ≡ here [] o
 one_admission o d p v x not at a =
     ⊎_elim
@@ -210,7 +210,7 @@ abbrev con_told : Result Message DecodeError → Bool
 con_told (Ok m) = is_con m.kind
 con_told (Err e) = false
 
--- a delivery has the type of the request that admitted the client, which is in these bytes
+-- a delivery has the type of the request that admitted the waiter, which is in these bytes
 kind_asked : (o : Action) (bytes told : List ℕ) → o.observation.event ≡ arrival (client 1) bytes → (s : IsDelivery setting (answered ∷ asked ∷ o ∷ []) (delivery (client 1) told (serves 1))) → con_told (read_message bytes) ≡ con_told (read_message told)
 kind_asked o bytes told came s =
     let a = s.to_serve.admitted in

@@ -24,11 +24,11 @@ use Rattle.coap_store.specs.Freshness.{is_fresh}
 use Rattle.coap_store.specs.Keys.{same_key}
 use Rattle.coap_store.specs.Lists.{of_key}
 use Rattle.coap_store.specs.Renewing.{has_tag, is_validated, tag_of}
-use Rattle.coap_store.specs.Showing.{shows_max_age}
+use Rattle.coap_store.specs.Showing.{is_cacheable}
 use Rattle.coap_forward.specs.Changes.{changed_by, concerns}
 use Rattle.coap_forward.specs.Forms.{target_options}
 use Rattle.coap_forward.specs.Messages.{token_of, at_once}
-use Rattle.coap_forward.specs.Answers.{stored_answer, shown, taken_of}
+use Rattle.coap_forward.specs.Answers.{stored_answer, shown, passed_part}
 use Rattle.coap_model.specs.declared.report.Outcome.{Outcome}
 use Rattle.coap_model.specs.declared.report.Outcome.TheVariants.{Opened}
 use Rattle.coap_model.specs.declared.report.Storing.TheVariants.{Kept}
@@ -37,7 +37,7 @@ use Rattle.coap_model.specs.Keys.{target_sent, key_sent}
 use Rattle.coap_model.specs.Examples.{origin, client, get_t}
 use Rattle.coap_model.specs.LimitExamples as limited
 use Rattle.coap_model.specs.OptionExamples.{key_of_temp}
-use Rattle.coap_model.specs.History.{Observation, Action, told_by, opened_in, Position, IsRequestOf, IsPositionOf, Never, Sends, Asks, Gets, in_acknowledgement, takes}
+use Rattle.coap_model.specs.History.{Observation, Action, told_by, opened_in, Position, IsRequestOf, IsPositionOf, Never, Sends, Asks, Gets, in_acknowledgement, accepts_answer}
 use Rattle.coap_model.specs.Forged.{setting, opened, asked}
 use Rattle.coap_model.specs.Cached.{Cached, cached_key, entry_of_cached, IsCacheOf, otherwise, IsFetched, first_hand, validated, IsObtained, WasObtained}
 use Rattle.coap_model.specs.Changed.{key_asked, Changes, IsTold, Unchanged, WasChanged}
@@ -207,13 +207,13 @@ from_cache_but_for_the_change = from_cache_if changed_past (inr (inr (inr (inr (
 not-of-the-change : {key : CacheKey} {response : Message} {asking : Position} → IsObtained setting key response asking (here asked_past change) → ⊥
 not-of-the-change (first_hand {response = response} fetched is lasting) =
     let one = one-getting fetched.gets (change_gets asked_past (here opened_past asks_again) (inl refl) second_asks refl refl) in
-    let code : response.code ≡ changed_message.code = ap (λ (m : Message). m.code) is ∙ ap (λ (m : Message). (taken_of true m).code) one.message in
-    let none : shows_max_age response.code ≡ false = ap shows_max_age code in
+    let code : response.code ≡ changed_message.code = ap (λ (m : Message). m.code) is ∙ ap (λ (m : Message). (passed_part true m).code) one.message in
+    let none : is_cacheable response.code ≡ false = ap is_cacheable code in
     absurd (let e = sym lasting.code ∙ none in cc)
 not-of-the-change (validated {old = old} fetched tag obtained behind tagged sent is renewal fit lasting) =
     let one = one-getting fetched.gets (change_gets asked_past (here opened_past asks_again) (inl refl) second_asks refl refl) in
-    let valid : is_validated old (taken_of true changed_message) ≡ true = subst (λ (m : Message). is_validated old (taken_of true m) ≡ true) one.message is in
-    not-valid (and_parts (is_code old.code CONTENT) false (and_parts (is_code old.code CONTENT && false) (option_map_or (λ (t : List ℕ). has_tag t (taken_of true changed_message)) (tag_of old.options) false) valid).0).1
+    let valid : is_validated old (passed_part true changed_message) ≡ true = subst (λ (m : Message). is_validated old (passed_part true m) ≡ true) one.message is in
+    not-valid (and_parts (is_code old.code CONTENT) false (and_parts (is_code old.code CONTENT && false) (option_map_or (λ (t : List ℕ). has_tag t (passed_part true changed_message)) (tag_of old.options) false) valid).0).1
   where
     not-valid : false ≡ true → ⊥
     not-valid e = absurd cc
@@ -224,7 +224,7 @@ asked-first (first_hand fetched is lasting) = sym fetched.asking_is ∙ (one-get
 asked-first (validated fetched tag obtained behind tagged sent is renewal fit lasting) = sym fetched.asking_is ∙ (one-getting fetched.gets (first_gets Kept)).asking
 
 -- an answer arrives at no other position
-pub got-elsewhere : {key : CacheKey} {response : Message} {asking getting : Position} (p : Position) → takes p.action.observation.report.outcome ≡ false → p ≡ getting → IsObtained setting key response asking getting → ⊥
+pub got-elsewhere : {key : CacheKey} {response : Message} {asking getting : Position} (p : Position) → accepts_answer p.action.observation.report.outcome ≡ false → p ≡ getting → IsObtained setting key response asking getting → ⊥
 got-elsewhere {key} {response} {asking} {getting} p none same obtained = go (subst (λ (q : Position). IsObtained setting key response asking q) (sym same) obtained)
   where
     go : IsObtained setting key response asking p → ⊥

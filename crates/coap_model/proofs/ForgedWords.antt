@@ -19,8 +19,8 @@ use Rattle.coap_target.specs.Request.{request_target}
 use Rattle.coap_store.specs.declared.key.CacheKey.{CacheKey}
 use Rattle.coap_store.specs.Freshness.{is_fresh}
 use Rattle.coap_store.specs.Renewing.{has_tag, is_validated, renewed, tag_of}
-use Rattle.coap_store.specs.Showing.{shows_max_age}
-use Rattle.coap_forward.specs.Answers.{is_passed_on, shown, stored_answer, taken_of}
+use Rattle.coap_store.specs.Showing.{is_cacheable}
+use Rattle.coap_forward.specs.Answers.{is_passed_on, shown, stored_answer, passed_part}
 use Rattle.coap_forward.specs.Changes.{changed_by}
 use Rattle.coap_forward.specs.Forms.{target_options}
 use Rattle.coap_forward.specs.Messages.{at_once, own_reply, token_of}
@@ -62,9 +62,9 @@ no-validation old m none valid =
 -- the only response that was obtained with the first answer is that answer
 response-first : {key : CacheKey} {response : Message} {asking : Position} → IsObtained setting key response asking first_entry.getting → response ≡ content_for 1 1
 unfolding token_of
-response-first (first_hand fetched is lasting) = is ∙ ap (taken_of true) (one-getting fetched.gets (first_gets Kept)).message
+response-first (first_hand fetched is lasting) = is ∙ ap (passed_part true) (one-getting fetched.gets (first_gets Kept)).message
 response-first (validated {old = old} fetched tag obtained behind tagged sent is renewal fit lasting) =
-    absurd (no-validation old (taken_of true (content_for 1 1)) refl (subst (λ (m : Message). is_validated old (taken_of true m) ≡ true) (one-getting fetched.gets (first_gets Kept)).message is))
+    absurd (no-validation old (passed_part true (content_for 1 1)) refl (subst (λ (m : Message). is_validated old (passed_part true m) ≡ true) (one-getting fetched.gets (first_gets Kept)).message is))
 
 -- what was obtained before the reply arrived with the first answer
 got-first : {key : CacheKey} {response : Message} {asking getting : Position} → IsPositionOf asked_past getting → IsObtained setting key response asking getting → getting ≡ first_entry.getting
@@ -231,16 +231,16 @@ unfolding token_of target_options target_sent key_sent spelling option_spelling 
 valid_fetched = fetched-by (valid_gets validated_past (here tagged_past asks_tagged) (inl refl) (tagged_asks tagged_past tagged_unsent) refl refl) _ refl refl refl refl (newest-unchanged setting key_of_temp.target tagged_past asks_tagged refl)
 
 -- so the answer that it renews was obtained
-pub renewed_obtained : IsObtained setting key_of_temp (renewed tagged_content (taken_of true valid_message)) (here tagged_past asks_tagged) (here validated_past gets_valid)
+pub renewed_obtained : IsObtained setting key_of_temp (renewed tagged_content (passed_part true valid_message)) (here tagged_past asks_tagged) (here validated_past gets_valid)
 unfolding tagged_fetched valid_fetched token_of target_options uint_spelling spelling option_spelling
 renewed_obtained =
     validated valid_fetched (0xAB ∷ []) (first_hand tagged_fetched refl (record { code = refl; age = omega arith })) (inr (inl refl)) refl refl refl refl refl (record { code = refl; age = omega arith })
 
 -- a 2.03 alone isn't a response that may be kept
-not-alone : {key : CacheKey} {response : Message} {asking : Position} {past : List Action} (gets : Gets setting 2 (here past gets_valid)) → gets.meets.message ≡ valid_message → (fetched : IsFetched setting key asking (here past gets_valid)) → response ≡ taken_of true fetched.gets.meets.message → IsLasting response → ⊥
+not-alone : {key : CacheKey} {response : Message} {asking : Position} {past : List Action} (gets : Gets setting 2 (here past gets_valid)) → gets.meets.message ≡ valid_message → (fetched : IsFetched setting key asking (here past gets_valid)) → response ≡ passed_part true fetched.gets.meets.message → IsLasting response → ⊥
 not-alone {response = response} gets same fetched is lasting =
-    let code : response.code ≡ valid_message.code = ap (λ (m : Message). m.code) is ∙ ap (λ (m : Message). (taken_of true m).code) ((one-getting fetched.gets gets).message ∙ same) in
-    let none : shows_max_age response.code ≡ false = ap shows_max_age code in
+    let code : response.code ≡ valid_message.code = ap (λ (m : Message). m.code) is ∙ ap (λ (m : Message). (passed_part true m).code) ((one-getting fetched.gets gets).message ∙ same) in
+    let none : is_cacheable response.code ≡ false = ap is_cacheable code in
     absurd (let e = sym lasting.code ∙ none in cc)
 
 -- nothing is renewed by a 2.03 that was requested before it came
@@ -268,7 +268,7 @@ unfolding late_tagged token_of target_options target_sent key_sent spelling opti
 early_fetched = fetched-by (valid_gets validated_early (here early_past asks_tagged) (inr (inl refl)) (tagged_asks early_past early_unsent) refl refl) _ refl refl refl refl (told-on false key_of_temp.target (here early_past asks_tagged) late_tagged.gets (omega arith) (newest-unchanged setting key_of_temp.target early_past asks_tagged refl))
 
 -- the answer would be renewed if it had come before that request
-pub older_if_before : IsPositionOf early_past (here (asks_tagged ∷ early_past) gets_tagged) → IsObtained setting key_of_temp (renewed tagged_content (taken_of true valid_message)) (here early_past asks_tagged) (here validated_early gets_valid)
+pub older_if_before : IsPositionOf early_past (here (asks_tagged ∷ early_past) gets_tagged) → IsObtained setting key_of_temp (renewed tagged_content (passed_part true valid_message)) (here early_past asks_tagged) (here validated_early gets_valid)
 unfolding late_tagged early_fetched token_of target_options uint_spelling spelling option_spelling
 older_if_before before =
     validated early_fetched (0xAB ∷ []) (first_hand late_tagged refl (record { code = refl; age = omega arith })) before refl refl refl refl refl (record { code = refl; age = omega arith })
@@ -291,7 +291,7 @@ unfolding token_of target_options target_sent key_sent spelling option_spelling 
 untagged_fetched = fetched-by (untagged_gets) _ refl refl refl refl (newest-unchanged setting key_of_temp.target tagged_past asks_again refl)
 
 -- the answer would be if that request had the tag
-pub untagged_if_tagged : tags_of (get_for 3 2) ≡ (0xAB ∷ []) ∷ [] → IsObtained setting key_of_temp (renewed tagged_content (taken_of true valid_message)) (here tagged_past asks_again) (here validated_untagged gets_valid)
+pub untagged_if_tagged : tags_of (get_for 3 2) ≡ (0xAB ∷ []) ∷ [] → IsObtained setting key_of_temp (renewed tagged_content (passed_part true valid_message)) (here tagged_past asks_again) (here validated_untagged gets_valid)
 unfolding tagged_fetched untagged_fetched token_of spelling option_spelling
 untagged_if_tagged tag =
     validated untagged_fetched (0xAB ∷ []) (first_hand tagged_fetched refl (record { code = refl; age = omega arith })) (inr (inl refl)) refl tag refl refl refl (record { code = refl; age = omega arith })

@@ -24,7 +24,7 @@ use Rattle.coap_model.specs.declared.report.Outcome.{Outcome}
 use Rattle.coap_model.specs.declared.report.Outcome.TheVariants.{Opened}
 use Rattle.coap_model.specs.Setting.{Setting}
 use Rattle.coap_model.specs.State.{State}
-use Rattle.coap_model.specs.History.{Act, no_item, admits, moves, serves, Action, Position, IsPositionOf, Somewhere, opens_one, admits_one, takes, Gets, opened_in, admitted_in, Opens, Admits}
+use Rattle.coap_model.specs.History.{Act, no_item, admits, moves, serves, Action, Position, IsPositionOf, Somewhere, opens_one, admits_one, accepts_answer, Gets, opened_in, admitted_in, Opens, Admits}
 use Rattle.coap_model.specs.Schedules.{same_act, is_sending, sends_for, sends_by, IsSchedule}
 use Rattle.coap_model.specs.Carries.{Clock, Numbers, IsTimer, AreOfBytes, WasAsked, WasSent, IsInFlight, IsState, IsExchangeOf, IsWaiterIn, IsWaiterOf, AreUnused, AreSchedules}
 use Rattle.coap_model.proofs.Positions.{here, index_below, opened-later, admitted-later}
@@ -48,7 +48,7 @@ opened-few (e ∷ past) = let i = opened-few past in let one = at_most_one e.obs
     at_most_one Opened = omega arith
     at_most_one _ = omega arith
 
--- and no more clients were admitted
+-- and no more waiters were admitted
 pub admitted-few : (history : List Action) → admitted_in history ≤ length history
 admitted-few [] = omega arith
 admitted-few (e ∷ past) = let i = admitted-few past in let one = at_most_one e.observation.report.outcome in omega arith
@@ -76,9 +76,9 @@ same_act-true (admits v x) b e = absurd cc
 pub same_act-self : (x : ℕ) → same_act (moves x) (moves x) ≡ true
 same_act-self x = eq-eqb x x refl
 
--- and so is one on a client
-pub same_act-client : (v : ℕ) → same_act (serves v) (serves v) ≡ true
-same_act-client v = eq-eqb v v refl
+-- and so is one on a waiter
+pub same_act-waiter : (v : ℕ) → same_act (serves v) (serves v) ≡ true
+same_act-waiter v = eq-eqb v v refl
 
 -- an observation with another act sends nothing for this act
 not-for : (a : Act) (d : Action) → d.act ≢ a → sends_for a d ≡ false
@@ -195,12 +195,12 @@ exchange_tainted setting history e x b other taint f =
     }
 
 -- so it stays right without a taint if no answer is accepted
-pub exchange_frame : (setting : Setting) (history : List Action) (e : Action) (x : Numbered Exchange) → takes e.observation.report.outcome ≡ false → e.act ≢ moves x.0 → IsExchangeOf setting history x → IsExchangeOf setting (e ∷ history) x
+pub exchange_frame : (setting : Setting) (history : List Action) (e : Action) (x : Numbered Exchange) → accepts_answer e.observation.report.outcome ≡ false → e.act ≢ moves x.0 → IsExchangeOf setting history x → IsExchangeOf setting (e ∷ history) x
 exchange_frame setting history e x none other f =
     exchange_tainted setting history e x x.1.tainted other (record { flying = λ flying since at told. told-stays x.1.tainted setting x.1.key.target since history e none told; resting = λ resting. refl }) f
 
 -- all exchanges stay right at an observation that accepts no answer and acts on none of them
-pub exchanges_frame : (setting : Setting) (history : List Action) (e : Action) (xs : List (Numbered Exchange)) → takes e.observation.report.outcome ≡ false → ((x : ℕ) → e.act ≢ moves x)
+pub exchanges_frame : (setting : Setting) (history : List Action) (e : Action) (xs : List (Numbered Exchange)) → accepts_answer e.observation.report.outcome ≡ false → ((x : ℕ) → e.act ≢ moves x)
     → AllByRecursion (IsExchangeOf setting history) xs → AllByRecursion (IsExchangeOf setting (e ∷ history)) xs
 exchanges_frame setting history e xs none other all =
     All-weaken (IsExchangeOf setting history) (IsExchangeOf setting (e ∷ history)) xs (λ x f. exchange_frame setting history e x none (other x.0) f) all
@@ -263,9 +263,9 @@ tainted-all (t ∷ changed) xs = tainted-all changed (all_changed (tainted_by t)
     both [] = refl
     both (y ∷ ys) = λ i. tainted-one t changed y i ∷ both ys i
 
--- ---- clients
+-- ---- waiters
 
--- a client stays right at an observation that doesn't serve it
+-- a waiter stays right at an observation that doesn't serve it
 pub waiter_frame : (setting : Setting) (history : List Action) (e : Action) (v : Numbered Waiter) → e.act ≢ serves v.0 → IsWaiterOf setting history v → IsWaiterOf setting (e ∷ history) v
 waiter_frame setting history e v other f = go v.1.state f
   where
@@ -305,7 +305,7 @@ waiter_frame setting history e v other f = go v.1.state f
           tags_gone = g.tags_gone;
         }
 
--- all clients stay right at an observation that serves none of them
+-- all waiters stay right at an observation that serves none of them
 pub waiters_frame : (setting : Setting) (history : List Action) (e : Action) (vs : List (Numbered Waiter)) → ((v : ℕ) → e.act ≢ serves v) → AllByRecursion (IsWaiterOf setting history) vs → AllByRecursion (IsWaiterOf setting (e ∷ history)) vs
 waiters_frame setting history e vs other all =
     All-weaken (IsWaiterOf setting history) (IsWaiterOf setting (e ∷ history)) vs (λ v f. waiter_frame setting history e v (other v.0) f) all
@@ -350,7 +350,7 @@ opened-before history e x none s =
     (λ there. record { position = s.position; is_there = there; holds = s.holds })
     s.is_there
 
--- a client was admitted before an observation that admits nobody
+-- a waiter was admitted before an observation that admits nobody
 pub admitted-before : (history : List Action) (e : Action) (v x : ℕ) → admits_one e.observation.report.outcome ≡ 0 → Somewhere (Admits v x) (e ∷ history) → Somewhere (Admits v x) history
 admitted-before history e v x none s =
     ⊎_elim

@@ -22,7 +22,7 @@ use Rattle.coap_target.specs.Request.{first_value}
 use Rattle.coap_target.specs.Routes.{values_of}
 use Rattle.coap_store.specs.declared.key.CacheKey.{CacheKey}
 use Rattle.coap_forward.specs.Messages.{is_get}
-use Rattle.coap_forward.specs.Forms.{is_used_up, goes_on, put_in, merged, target_options, tagged, forwarded}
+use Rattle.coap_forward.specs.Forms.{is_used_up, is_forwarded, put_in, merged, target_options, tagged, forwarded}
 use Rattle.coap_forward.proofs.Forms.{All-target, in_key, AreUnused, unused-clean, key-clean, key-screened, sent-screened, sent-unused, IsTag, tagged-unused}
 use Rattle.coap_forward.specs.Gaps.{given, port_value, scheme_value}
 use Rattle.coap_forward.proofs.Gaps.{target-values}
@@ -233,19 +233,19 @@ module _ (says : ℕ → Bool) (used : (number : ℕ) → says number ≡ true �
   beside-kept os others say none = filter-merged (λ o. not (says o.number)) os others (All-weaken (λ o. says o.number ≡ true) (λ o. not (says o.number) ≡ false) os (λ o is. ap not is) say) ∙ unused-beside others none
 
 -- the forwarded options in the key are those of all options that are in the key
-key-of-sent : (code : Code) (os : List Opt) → filter (in_key code) (filter (goes_on code) os) ≡ filter (in_key code) os
+key-of-sent : (code : Code) (os : List Opt) → filter (in_key code) (filter (is_forwarded code) os) ≡ filter (in_key code) os
 key-of-sent code [] = refl
-key-of-sent code (o ∷ os) = go (goes_on code o) refl (in_key code o) refl (key-of-sent code os)
+key-of-sent code (o ∷ os) = go (is_forwarded code o) refl (in_key code o) refl (key-of-sent code os)
   where
     out : (g k : Bool) → g ≡ false → (g && not (is_no_cache_key o.number)) ≡ k → k ≡ false
     out true k e f = absurd cc
     out false k e f = sym f
 
-    go : (g : Bool) → goes_on code o ≡ g → (k : Bool) → in_key code o ≡ k → filter (in_key code) (filter (goes_on code) os) ≡ filter (in_key code) os
-        → filter (in_key code) (cond g (o ∷ filter (goes_on code) os) (filter (goes_on code) os)) ≡ cond k (o ∷ filter (in_key code) os) (filter (in_key code) os)
+    go : (g : Bool) → is_forwarded code o ≡ g → (k : Bool) → in_key code o ≡ k → filter (in_key code) (filter (is_forwarded code) os) ≡ filter (in_key code) os
+        → filter (in_key code) (cond g (o ∷ filter (is_forwarded code) os) (filter (is_forwarded code) os)) ≡ cond k (o ∷ filter (in_key code) os) (filter (in_key code) os)
     go true e true f rest = rw (f, rest) refl
     go true e false f rest = rw (f, rest) refl
-    go false e true f rest = absurd (let g = out (goes_on code o) true e f in cc)
+    go false e true f rest = absurd (let g = out (is_forwarded code o) true e f in cc)
     go false e false f rest = rest
 
 -- the others are the options besides the target

@@ -32,7 +32,7 @@ pub mod OwedActions
 pub mod Stages
 pub mod Services
 pub mod Once
-pub mod FinishedClients
+pub mod FinishedWaiters
 pub mod DueByHistory
 pub mod CaseExchangeChanged
 pub mod Turns
@@ -56,7 +56,7 @@ pub mod CaseAnswered
 pub mod Endings
 pub mod CaseHit
 pub mod CaseDelivered
-pub mod CaseClientChanged
+pub mod CaseWaiterChanged
 pub mod CaseOpenOrJoin
 pub mod CaseIdle
 pub mod AllCases

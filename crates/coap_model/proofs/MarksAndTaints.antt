@@ -6,7 +6,7 @@ use Rattle.coap_message.specs.declared.code.Code.{Code}
 use Rattle.coap_message.specs.declared.code.TheConstants.Code.{CREATED, DELETED, CHANGED, VALID}
 use Rattle.coap_message.specs.Codes.{is_code}
 use Rattle.coap_option.specs.Selection.{max_age_of}
-use Rattle.coap_store.specs.Showing.{is_content, shows_max_age}
+use Rattle.coap_store.specs.Showing.{is_content, is_cacheable}
 use Rattle.coap_forward.specs.Messages.{is_rst}
 use Rattle.coap_forward.specs.Answers.{validates, is_passed_on, without_observe, bad_gateway, own_answer, origin_answer, validated, answer_of, is_storable}
 use Rattle.coap_message.specs.Message.{Message}
@@ -15,7 +15,7 @@ use Rattle.coap_endpoint.specs.declared.target.Target.{Target}
 use Rattle.coap_forward.specs.Changes.{is_change, created_by, changed_by, concerns}
 use Rattle.coap_model.specs.Setting.{Setting}
 use Rattle.coap_model.specs.Keys.{key_sent}
-use Rattle.coap_model.specs.History.{Action, Position, index, Never, takes, Sends, Gets}
+use Rattle.coap_model.specs.History.{Action, Position, index, Never, accepts_answer, Sends, Gets}
 use Rattle.coap_model.specs.Changed.{asked_of, key_asked, to_get, Changes, ChangesAfter, Unchanged, WasChanged, IsTold}
 use Rattle.coap_message.proofs.WholeMessages.{one_message}
 use Rattle.coap_model.proofs.Positions.{here, index_below, same_moves, first-once, one-brought, never-from, Never-at}
@@ -58,11 +58,11 @@ one-getting {setting} {x} {y} {p} g h =
 -- ---- observations that accept no answer
 
 -- an observation that accepts no answer changes nothing
-pub quiet-unchanged : {setting : Setting} {history : List Action} {d : Action} {target : Target} → takes d.observation.report.outcome ≡ false → Changes setting target (here history d) → ⊥
+pub quiet-unchanged : {setting : Setting} {history : List Action} {d : Action} {target : Target} → accepts_answer d.observation.report.outcome ≡ false → Changes setting target (here history d) → ⊥
 quiet-unchanged none c = let e = sym none ∙ c.gets.outcome in absurd cc
 
 -- so what a mark says stays right
-pub told-stays : (told : Bool) (setting : Setting) (target : Target) (since : Position) (history : List Action) (d : Action) → takes d.observation.report.outcome ≡ false → IsTold told setting target since history → IsTold told setting target since (d ∷ history)
+pub told-stays : (told : Bool) (setting : Setting) (target : Target) (since : Position) (history : List Action) (d : Action) → accepts_answer d.observation.report.outcome ≡ false → IsTold told setting target since history → IsTold told setting target since (d ∷ history)
 told-stays false setting target since history d none t = ((λ c. quiet-unchanged none c.0), t)
 told-stays true setting target since history d none t = record { position = t.position; is_there = inr t.is_there; holds = t.holds }
 
@@ -92,7 +92,7 @@ pub told-contrary : {setting : Setting} {target : Target} (since : Position) {hi
 told-contrary {setting} {target} since {history} never was = Never-at (ChangesAfter setting target since) history was.position never was.is_there was.holds
 
 -- nothing was changed after the newest position
-pub newest-unchanged : (setting : Setting) (target : Target) (history : List Action) (d : Action) → takes d.observation.report.outcome ≡ false → Unchanged setting target (here history d) (d ∷ history)
+pub newest-unchanged : (setting : Setting) (target : Target) (history : List Action) (d : Action) → accepts_answer d.observation.report.outcome ≡ false → Unchanged setting target (here history d) (d ∷ history)
 newest-unchanged setting target history d none = ((λ c. quiet-unchanged none c.0), never-from (ChangesAfter setting target (here history d)) history (λ p at c. let lower = index_below history p at in let above = c.1 in omega (arith, lower, above)))
 
 -- ---- an answer that may be stored changes nothing
@@ -108,7 +108,7 @@ change-code code e = go (is_code code CREATED) refl (is_code code DELETED) refl 
     go false f false g false h any = absurd cc
 
 -- a code with a Max-Age isn't one of these, nor is 2.03
-lasting-code : (code : Code) → shows_max_age code ≡ true → is_change code ≡ true → ⊥
+lasting-code : (code : Code) → is_cacheable code ≡ true → is_change code ≡ true → ⊥
 lasting-code code e change = go (is_content code) refl (code.0 / 32 == 4) refl (code.0 / 32 == 5) refl e
   where
     no : (n : ℕ) → code.0 ≡ n → (n ≢ 65) × (n ≢ 66) × (n ≢ 68) → ⊥
@@ -137,7 +137,7 @@ storable-code most now to_get copy m e change = go (not (is_rst m.kind) && is_pa
         → is_storable (cond p (cond v (validated most now copy (cond v (record (without_observe m) { payload = [] }) (without_observe m))) (origin_answer now (cond v (record (without_observe m) { payload = [] }) (without_observe m)))) (own_answer now bad_gateway)) ≡ true → ⊥
     go false v is f = absurd cc
     go true true is f = valid-code m.code (and_parts to_get (is_code m.code VALID) is).1 change
-    go true false is f = lasting-code m.code (and_parts (shows_max_age m.code) (nat_lt 0 (max_age_of (without_observe m))) f).0 change
+    go true false is f = lasting-code m.code (and_parts (is_cacheable m.code) (nat_lt 0 (max_age_of (without_observe m))) f).0 change
 
 -- and the response changes no target
 pub storable-quiet : (most now : ℕ) (to_get : Bool) (copy : Option Message) (m : Message) (t u : Target) → is_storable (answer_of most to_get copy now m) ≡ true → concerns (changed_by t m) u ≡ false

@@ -16,7 +16,7 @@ use Rattle.coap_pending.specs.declared.waiter.WaiterState.TheVariants.{Waiting, 
 use Rattle.coap_pending.specs.Exchanges as exchanges
 use Rattle.coap_pending.specs.Waiters as waiters
 use Rattle.coap_pending.specs.Table.{Numbered, item_at, changed_at, without, count}
-use Rattle.coap_model.specs.Standing.{Standing, Stage, Open, told, is_queued, is_sent_to, staged, others_than, as_told, is_waiting, waits_for, one_if, count_if}
+use Rattle.coap_model.specs.Standing.{WaiterStanding, Stage, Open, delivering, is_queued, is_sent_to, staged, others_than, as_delivering, is_waiting, waits_for, one_if, count_if}
 use Rattle.coap_model.specs.Carries.{HasNumber, stage_at, stage_seen, service_in, standing_seen}
 
 -- ---- what is counted
@@ -79,9 +79,9 @@ module _ {A B : Type 0} (number : B → ℕ) (seen : Numbered A → B) (same : (
 pub stage-found : (n : ℕ) (xs : List (Numbered Exchange)) (x : Exchange) → item_at n xs ≡ Some x → option_map (λ o. o.stage) (find (λ o. o.number == n) (map stage_seen xs)) ≡ Some (stage_at x.key.target.at x.state)
 stage-found n xs x e = ap (option_map (λ (o : Open). o.stage)) (item-seen (λ (o : Open). o.number) stage_seen (λ y. refl) n xs x e)
 
--- the stage of a client that is found
+-- the stage of a waiter that is found
 pub service-found : (n : ℕ) (vs : List (Numbered Waiter)) (v : Waiter) → item_at n vs ≡ Some v → option_map (λ s. s.service) (find (λ s. s.number == n) (map standing_seen vs)) ≡ Some (service_in v.state)
-service-found n vs v e = ap (option_map (λ (s : Standing). s.service)) (item-seen (λ (s : Standing). s.number) standing_seen (λ u. refl) n vs v e)
+service-found n vs v e = ap (option_map (λ (s : WaiterStanding). s.service)) (item-seen (λ (s : WaiterStanding). s.number) standing_seen (λ u. refl) n vs v e)
 
 -- if something is found in a mapped option, something is found in the option
 found-mapped : {A B : Type 0} (f : A → B) (o : Option A) → option_map f o ≢ None → o ≢ None
@@ -92,9 +92,9 @@ found-mapped f (Some a) e = λ none. absurd cc
 pub found-stage : (n : ℕ) (xs : List (Numbered Exchange)) → option_map (λ o. o.stage) (find (λ o. o.number == n) (map stage_seen xs)) ≢ None → HasNumber n xs
 found-stage n xs e = seen-item (λ (o : Open). o.number) stage_seen (λ y. refl) n xs (found-mapped (λ (o : Open). o.stage) (find (λ (o : Open). o.number == n) (map stage_seen xs)) e)
 
--- if the stage of a client is found, so is the client
+-- if the stage of a waiter is found, so is the waiter
 pub found-service : (n : ℕ) (vs : List (Numbered Waiter)) → option_map (λ s. s.service) (find (λ s. s.number == n) (map standing_seen vs)) ≢ None → HasNumber n vs
-found-service n vs e = seen-item (λ (s : Standing). s.number) standing_seen (λ u. refl) n vs (found-mapped (λ (s : Standing). s.service) (find (λ (s : Standing). s.number == n) (map standing_seen vs)) e)
+found-service n vs e = seen-item (λ (s : WaiterStanding). s.number) standing_seen (λ u. refl) n vs (found-mapped (λ (s : WaiterStanding). s.service) (find (λ (s : WaiterStanding). s.number == n) (map standing_seen vs)) e)
 
 -- ---- changes
 
@@ -107,7 +107,7 @@ staged-seen n f stage (x ∷ xs) own all = λ i. one (eqb x.0 n) refl i ∷ stag
     one true t = λ i. record { number = x.0; client = own x.1 i; stage = all.0 (eqb-true x.0 n t) i }
     one false t = refl
 
--- a change that leaves the client and the stage isn't visible
+-- a change that leaves the waiter and the stage isn't visible
 pub unseen : (n : ℕ) (f : Exchange → Exchange) (xs : List (Numbered Exchange)) → ((x : Exchange) → (f x).client ≡ x.client) → ((x : Exchange) → stage_at (f x).key.target.at (f x).state ≡ stage_at x.key.target.at x.state) → map stage_seen (changed_at n f xs) ≡ map stage_seen xs
 unseen n f [] own same = refl
 unseen n f (x ∷ xs) own same = λ i. one (eqb x.0 n) i ∷ unseen n f xs own same i
@@ -116,25 +116,25 @@ unseen n f (x ∷ xs) own same = λ i. one (eqb x.0 n) i ∷ unseen n f xs own s
     one true = λ i. record { number = x.0; client = own x.1 i; stage = same x.1 i }
     one false = refl
 
--- a client that is removed isn't visible
+-- a waiter that is removed isn't visible
 pub gone-seen : (n : ℕ) (vs : List (Numbered Waiter)) → map standing_seen (without n vs) ≡ others_than n (map standing_seen vs)
 gone-seen n [] = refl
 gone-seen n (v ∷ vs) = go (eqb v.0 n) (gone-seen n vs)
   where
     go : (b : Bool) → map standing_seen (without n vs) ≡ others_than n (map standing_seen vs) → map standing_seen (cond (not b) (v ∷ without n vs) (without n vs)) ≡ cond (not b) (standing_seen v ∷ others_than n (map standing_seen vs)) (others_than n (map standing_seen vs))
     go true i = i
-    go false i = ap (λ (l : List Standing). standing_seen v ∷ l) i
+    go false i = ap (λ (l : List WaiterStanding). standing_seen v ∷ l) i
 
--- a client that is sent its answer is visible as `told`
-pub told-seen : (n id : ℕ) (bytes : List ℕ) (timer : Timer) (vs : List (Numbered Waiter)) → map standing_seen (changed_at n (waiters.delivered bytes id timer) vs) ≡ map (as_told n) (map standing_seen vs)
-told-seen n id bytes timer [] = refl
-told-seen n id bytes timer (v ∷ vs) = λ i. one (eqb v.0 n) i ∷ told-seen n id bytes timer vs i
+-- a waiter that is sent its answer is visible as `delivering`
+pub delivering-seen : (n id : ℕ) (bytes : List ℕ) (timer : Timer) (vs : List (Numbered Waiter)) → map standing_seen (changed_at n (waiters.delivered bytes id timer) vs) ≡ map (as_delivering n) (map standing_seen vs)
+delivering-seen n id bytes timer [] = refl
+delivering-seen n id bytes timer (v ∷ vs) = λ i. one (eqb v.0 n) i ∷ delivering-seen n id bytes timer vs i
   where
-    one : (b : Bool) → standing_seen (cond b (v.0, waiters.delivered bytes id timer v.1) v) ≡ cond b (record { number = v.0; client = v.1.client; service = told }) (standing_seen v)
+    one : (b : Bool) → standing_seen (cond b (v.0, waiters.delivered bytes id timer v.1) v) ≡ cond b (record { number = v.0; client = v.1.client; service = delivering }) (standing_seen v)
     one true = refl
     one false = refl
 
--- a change that leaves a client and its stage isn't visible
+-- a change that leaves a waiter and its stage isn't visible
 pub served-seen : (n : ℕ) (f : Waiter → Waiter) (vs : List (Numbered Waiter)) → ((v : Waiter) → (f v).client ≡ v.client) → ((v : Waiter) → service_in (f v).state ≡ service_in v.state) → map standing_seen (changed_at n f vs) ≡ map standing_seen vs
 served-seen n f [] own same = refl
 served-seen n f (v ∷ vs) own same = λ i. one (eqb v.0 n) i ∷ served-seen n f vs own same i
@@ -157,14 +157,14 @@ pub kept-all : (test : Open → Bool) (xs : List Open) → AllByRecursion (λ o.
 kept-all test [] all = refl
 kept-all test (o ∷ os) all = rw all.0 (ap (λ (l : List Open). o ∷ l) (kept-all test os all.1))
 
--- ---- which clients wait
+-- ---- which waiters wait
 
--- a waiting client is visible as waiting for its exchange
+-- a waiter that waits is visible as waiting for its exchange
 pub waits-seen : (n : ℕ) (s : WaiterState) → waits_for n (service_in s) ≡ waiters.waits_in_state n s
 waits-seen n (Waiting exchange) = refl
 waits-seen n (Delivering bytes id timer) = refl
 
--- a client is visible as waiting exactly if the count isn't 0
+-- a waiter is visible as waiting exactly if the count isn't 0
 pub who-waits : (x : ℕ) (vs : List (Numbered Waiter)) → list_any (λ s. waits_for x s.service) (map standing_seen vs) ≡ not (count (waiters.waits_for x) vs == 0)
 who-waits x [] = refl
 who-waits x (v ∷ vs) = go (waiters.waits_for x v.1) (waits-seen x v.1.state) (who-waits x vs)
@@ -173,7 +173,7 @@ who-waits x (v ∷ vs) = go (waiters.waits_for x v.1) (waits-seen x v.1.state) (
     go true t i = let more : eqb (1 + count (waiters.waits_for x) vs) 0 ≡ false = ne_eqb _ _ (λ e. omega arith) in rw (t, more) refl
     go false t i = let same : 0 + count (waiters.waits_for x) vs ≡ count (waiters.waits_for x) vs = omega arith in rw (t, same) i
 
--- whether a client waits is visible
+-- whether a waiter waits is visible
 pub waiting-same : (s : WaiterState) → is_waiting (service_in s) ≡ waiters.is_waiting_state s
 waiting-same (Waiting exchange) = refl
 waiting-same (Delivering bytes id timer) = refl

@@ -20,12 +20,12 @@ use Rattle.coap_target.specs.Routes.{AreRoutes}
 use Rattle.coap_store.specs.declared.answer.Answer.{Answer}
 use Rattle.coap_store.specs.declared.key.CacheKey.{CacheKey}
 use Rattle.coap_store.specs.Renewing.{tag_of, has_tag, is_validated, renewed}
-use Rattle.coap_store.specs.Showing.{is_content, shows_max_age}
+use Rattle.coap_store.specs.Showing.{is_content, is_cacheable}
 use Rattle.coap_store.proofs.Distinct.{of_key-key}
 use Rattle.coap_forward.specs.Messages.{is_get, is_rst, brings_requests, token_of}
 use Rattle.coap_forward.specs.Forms.{forwarded, form_fits, tag_if_fits, tag_for}
 use Rattle.coap_forward.specs.Gaps.{given}
-use Rattle.coap_forward.specs.Answers.{fits, validates, without_observe, taken_of, is_passed_on, bad_gateway, own_answer, origin_answer, validated, answer_of, is_storable}
+use Rattle.coap_forward.specs.Answers.{fits, validates, without_observe, passed_part, is_passed_on, bad_gateway, own_answer, origin_answer, validated, answer_of, is_storable}
 use Rattle.coap_forward.proofs.Tagging.{tag_for-is, tags-forwarded}
 use Rattle.coap_store.specs.Lists.{of_key}
 use Rattle.coap_model.specs.declared.report.Outcome.{Outcome}
@@ -33,7 +33,7 @@ use Rattle.coap_model.specs.declared.report.Outcome.TheVariants.{Answered, SentR
 use Rattle.coap_model.specs.declared.report.Storing.TheVariants.{Kept, TooLarge, NoMemory, NotStored}
 use Rattle.coap_model.specs.Setting.{Setting}
 use Rattle.coap_model.specs.Keys.{key_sent}
-use Rattle.coap_model.specs.History.{Action, Position, takes, Opens, Sends, Matches, in_acknowledgement, separate, by_reset, Meets, Gets}
+use Rattle.coap_model.specs.History.{Action, Position, accepts_answer, Opens, Sends, Matches, in_acknowledgement, separate, by_reset, Meets, Gets}
 use Rattle.coap_model.specs.Changed.{asked_of, key_asked, to_get, Unchanged}
 use Rattle.coap_model.specs.Cached.{IsFetched, IsLasting, IsObtained, first_hand, validated as was_validated, Cached, cached_key, kept_for, copied, answer_got, entry_got, IsCacheOf, WasCacheAt, WasObtained}
 use Rattle.coap_model.specs.Justified.{IsForwarding, IsObtainedHere, entry_here, size_here, IsKept, JustifiedBy, AllJustified}
@@ -53,7 +53,7 @@ never : {B : Type 0} → false ≡ true → B
 never e = absurd cc
 
 -- an answer that is no larger than the limit is kept, if its key has an entry
-pub kept-there : (o : Outcome) (setting : Setting) (past : List Action) (d : Action) (cached : List Cached) (entry : Cached) (h : IsObtainedHere setting past d) → JustifiedBy o setting past d → takes o ≡ true → size_here h ≤ setting.limits.cache_bytes → IsCacheOf setting past cached → of_key cached_key (key_asked h.gets) cached ≡ Some entry → o ≡ Answered Kept
+pub kept-there : (o : Outcome) (setting : Setting) (past : List Action) (d : Action) (cached : List Cached) (entry : Cached) (h : IsObtainedHere setting past d) → JustifiedBy o setting past d → accepts_answer o ≡ true → size_here h ≤ setting.limits.cache_bytes → IsCacheOf setting past cached → of_key cached_key (key_asked h.gets) cached ≡ Some entry → o ≡ Answered Kept
 kept-there (Answered Kept) setting past d cached entry h j took small is found = refl
 kept-there (Answered TooLarge) setting past d cached entry h j took small is found = let same = one-size h j.here in let large = j.large in absurd (omega (arith, small, large, same))
 kept-there (Answered NoMemory) setting past d cached entry h j took small is found =
@@ -68,12 +68,12 @@ kept-there _ setting past d cached entry h j took small is found = never took
 
 -- how a response that may be stored arrived: as it is, or as a 2.03 that renews another one
 data IsTaken (most : ℕ) (copy : Option Message) (m response : Message) : Type 0 where
-  as_it_came : is_passed_on most true m ≡ true → response ≡ taken_of true m → IsLasting response → IsTaken most copy m response
+  as_it_came : is_passed_on most true m ≡ true → response ≡ passed_part true m → IsLasting response → IsTaken most copy m response
   renewing : (old : Message)
       → copy ≡ Some old
       → is_passed_on most true m ≡ true
-      → is_validated old (taken_of true m) ≡ true
-      → response ≡ renewed old (taken_of true m)
+      → is_validated old (passed_part true m) ≡ true
+      → response ≡ renewed old (passed_part true m)
       → fits most response ≡ true
       → IsLasting response
       → IsTaken most copy m response
@@ -81,7 +81,7 @@ data IsTaken (most : ℕ) (copy : Option Message) (m response : Message) : Type 
 -- an answer that may be stored is lasting
 lasting-so : (a : Answer) → is_storable a ≡ true → IsLasting a.message
 lasting-so a e =
-    let both = and_parts (shows_max_age a.message.code) (nat_lt 0 (max_age_of a.message)) (and_parts (not a.own) (shows_max_age a.message.code && nat_lt 0 (max_age_of a.message)) e).1 in
+    let both = and_parts (is_cacheable a.message.code) (nat_lt 0 (max_age_of a.message)) (and_parts (not a.own) (is_cacheable a.message.code && nat_lt 0 (max_age_of a.message)) e).1 in
     record { code = both.0; age = ltb-true 0 (max_age_of a.message) both.1 }
 
 -- an answer that may be stored arrived in one of these ways
@@ -90,24 +90,24 @@ unfolding answer_of
 taken-so most now copy m e = go (not (is_rst m.kind) && is_passed_on most true m) refl (validates true m) e
   where
     took : Message
-    took = taken_of true m
+    took = passed_part true m
 
-    valid : (old : Message) → copy ≡ Some old → is_passed_on most true m ≡ true → (a : Bool) → is_validated old (taken_of true m) ≡ a → (b : Bool) → fits most (renewed old (taken_of true m)) ≡ b
-        → is_storable (cond a (cond b (origin_answer now (renewed old (taken_of true m))) (own_answer now bad_gateway)) (own_answer now bad_gateway)) ≡ true
-        → IsTaken most copy m (cond a (cond b (origin_answer now (renewed old (taken_of true m))) (own_answer now bad_gateway)) (own_answer now bad_gateway)).message
-    valid old is passed true v true f s = renewing old is passed v refl f (lasting-so (origin_answer now (renewed old (taken_of true m))) s)
+    valid : (old : Message) → copy ≡ Some old → is_passed_on most true m ≡ true → (a : Bool) → is_validated old (passed_part true m) ≡ a → (b : Bool) → fits most (renewed old (passed_part true m)) ≡ b
+        → is_storable (cond a (cond b (origin_answer now (renewed old (passed_part true m))) (own_answer now bad_gateway)) (own_answer now bad_gateway)) ≡ true
+        → IsTaken most copy m (cond a (cond b (origin_answer now (renewed old (passed_part true m))) (own_answer now bad_gateway)) (own_answer now bad_gateway)).message
+    valid old is passed true v true f s = renewing old is passed v refl f (lasting-so (origin_answer now (renewed old (passed_part true m))) s)
     valid old is passed true v false f s = absurd cc
     valid old is passed false v b f s = absurd cc
 
-    of_copy : is_passed_on most true m ≡ true → (c : Option Message) → copy ≡ c → is_storable (validated most now c (taken_of true m)) ≡ true → IsTaken most copy m (validated most now c (taken_of true m)).message
+    of_copy : is_passed_on most true m ≡ true → (c : Option Message) → copy ≡ c → is_storable (validated most now c (passed_part true m)) ≡ true → IsTaken most copy m (validated most now c (passed_part true m)).message
     of_copy passed None is s = absurd cc
-    of_copy passed (Some old) is s = valid old is passed (is_validated old (taken_of true m)) refl (fits most (renewed old (taken_of true m))) refl s
+    of_copy passed (Some old) is s = valid old is passed (is_validated old (passed_part true m)) refl (fits most (renewed old (passed_part true m))) refl s
 
     go : (p : Bool) → (not (is_rst m.kind) && is_passed_on most true m) ≡ p → (v : Bool)
-        → is_storable (cond p (cond v (validated most now copy (taken_of true m)) (origin_answer now (taken_of true m))) (own_answer now bad_gateway)) ≡ true
-        → IsTaken most copy m (cond p (cond v (validated most now copy (taken_of true m)) (origin_answer now (taken_of true m))) (own_answer now bad_gateway)).message
+        → is_storable (cond p (cond v (validated most now copy (passed_part true m)) (origin_answer now (passed_part true m))) (own_answer now bad_gateway)) ≡ true
+        → IsTaken most copy m (cond p (cond v (validated most now copy (passed_part true m)) (origin_answer now (passed_part true m))) (own_answer now bad_gateway)).message
     go true is true s = of_copy (and_parts (not (is_rst m.kind)) (is_passed_on most true m) is).1 copy refl s
-    go true is false s = as_it_came (and_parts (not (is_rst m.kind)) (is_passed_on most true m) is).1 refl (lasting-so (origin_answer now (taken_of true m)) s)
+    go true is false s = as_it_came (and_parts (not (is_rst m.kind)) (is_passed_on most true m) is).1 refl (lasting-so (origin_answer now (passed_part true m)) s)
     go false is v s = absurd cc
 
 -- ---- the tag of the forwarded request
@@ -313,14 +313,14 @@ no_reset token id m (separate kind code same) other = go m.kind kind
 no_reset token id m (by_reset kind code with_id) other = absurd (let e : false ≡ true = sym other ∙ ap (λ (c : Code). is_code c EMPTY) code in cc)
 
 -- a code with a Max-Age isn't Empty, nor 2.03
-told-code : (code : Code) → shows_max_age code ≡ true → (is_code code EMPTY ≡ false) × (is_code code VALID ≡ false)
+told-code : (code : Code) → is_cacheable code ≡ true → (is_code code EMPTY ≡ false) × (is_code code VALID ≡ false)
 told-code code told = (go EMPTY refl, go VALID refl)
   where
-    go : (other : Code) → shows_max_age other ≡ false → is_code code other ≡ false
+    go : (other : Code) → is_cacheable other ≡ false → is_code code other ≡ false
     go other not_told = same_or (is_code code other) refl
       where
         same_or : (b : Bool) → is_code code other ≡ b → b ≡ false
-        same_or true e = absurd (let same : shows_max_age code ≡ shows_max_age other = ap shows_max_age (code-same code other (eqb-true code.0 other.0 e)) in let f : true ≡ false = sym told ∙ same ∙ not_told in cc)
+        same_or true e = absurd (let same : is_cacheable code ≡ is_cacheable other = ap is_cacheable (code-same code other (eqb-true code.0 other.0 e)) in let f : true ≡ false = sym told ∙ same ∙ not_told in cc)
         same_or false e = refl
 
 -- a lasting response from an origin server may be stored
@@ -328,23 +328,23 @@ lasting-storable : (now : ℕ) (r : Message) → IsLasting r → is_storable (or
 lasting-storable now r l = rw (l.code, lt-ltb 0 (max_age_of r) l.age) refl
 
 -- a response that is passed on and is lasting may be stored
-came-storable : (most now : ℕ) (copy : Option Message) (m : Message) → not (is_rst m.kind) ≡ true → is_passed_on most true m ≡ true → validates true m ≡ false → is_storable (origin_answer now (taken_of true m)) ≡ true → is_storable (answer_of most true copy now m) ≡ true
+came-storable : (most now : ℕ) (copy : Option Message) (m : Message) → not (is_rst m.kind) ≡ true → is_passed_on most true m ≡ true → validates true m ≡ false → is_storable (origin_answer now (passed_part true m)) ≡ true → is_storable (answer_of most true copy now m) ≡ true
 unfolding answer_of
 came-storable most now copy m sent passed other storable = go (not (is_rst m.kind)) sent (is_passed_on most true m) passed (validates true m) other
   where
-    go : (n : Bool) → n ≡ true → (p : Bool) → p ≡ true → (v : Bool) → v ≡ false → is_storable (cond (n && p) (cond v (validated most now copy (taken_of true m)) (origin_answer now (taken_of true m))) (own_answer now bad_gateway)) ≡ true
+    go : (n : Bool) → n ≡ true → (p : Bool) → p ≡ true → (v : Bool) → v ≡ false → is_storable (cond (n && p) (cond v (validated most now copy (passed_part true m)) (origin_answer now (passed_part true m))) (own_answer now bad_gateway)) ≡ true
     go true e true f false g = storable
     go true e true f true g = absurd cc
     go true e false f v g = absurd cc
     go false e p f v g = absurd cc
 
 -- so may a response that a 2.03 renews
-renewed-storable : (most now : ℕ) (old m : Message) → not (is_rst m.kind) ≡ true → is_passed_on most true m ≡ true → validates true m ≡ true → is_validated old (taken_of true m) ≡ true → fits most (renewed old (taken_of true m)) ≡ true → is_storable (origin_answer now (renewed old (taken_of true m))) ≡ true → is_storable (answer_of most true (Some old) now m) ≡ true
+renewed-storable : (most now : ℕ) (old m : Message) → not (is_rst m.kind) ≡ true → is_passed_on most true m ≡ true → validates true m ≡ true → is_validated old (passed_part true m) ≡ true → fits most (renewed old (passed_part true m)) ≡ true → is_storable (origin_answer now (renewed old (passed_part true m))) ≡ true → is_storable (answer_of most true (Some old) now m) ≡ true
 unfolding answer_of
-renewed-storable most now old m sent passed valid does fit storable = go (not (is_rst m.kind)) sent (is_passed_on most true m) passed (validates true m) valid (is_validated old (taken_of true m)) does (fits most (renewed old (taken_of true m))) fit
+renewed-storable most now old m sent passed valid does fit storable = go (not (is_rst m.kind)) sent (is_passed_on most true m) passed (validates true m) valid (is_validated old (passed_part true m)) does (fits most (renewed old (passed_part true m))) fit
   where
     go : (n : Bool) → n ≡ true → (p : Bool) → p ≡ true → (v : Bool) → v ≡ true → (a : Bool) → a ≡ true → (b : Bool) → b ≡ true
-        → is_storable (cond (n && p) (cond v (cond a (cond b (origin_answer now (renewed old (taken_of true m))) (own_answer now bad_gateway)) (own_answer now bad_gateway)) (origin_answer now (taken_of true m))) (own_answer now bad_gateway)) ≡ true
+        → is_storable (cond (n && p) (cond v (cond a (cond b (origin_answer now (renewed old (passed_part true m))) (own_answer now bad_gateway)) (own_answer now bad_gateway)) (origin_answer now (passed_part true m))) (own_answer now bad_gateway)) ≡ true
     go true e true f true g true h true i = storable
     go true e true f true g true h false i = absurd cc
     go true e true f true g false h b i = absurd cc
@@ -353,8 +353,8 @@ renewed-storable most now old m sent passed valid does fit storable = go (not (i
     go false e p f v g a h b i = absurd cc
 
 -- the code of the accepted response is that of the message
-taken-code : (m : Message) → (taken_of true m).code ≡ m.code
-taken-code m = go (validates true m)
+passed_part-code : (m : Message) → (passed_part true m).code ≡ m.code
+passed_part-code m = go (validates true m)
   where
     go : (b : Bool) → (cond b (record (without_observe m) { payload = [] }) (without_observe m)).code ≡ m.code
     go true = refl
@@ -379,22 +379,22 @@ valid-full code e = go (is_code code EMPTY) refl
 
 -- a response to a GET whose target wasn't changed since, which is passed on, is obtained if it is
 -- lasting
-pub came-obtained : (setting : Setting) (past : List Action) (d : Action) (x : ℕ) (gets : Gets setting x (here past d)) (former : List Cached) → to_get gets ≡ true → Unchanged setting (key_asked gets).target gets.meets.asking past → WasCacheAt setting gets.meets.asking.before x former → is_passed_on setting.limits.datagram true gets.meets.message ≡ true → IsLasting (taken_of true gets.meets.message)
+pub came-obtained : (setting : Setting) (past : List Action) (d : Action) (x : ℕ) (gets : Gets setting x (here past d)) (former : List Cached) → to_get gets ≡ true → Unchanged setting (key_asked gets).target gets.meets.asking past → WasCacheAt setting gets.meets.asking.before x former → is_passed_on setting.limits.datagram true gets.meets.message ≡ true → IsLasting (passed_part true gets.meets.message)
     → IsObtainedHere setting past d
 came-obtained setting past d x gets former get unchanged was passed lasting =
     let m = gets.meets.message in
     let most = setting.limits.datagram in
     let copy = copied (tags_of (asked_of gets)) (key_asked gets) former in
-    let codes = told-code m.code (ap shows_max_age (sym (taken-code m)) ∙ lasting.code) in
-    let storable = came-storable most d.observation.now copy m (no_reset (token_of setting.salt x) gets.meets.asks.sends.message.id m gets.meets.matches codes.0) passed codes.1 (lasting-storable d.observation.now (taken_of true m) lasting) in
+    let codes = told-code m.code (ap is_cacheable (sym (passed_part-code m)) ∙ lasting.code) in
+    let storable = came-storable most d.observation.now copy m (no_reset (token_of setting.salt x) gets.meets.asks.sends.message.id m gets.meets.matches codes.0) passed codes.1 (lasting-storable d.observation.now (passed_part true m) lasting) in
     record { exchange = x; gets = gets; method = get; unchanged = unchanged; former = former; was_cache = was; storable = ap (λ (b : Bool). is_storable (answer_of most b copy d.observation.now m)) get ∙ storable }
 
 -- and so is a response that a 2.03 renews
-pub renewed-obtained : (setting : Setting) (past : List Action) (d : Action) (x : ℕ) (gets : Gets setting x (here past d)) (former : List Cached) (old : Message) → to_get gets ≡ true → Unchanged setting (key_asked gets).target gets.meets.asking past → WasCacheAt setting gets.meets.asking.before x former → is_passed_on setting.limits.datagram true gets.meets.message ≡ true → copied (tags_of (asked_of gets)) (key_asked gets) former ≡ Some old → is_validated old (taken_of true gets.meets.message) ≡ true → fits setting.limits.datagram (renewed old (taken_of true gets.meets.message)) ≡ true → IsLasting (renewed old (taken_of true gets.meets.message))
+pub renewed-obtained : (setting : Setting) (past : List Action) (d : Action) (x : ℕ) (gets : Gets setting x (here past d)) (former : List Cached) (old : Message) → to_get gets ≡ true → Unchanged setting (key_asked gets).target gets.meets.asking past → WasCacheAt setting gets.meets.asking.before x former → is_passed_on setting.limits.datagram true gets.meets.message ≡ true → copied (tags_of (asked_of gets)) (key_asked gets) former ≡ Some old → is_validated old (passed_part true gets.meets.message) ≡ true → fits setting.limits.datagram (renewed old (passed_part true gets.meets.message)) ≡ true → IsLasting (renewed old (passed_part true gets.meets.message))
     → IsObtainedHere setting past d
 renewed-obtained setting past d x gets former old get unchanged was passed has valid fit lasting =
     let m = gets.meets.message in
     let most = setting.limits.datagram in
-    let code = sym (ap (λ (c : Code). is_code c VALID) (taken-code m)) ∙ validated-code old (taken_of true m) valid in
-    let storable = renewed-storable most d.observation.now old m (no_reset (token_of setting.salt x) gets.meets.asks.sends.message.id m gets.meets.matches (valid-full m.code code)) passed code valid fit (lasting-storable d.observation.now (renewed old (taken_of true m)) lasting) in
+    let code = sym (ap (λ (c : Code). is_code c VALID) (passed_part-code m)) ∙ validated-code old (passed_part true m) valid in
+    let storable = renewed-storable most d.observation.now old m (no_reset (token_of setting.salt x) gets.meets.asks.sends.message.id m gets.meets.matches (valid-full m.code code)) passed code valid fit (lasting-storable d.observation.now (renewed old (passed_part true m)) lasting) in
     record { exchange = x; gets = gets; method = get; unchanged = unchanged; former = former; was_cache = was; storable = (λ i. is_storable (answer_of most (get i) (has i) d.observation.now m)) ∙ storable }

@@ -35,7 +35,7 @@ ended-first setting history x p all at e = go p.action.observation.report.outcom
     go GaveUp is j = given_up-first setting p.before p.action x j e.act
     go _ is j = absurd cc
 
--- a client wasn't served before the position where it is served
+-- a waiter wasn't served before the position where it is served
 pub served-first : (setting : Setting) (history : List Action) (v : ℕ) (p : Position) → AllJustified setting history → IsPositionOf history p → Serves v p → Never (Serves v) p.before
 served-first setting history v p all at s =
     let j : IsDelivery setting p.before p.action = justified-at setting history p Delivered all at s.outcome in
@@ -51,7 +51,7 @@ pub ended-once : (setting : Setting) (history : List Action) (x : ℕ) (a b : Po
 ended-once setting history x a b all at_a at_b ends_a ends_b =
     first-once (Ends x) history a b at_a at_b ends_a ends_b (ended-first setting history x a all at_a ends_a) (ended-first setting history x b all at_b ends_b)
 
--- a client is served at one position
+-- a waiter is served at one position
 pub served-once : (setting : Setting) (history : List Action) (v : ℕ) (a b : Position) → AllJustified setting history → IsPositionOf history a → IsPositionOf history b → Serves v a → Serves v b → a ≡ b
 served-once setting history v a b all at_a at_b serves_a serves_b =
     first-once (Serves v) history a b at_a at_b serves_a serves_b (served-first setting history v a all at_a serves_a) (served-first setting history v b all at_b serves_b)

@@ -20,10 +20,10 @@ use Rattle.coap_model.specs.declared.report.Storing.{Storing}
 use Rattle.coap_model.specs.Setting.{Setting}
 use Rattle.coap_dedup.specs.declared.record.Record.{Record}
 use Rattle.coap_model.specs.Events.{Event}
-use Rattle.coap_forward.specs.Messages.{is_con, brings_requests, acknowledgement, reset, own_reply, busy_reply, at_once, reply_kind, reply_id, token_of, is_get}
+use Rattle.coap_forward.specs.Messages.{is_con, brings_requests, acknowledgement, reset, own_reply, overload_reply, at_once, reply_kind, reply_id, token_of, is_get}
 use Rattle.coap_forward.specs.Forms.{forwarded, tag_for}
 use Rattle.coap_forward.specs.Answers.{stored_answer, shown, shown_as}
-use Rattle.coap_model.specs.History.{Observation, Act, no_item, admits, moves, serves, Action, Position, ids_in, opened_in, admitted_in, comes_con, ids_given, takes, Brings, Meets, Gets, Ends, Gives, IsRequestOf}
+use Rattle.coap_model.specs.History.{Observation, Act, no_item, admits, moves, serves, Action, Position, ids_in, opened_in, admitted_in, comes_con, ids_given, accepts_answer, Brings, Meets, Gets, Ends, Gives, IsRequestOf}
 use Rattle.coap_model.specs.Standing.{HasIds, HasRoomToJoin, HasRoomToOpen, queued, stage_of}
 use Rattle.coap_model.specs.Schedules.{sends_by, MayGoOn, SaysAsBefore}
 use Rattle.coap_model.specs.Due.{IsToEnd, IsToRepeat, IsToServe, IsDueAt, ComesBefore}
@@ -144,8 +144,8 @@ one-act setting past d e p q = ⊎_elim (λ (same : d.act ≡ e.act). same) (λ 
 ending-there : (setting : Setting) (x y : ℕ) (k l : CacheKey) (p : Position) (a b : Answer) → EndsWith setting x k p a → EndsWith setting y l p b → a ≡ b
 ending-there setting x y k l p a b (got g former was key is) (got h older before other also) =
     is ∙ one-gotten g h (one-former g h was before) ∙ sym also
-ending-there setting x y k l p a b (got g former was key is) (was_given_up h also) = absurd (let e = sym g.outcome ∙ ap takes h.outcome in cc)
-ending-there setting x y k l p a b (was_given_up g is) (got h older before other also) = absurd (let e = sym h.outcome ∙ ap takes g.outcome in cc)
+ending-there setting x y k l p a b (got g former was key is) (was_given_up h also) = absurd (let e = sym g.outcome ∙ ap accepts_answer h.outcome in cc)
+ending-there setting x y k l p a b (was_given_up g is) (got h older before other also) = absurd (let e = sym h.outcome ∙ ap accepts_answer g.outcome in cc)
 ending-there setting x y k l p a b (was_given_up g is) (was_given_up h also) = is ∙ sym also
 
 -- so it does at equal positions
@@ -219,7 +219,7 @@ one-exchange setting past all few d e turn a b = a.gets.act ∙ ap moves number 
         (λ (reset : p.message.kind ≡ Rst). by_reset reset)
         (token-or-reset p.message p.matches)
 
--- only one answer is sent to a client
+-- only one answer is sent to a waiter
 one-delivery : (setting : Setting) (past : List Action) → AllJustified setting past → (d e : Action) (id : ℕ) → Gives id d.observation → Gives id e.observation → IsDelivery setting past d → IsDelivery setting past e → d.act ≡ e.act → d.observation.now ≡ e.observation.now → SayTheSame d.observation e.observation
 one-delivery setting past all d e id g h j k act now =
     let p = j.to_serve in
@@ -273,7 +273,7 @@ given_up-silent setting past d (overdue y at acting is end come silent) = silent
 given_up-silent setting past d (unheard y at acting is repeat first come stops silent) = silent
 given_up-silent setting past d (unacknowledged v acting is again stops silent) = silent
 
--- a client that is due to be served isn't given up
+-- a waiter that is due to be served isn't given up
 served-kept : {A : Type 0} {setting : Setting} {past : List Action} {d : Action} {v m : ℕ} → d.act ≡ serves v → IsToServe setting past v m → IsGivingUp setting past d → A
 served-kept act to_serve (overdue y at acting is end come silent) = absurd (let f = sym act ∙ is in cc)
 served-kept act to_serve (unheard y at acting is repeat first come stops silent) = absurd (let f = sym act ∙ is in cc)
@@ -310,9 +310,9 @@ same-action d e entry act = same
     same = rw (entry, act) refl
 
 -- an outcome that accepts an answer stores it in some way, or not
-taken-some : (o : Outcome) → takes o ≡ true → (s : Storing) × (o ≡ Answered s)
-taken-some (Answered s) e = (s, refl)
-taken-some _ e = absurd cc
+accepts_answer-some : (o : Outcome) → accepts_answer o ≡ true → (s : Storing) × (o ≡ Answered s)
+accepts_answer-some (Answered s) e = (s, refl)
+accepts_answer-some _ e = absurd cc
 
 -- actions that may follow the same actions at the same turn are equal
 pub one-answer : (setting : Setting) (past : List Action) (d e : Action) → AllJustified setting past → opened_in past < 2 ^ 64 → MayFollow setting past d → MayFollow setting past e → AreOfOneTurn d.observation e.observation → d ≡ e
@@ -392,7 +392,7 @@ one-answer setting past d e all few f g turn =
             given_no_room e.observation.report.outcome setting past e wanted.0 g.justified a (sym (ap (λ (m : Message). m.kind) one.1) ∙ con) ((λ i. known_of past e.observation.now (sym one.0 i) (sym one.1 i)) ∙ unknown) (subst (λ (to : Endpoint). ¬ HasRecordRoom setting past e.observation.now to a.meets.message) one.0 (subst (λ (m : Message). ¬ HasRecordRoom setting past e.observation.now j.source m) one.1 full))
 
     -- an answer is accepted by the other observation
-    answered_too : IsAnswer setting past d → takes e.observation.report.outcome ≡ true
+    answered_too : IsAnswer setting past d → accepts_answer e.observation.report.outcome ≡ true
     answered_too a =
         let t = turned (λ n event. (w : IsAwaited setting past n a.exchange event) × (w.meets.message.kind ≡ Con → IsNew setting past n w.meets.asks.sends.to w.meets.message)) (answer-awaited a, a.new) in
         given_answered e.observation.report.outcome setting past e a.exchange g.justified t.0 t.1
@@ -441,8 +441,8 @@ one-answer setting past d e all few f g turn =
         let one = request-unique setting e.observation.event j.client k.client j.request k.request r k.asked in
         let token : j.request.token ≡ k.request.token = ap (λ (m : Message). m.token) one.1 in
         let retry = setting.limits.retry_s in
-        let id = one_id j.client k.client j.request k.request (busy_reply retry j.id j.request.token) (busy_reply retry k.id k.request.token) j.asked k.asked one.1 (ap (ids_given false) is) (ap (ids_given false) o) j.tells k.tells in
-        let same = at_once-same j.request k.request (busy_reply retry j.id j.request.token) (busy_reply retry k.id k.request.token) (ap (λ (m : Message). m.kind) one.1) refl token refl refl id in
+        let id = one_id j.client k.client j.request k.request (overload_reply retry j.id j.request.token) (overload_reply retry k.id k.request.token) j.asked k.asked one.1 (ap (ids_given false) is) (ap (ids_given false) o) j.tells k.tells in
+        let same = at_once-same j.request k.request (overload_reply retry j.id j.request.token) (overload_reply retry k.id k.request.token) (ap (λ (m : Message). m.kind) one.1) refl token refl refl id in
         record { outcome = is ∙ sym o; act = j.act ∙ sym k.act; say = told-same d.observation e.observation j.client k.client _ _ j.tells k.tells one.0 same }
     by_outcome NoId is j =
         let o = given_no_id e.observation.report.outcome setting past e j.client j.request g.justified (same_request j.client j.request j.asked) (new_too j.client j.request j.new) j.kind (subst (λ (n : ℕ). ¬ HasIds 1 n past) turn.now j.no_ids) in
@@ -492,7 +492,7 @@ one-answer setting past d e all few f g turn =
         record { outcome = is ∙ sym o; act = j.act ∙ sym k.act; say = silent-same d.observation e.observation j.silent k.silent }
     by_outcome (Answered s) is j =
         let a = taken-so s setting past d j in
-        let some = taken-some e.observation.report.outcome (answered_too a) in
+        let some = accepts_answer-some e.observation.report.outcome (answered_too a) in
         let k = holds (Answered some.0) some.1 in
         let b = taken-so some.0 setting past e k in
         let act = one-exchange setting past all few d e turn a b in

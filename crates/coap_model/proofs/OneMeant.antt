@@ -16,7 +16,7 @@ use Rattle.coap_model.proofs.Sorts.{reset-id}
 sent-gives : {salt x id : ℕ} {p : Position} (s : Sends salt x p) → id ≡ s.message.id → Gives id p.action.observation
 sent-gives {p = p} s id = record { gives = ap (ids_given (comes_con p.action.observation.event)) s.outcome; message = s.message; spells = s.spells; id_is = sym id }
 
--- and so did an answer that was sent to a client
+-- and so did an answer that was sent to a waiter
 served-gives : {setting : Setting} {past : List Action} {now v id : ℕ} {event : Event} (k : Closes setting past now v event) → id ≡ k.answer.id → Gives id k.serving.action.observation
 served-gives k id = record { gives = ap (ids_given (comes_con k.serving.action.observation.event)) k.serves.outcome; message = k.answer; spells = k.spells; id_is = sym id }
 

@@ -8,7 +8,7 @@ use Rattle.coap_model.specs.Setting.{Setting}
 use Rattle.coap_model.specs.Events.{Event}
 use Rattle.coap_forward.specs.Answers.{answer_of, is_storable}
 use Rattle.coap_forward.specs.Messages.{is_get}
-use Rattle.coap_model.specs.History.{Action, Position, takes, Meets, Gets}
+use Rattle.coap_model.specs.History.{Action, Position, accepts_answer, Meets, Gets}
 use Rattle.coap_model.specs.Changed.{asked_of, key_asked, to_get}
 use Rattle.coap_model.specs.Cached.{Cached, cached_size, cached_here, copied, answer_got, WasCacheAt}
 use Rattle.coap_model.specs.Justified.{IsAnswer, IsObtainedHere, entry_here, size_here, JustifiedBy, HaveOneMemory}
@@ -53,11 +53,11 @@ meets-over same m = record {
 }
 
 -- so an answer that arrives for one action arrives for the other
-abbrev gets-over : {setting : Setting} {x : ℕ} {past : List Action} (d e : Action) → e.observation.event ≡ d.observation.event → e.act ≡ d.act → takes e.observation.report.outcome ≡ true → Gets setting x (here past d) → Gets setting x (here past e)
+abbrev gets-over : {setting : Setting} {x : ℕ} {past : List Action} (d e : Action) → e.observation.event ≡ d.observation.event → e.act ≡ d.act → accepts_answer e.observation.report.outcome ≡ true → Gets setting x (here past d) → Gets setting x (here past e)
 gets-over d e event act took g = record { act = act ∙ g.act; outcome = took; meets = meets-over event g.meets; bytes = g.bytes }
 
 -- and an entry that one obtained is obtained by the other
-abbrev obtained-over : (setting : Setting) (past : List Action) (d e : Action) → e.observation.event ≡ d.observation.event → e.observation.now ≡ d.observation.now → e.act ≡ d.act → takes e.observation.report.outcome ≡ true → IsObtainedHere setting past d → IsObtainedHere setting past e
+abbrev obtained-over : (setting : Setting) (past : List Action) (d e : Action) → e.observation.event ≡ d.observation.event → e.observation.now ≡ d.observation.now → e.act ≡ d.act → accepts_answer e.observation.report.outcome ≡ true → IsObtainedHere setting past d → IsObtainedHere setting past e
 obtained-over setting past d e event now act took o = record {
   exchange = o.exchange;
   gets = gets-over d e event act took o.gets;

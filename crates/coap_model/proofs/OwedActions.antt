@@ -18,7 +18,7 @@ use Rattle.coap_model.specs.Events.{Event, arrival, tick}
 use Rattle.coap_forward.specs.Messages.{is_recorded}
 use Rattle.coap_model.specs.Verdicts.{may_ask}
 use Rattle.coap_model.specs.Standing.{HasIds, HasRoomToJoin, HasRoomToOpen}
-use Rattle.coap_model.specs.History.{Act, moves, serves, Action, takes, Brings, IsRequestOf, Meets, Matches}
+use Rattle.coap_model.specs.History.{Act, moves, serves, Action, accepts_answer, Brings, IsRequestOf, Meets, Matches}
 use Rattle.coap_store.specs.Lists.{of_key}
 use Rattle.coap_model.specs.Cached.{Cached, cached_key, IsCacheOf}
 use Rattle.coap_model.proofs.Cached.{cache-unique}
@@ -48,7 +48,7 @@ record BringsEmpty (setting : Setting) (event : Event) : Type 0 where
 abbrev acknowledging : {setting : Setting} {past : List Action} {now x : ℕ} {event : Event} → Acknowledges setting past now x event → BringsEmpty setting event
 acknowledging k = record { source = k.asks.sends.to; message = k.message; brings = k.brings; kind = inl k.kind; empty = k.empty }
 
--- and so is what closes a client
+-- and so is what closes a waiter
 abbrev closing : {setting : Setting} {past : List Action} {now v : ℕ} {event : Event} → Closes setting past now v event → BringsEmpty setting event
 closing k = record { source = k.to; message = k.message; brings = k.brings; kind = k.kind; empty = k.empty }
 
@@ -71,7 +71,7 @@ not_both meets k =
 not_recorded : {A : Type 0} {setting : Setting} {event : Event} {source : Endpoint} {m : Message} → BringsEmpty setting event → Comes setting source m event → A
 not_recorded {m = m} e comes = empty-no-request (subst (λ (n : Message). (n.kind ≡ Ack) ⊎ (n.kind ≡ Rst)) (one-brought e.brings comes.brings).1 e.kind) (recorded-kind m comes.recorded)
 
--- an answer that is a message that may close a client is a Reset
+-- an answer that is a message that may close a waiter is a Reset
 answer_resets : {setting : Setting} {past : List Action} {now x v : ℕ} {event : Event} → (meets : Meets setting x past event) → Closes setting past now v event → meets.message.kind ≡ Rst
 answer_resets meets k =
     let one = sym (one-brought meets.brings k.brings).1 in
@@ -85,7 +85,7 @@ not_settled {setting = setting} {past = past} {d = d} {x = x} a k = go k.settles
     go (a_request y act acknowledges) = not_both a.meets acknowledges
     go (an_answer v act closes) = absurd (let e = k.only (moves x) (to_reset x a refl (answer_resets a.meets closes)) ∙ act in cc)
 
--- nor does it close a client if it is an accepted answer
+-- nor does it close a waiter if it is an accepted answer
 not_closed : {A : Type 0} {setting : Setting} {past : List Action} {d : Action} {v : ℕ} → IsAnswer setting past d → Closes setting past d.observation.now v d.observation.event → A
 not_closed {v = v} a k = absurd (let e = a.only (answer_resets a.gets.meets k) (serves v) (to_close v refl k) ∙ a.gets.act in cc)
 
@@ -394,10 +394,10 @@ module _ (o : Outcome) (setting : Setting) (past : List Action) (d : Action) (cl
 
 module _ (o : Outcome) (setting : Setting) (past : List Action) (d : Action) (x : ℕ) (j : JustifiedBy o setting past d) (a : IsAwaited setting past d.observation.now x d.observation.event) where
   -- an awaited answer is accepted; one in a Confirmable message if it is new
-  pub given_answered : (a.meets.message.kind ≡ Con → IsNew setting past d.observation.now a.meets.asks.sends.to a.meets.message) → takes o ≡ true
+  pub given_answered : (a.meets.message.kind ≡ Con → IsNew setting past d.observation.now a.meets.asks.sends.to a.meets.message) → accepts_answer o ≡ true
   given_answered new = go o j
     where
-      go : (p : Outcome) → JustifiedBy p setting past d → takes p ≡ true
+      go : (p : Outcome) → JustifiedBy p setting past d → accepts_answer p ≡ true
       go Ignored k = absurd (k.unprocessable.no_answer x a)
       go Rejected k = absurd (k.unprocessable.no_answer x a)
       go (Refused code) k = no_answer a.meets k.asked
@@ -463,7 +463,7 @@ given_settled o setting past d x j a = go o j
     go Delivered k = no_tick a.brings.came k.acting.ticked
     go Idle k = no_tick a.brings.came k.ticked
 
--- a message that closes a client settles its answer
+-- a message that closes a waiter settles its answer
 pub given_closed : (o : Outcome) (setting : Setting) (past : List Action) (d : Action) (v : ℕ) → JustifiedBy o setting past d → Closes setting past d.observation.now v d.observation.event → o ≡ Acked
 given_closed o setting past d v j a = go o j
   where
@@ -571,7 +571,7 @@ pub data OnTick (setting : Setting) (past : List Action) (d : Action) : Outcome 
   delivered : IsDelivery setting past d → OnTick setting past d Delivered
   idle : IsIdle setting past d → OnTick setting past d Idle
 
--- a tick sends a request or serves a client, for the first time or again, gives one of them up, or
+-- a tick sends a request or serves a waiter, for the first time or again, gives one of them up, or
 -- does nothing
 pub on-tick : (o : Outcome) (setting : Setting) (past : List Action) (d : Action) → JustifiedBy o setting past d → d.observation.event ≡ tick → OnTick setting past d o
 on-tick Ignored setting past d j ticked = no_tick j.came ticked

@@ -9,7 +9,7 @@ use Rattle.coap_message.specs.Message.{Message}
 use Rattle.coap_message.specs.Spelling.{IsMessage, spelling, more_length}
 use Rattle.coap_message.specs.Uint.{uint_spelling}
 use Rattle.coap_message.proofs.Spellings.{spelling-length}
-use Rattle.coap_forward.specs.Messages.{is_con, brings_requests, own_reply, busy_reply, at_once, reply_id}
+use Rattle.coap_forward.specs.Messages.{is_con, brings_requests, own_reply, overload_reply, at_once, reply_id}
 use Rattle.coap_model.specs.State.{State, has_ids, can_reply}
 use Rattle.coap_model.proofs.Encodings.{length-uint_spelling}
 
@@ -28,11 +28,11 @@ pub own-short : (m : Message) (code : Code) (id : ℕ) (token : List ℕ) → le
 own-short m code id token short = omega (arith, spelling-length (at_once m (own_reply code [] id token)))
 
 -- so is one that says when to try again
-pub busy-short : (m : Message) (seconds id : ℕ) (token : List ℕ) → length token ≤ 8 → length (spelling (at_once m (busy_reply seconds id token))) ≤ 128
-busy-short m seconds id token short =
+pub overload-short : (m : Message) (seconds id : ℕ) (token : List ℕ) → length token ≤ 8 → length (spelling (at_once m (overload_reply seconds id token))) ≤ 128
+overload-short m seconds id token short =
     let value = length-uint_spelling seconds in
     let more : more_length (length (uint_spelling seconds)) ≡ 0 = more-none_eight (length (uint_spelling seconds)) value in
-    omega (arith, spelling-length (at_once m (busy_reply seconds id token)), more, value)
+    omega (arith, spelling-length (at_once m (overload_reply seconds id token)), more, value)
   where
     more-none_eight : (n : ℕ) → n ≤ 8 → more_length n ≡ 0
     more-none_eight n le = rw (lt-ltb n 13 (omega arith)) refl

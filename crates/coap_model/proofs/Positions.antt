@@ -148,11 +148,11 @@ Opens-number history p x h o = nth-number opens_one history p x h (ap opens_one 
 pub Opens-unique : (history : List Action) (p q : Position) (x : ℕ) → IsPositionOf history p → IsPositionOf history q → Opens x p → Opens x q → p ≡ q
 Opens-unique history p q x at_p at_q o k = nth-unique opens_one history p q x at_p at_q (ap opens_one o.0, o.1) (ap opens_one k.0, k.1)
 
--- the numbers of clients
+-- the numbers of waiters
 pub Admits-number : (history : List Action) (p : Position) (v x : ℕ) → IsPositionOf history p → Admits v x p → (0 < v) × (v ≤ admitted_in history)
 Admits-number history p v x h a = nth-number admits_one history p v h (a.outcome, a.number)
 
--- and a client is admitted at only one position
+-- and a waiter is admitted at only one position
 pub Admits-unique : (history : List Action) (p q : Position) (v x y : ℕ) → IsPositionOf history p → IsPositionOf history q → Admits v x p → Admits v y q → p ≡ q
 Admits-unique history p q v x y at_p at_q a b = nth-unique admits_one history p q v at_p at_q (a.outcome, a.number) (b.outcome, b.number)
 
@@ -205,9 +205,9 @@ one-opened {setting = setting} {history = history} {y = y} number a b =
     let one = request-unique setting b.opening.action.observation.event a.client b.client a.request b.request asked b.asked in
     (position, one.0, one.1)
 
--- ---- what admitted a client
+-- ---- what admitted a waiter
 
--- a client that was admitted has one of the numbers that were used
+-- a waiter that was admitted has one of the numbers that were used
 pub admitted-number : {setting : Setting} {history : List Action} {v : ℕ} → WasAdmitted setting history v → (0 < v) × (v ≤ admitted_in history)
 admitted-number {history = history} {v = v} a = Admits-number history a.admission v a.exchange a.was_admitted a.admits
 
@@ -215,11 +215,11 @@ admitted-number {history = history} {v = v} a = Admits-number history a.admissio
 abbrev pub admitted-later : {setting : Setting} {history : List Action} {v : ℕ} (e : Action) → WasAdmitted setting history v → WasAdmitted setting (e ∷ history) v
 admitted-later e a = record { exchange = a.exchange; admission = a.admission; client = a.client; request = a.request; was_admitted = inr a.was_admitted; admits = a.admits; asked = a.asked }
 
--- an act is of only one client and one exchange
+-- an act is of only one waiter and one exchange
 pub same_admits : (v u x y : ℕ) → admits v x ≡ admits u y → (v ≡ u) × (x ≡ y)
 same_admits v u x y e = (cc, cc)
 
--- a client is admitted at only one position, to one exchange, by one request from one endpoint
+-- a waiter is admitted at only one position, to one exchange, by one request from one endpoint
 pub one-admitted : {setting : Setting} {history : List Action} {v u : ℕ} → v ≡ u → (a : WasAdmitted setting history v) (b : WasAdmitted setting history u) → (a.admission ≡ b.admission) × (a.client ≡ b.client) × (a.request ≡ b.request) × (a.exchange ≡ b.exchange)
 one-admitted {setting = setting} {history = history} {v = v} {u = u} number a b =
     let position = Admits-unique history a.admission b.admission u a.exchange b.exchange a.was_admitted b.was_admitted (subst (λ (n : ℕ). Admits n a.exchange a.admission) number a.admits) b.admits in

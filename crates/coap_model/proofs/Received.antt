@@ -19,8 +19,8 @@ use Rattle.coap_model.specs.declared.report.Storing.TheVariants.{Kept, TooLarge,
 use Rattle.coap_model.specs.Keys.{key_sent}
 use Rattle.coap_model.specs.State.{State}
 use Rattle.coap_model.specs.Answers.{marked_all, entry_made, may_store, answer_for}
-use Rattle.coap_pending.specs.Exchanges.{asked_of}
-use Rattle.coap_model.specs.History.{Action, Position, moves, takes, Brings, Matches, Gets}
+use Rattle.coap_pending.specs.Exchanges.{asked_event_of}
+use Rattle.coap_model.specs.History.{Action, Position, moves, accepts_answer, Brings, Matches, Gets}
 use Rattle.coap_model.specs.Changed.{key_asked, Unchanged, IsTold}
 use Rattle.coap_model.specs.Cached.{entry_of_cached, copied, answer_got, entry_got, leaves, WasCacheAt, IsStored, IsStoreOf}
 use Rattle.coap_model.specs.Justified.{IsAnswer, IsObtainedHere, JustifiedBy}
@@ -38,7 +38,7 @@ unfolding answer_of
 answer-same most now m true a b same = ap (λ (o : Option Message). answer_of most true o now m) (same refl)
 answer-same most now m false a b same = refl
 
-module _ (w : State) (history : List Action) (c : Bears history w) (now : ℕ) (m : Message) (x : Numbered Exchange) (e : Action) (moment : e.observation.now ≡ now) (flight : IsInFlight w.setting history x) (act : e.act ≡ moves x.0) (outcome : takes e.observation.report.outcome ≡ true) (brings : Brings w.setting.limits.datagram flight.asked.asks.sends.to m e.observation.event) (matches : Matches (token_of w.setting.salt x.0) flight.asked.asks.sends.message.id m) (fits : IsBytes brings.bytes) where
+module _ (w : State) (history : List Action) (c : Bears history w) (now : ℕ) (m : Message) (x : Numbered Exchange) (e : Action) (moment : e.observation.now ≡ now) (flight : IsInFlight w.setting history x) (act : e.act ≡ moves x.0) (outcome : accepts_answer e.observation.report.outcome ≡ true) (brings : Brings w.setting.limits.datagram flight.asked.asks.sends.to m e.observation.event) (matches : Matches (token_of w.setting.salt x.0) flight.asked.asks.sends.message.id m) (fits : IsBytes brings.bytes) where
   -- the answer arrived there
   abbrev pub gets : Gets w.setting x.0 (here history e)
   gets = record {
@@ -61,8 +61,8 @@ module _ (w : State) (history : List Action) (c : Bears history w) (now : ℕ) (
     sym flight.asked.asked_key i,
     record {
       response = (result-is i).message;
-      asked = (ap asked_of flight.sending_is ∙ flight.asked.number) i;
-      got_no = c.clock.events i;
+      asked_event = (ap asked_event_of flight.sending_is ∙ flight.asked.number) i;
+      got_event = c.clock.events i;
       got = sym moment i;
       marked = false;
     },

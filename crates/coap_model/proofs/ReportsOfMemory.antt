@@ -25,7 +25,7 @@ use Rattle.coap_forward.specs.Messages.{brings_requests, brings_responses, is_co
 use Rattle.coap_model.specs.Answers.{Arrived, with_changed, entry_made, answers_so, keeps_if, may_store, answer_for, answers}
 use Rattle.coap_model.specs.Empties.{on_delivery, acknowledges, settles, on_exchange, on_sent, on_empty}
 use Rattle.coap_model.specs.Requests.{on_request}
-use Rattle.coap_model.specs.Responses.{awaiting, on_not_confirmable, on_separate, on_unknown, on_response_in, on_response}
+use Rattle.coap_model.specs.Responses.{awaiting, on_not_confirmable, on_new_confirmable, on_unknown, on_response_in, on_response}
 use Rattle.coap_model.specs.Step.{on_no_response, on_no_request, message_in, on_read, step_of}
 use Rattle.coap_model.specs.State.{State, Step, known_of, has_record_room, remembers, drops, unprocessed, says, silent}
 use Rattle.coap_model.proofs.Rules.{answered_state}
@@ -75,15 +75,15 @@ awaited-told w now source m None = λ grown. refl
 awaited-told w now source m (Some x) = answers-told w now source m x
 
 -- a Confirmable response
-separate-told : (w : State) (now : ℕ) (source : Endpoint) (m : Message) (o : Option (Numbered Exchange)) → IsTold (λ grown. on_separate w now grown source m o)
-separate-told w now source m None = λ grown. refl
-separate-told w now source m (Some x) =
+new_confirmable-told : (w : State) (now : ℕ) (source : Endpoint) (m : Message) (o : Option (Numbered Exchange)) → IsTold (λ grown. on_new_confirmable w now grown source m o)
+new_confirmable-told w now source m None = λ grown. refl
+new_confirmable-told w now source m (Some x) =
     either (has_record_room w now source m.kind) (λ grown. remembers now source m (answers w now grown source m x)) (λ grown. drops w now)
     (remembered-told now source m (λ grown. answers w now grown source m x) (answers-told w now source m x)) (λ grown. refl)
 
 -- a Confirmable response that may be known
 unknown-told : (w : State) (now : ℕ) (source : Endpoint) (m : Message) (o : Option Record) → IsTold (λ grown. on_unknown w now grown source m o)
-unknown-told w now source m None = separate-told w now source m (awaiting w source m)
+unknown-told w now source m None = new_confirmable-told w now source m (awaiting w source m)
 unknown-told w now source m (Some known) = λ grown. refl
 
 -- a response of any type

@@ -22,7 +22,7 @@ use Rattle.coap_model.specs.OptionExamples.{key_of_temp}
 use Rattle.coap_model.specs.CacheExamples.{content_for, get_for}
 use Rattle.coap_model.specs.Keys.{target_sent, key_sent}
 use Rattle.coap_model.specs.Verdicts.{may_ask, verdict_of}
-use Rattle.coap_model.specs.Standing.{Stage, Open, queued, sent, done, Standing, waits, told, stage_of, service_of}
+use Rattle.coap_model.specs.Standing.{Stage, Open, queued, sent, done, WaiterStanding, waits, delivering, stage_of, service_of}
 use Rattle.coap_model.specs.Due.{to_send, to_repeat, to_end, IsToServe, to_serve, to_serve_again, IsDueAt, IsSooner}
 use Rattle.coap_model.specs.History.{Act, no_item, admits, moves, serves, Action, IsRequestOf, Sends, Asks, in_acknowledgement}
 use Rattle.coap_model.specs.Cached.{empty}
@@ -56,15 +56,15 @@ one_stage came send bytes x stage other e = go (1 == x) e
     go true e = absurd (other (sym (same_Some done stage e)))
     go false e = absurd cc
 
--- the only client waits
-one_service : {A : Type 0} (came : List ℕ) (send : Option Endpoint) (bytes : List ℕ) (v : ℕ) → service_of v (past_of (opening came send bytes)) ≡ Some told → A
+-- the only waiter waits
+one_service : {A : Type 0} (came : List ℕ) (send : Option Endpoint) (bytes : List ℕ) (v : ℕ) → service_of v (past_of (opening came send bytes)) ≡ Some delivering → A
 one_service came send bytes v e = go (1 == v) e
   where
-    go : {A : Type 0} (b : Bool) → option_map {T = Standing} (λ s. s.service) (cond b (Some (record { number = 1; client = client 1; service = waits 1 })) None) ≡ Some told → A
+    go : {A : Type 0} (b : Bool) → option_map {T = WaiterStanding} (λ s. s.service) (cond b (Some (record { number = 1; client = client 1; service = waits 1 })) None) ≡ Some delivering → A
     go true e = absurd cc
     go false e = absurd cc
 
--- nothing is due before the client is served
+-- nothing is due before the waiter is served
 first_due : (came : List ℕ) (send : Option Endpoint) (bytes : List ℕ) (a : Act) (m : ℕ) → IsDueAt setting (past_of (opening came send bytes)) a m → ¬ IsSooner a m (serves 1) 0
 first_due came send bytes no_item m due sooner = due
 first_due came send bytes (admits v x) m due sooner = due

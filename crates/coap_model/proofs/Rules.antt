@@ -39,7 +39,7 @@ use Rattle.coap_dedup.specs.declared.record.Record.{Record}
 use Rattle.coap_model.specs.State.{State, Step, has_record_room, has_room_to_join, has_room_to_open, can_reply, known_of, remembers, repeats, drops, ignores, rejects, unprocessed, silent, says, later}
 use Rattle.coap_model.specs.Requests.{lacks_id, refuses, overloads, new_exchange, new_waiter, joins, opens, turns_down, turns_away, hits, on_exchange_needed, on_joinable, on_miss, on_entry, on_key, on_verdict, on_new, on_known, on_request}
 use Rattle.coap_model.specs.Answers.{Arrived, with_changed, may_store, answer_for, entry_made, answers_so, keeps_if, stores, answers_with, answers}
-use Rattle.coap_model.specs.Responses.{awaiting, on_not_confirmable, on_separate, on_unknown, on_response_in, on_response}
+use Rattle.coap_model.specs.Responses.{awaiting, on_not_confirmable, on_new_confirmable, on_unknown, on_response_in, on_response}
 use Rattle.coap_model.specs.Empties.{acknowledges, closes, on_delivered, on_delivery, settles, on_sent, on_empty}
 use Rattle.coap_model.specs.Empties as empties
 use Rattle.coap_pending.specs.declared.exchange.ExchangeState.{ExchangeState}
@@ -81,7 +81,7 @@ pub record IsAbout (w : State) (now : ℕ) (source : Endpoint) (m : Message) (x 
   pub found : item_at x.0 w.exchanges ≡ Some x.1
   pub sent : is_sent x.1 ≡ true
 
--- what an Empty message refers to otherwise: an answer that a client was sent
+-- what an Empty message refers to otherwise: an answer that a waiter was sent
 pub record IsOfAnswer (w : State) (now : ℕ) (source : Endpoint) (m : Message) (number : ℕ) : Type 0 where
   pub bare : is_bare m ≡ true
   pub first : first_that (waiters.was_sent_as source m.id now) w.waiters ≡ Some number
@@ -177,7 +177,7 @@ pub data IsTakenUp (source : Endpoint) (m : Message) : Option Endpoint → List 
 abbrev pub sending : Outcome → Option Endpoint → List ℕ → State → Step
 sending outcome send told w = record { report = record { send = send; outcome = outcome }; bytes = told; state = w }
 
--- a client waits for an exchange that existed
+-- a waiter waits for an exchange that existed
 abbrev pub joined_state : State → ℕ → Endpoint → Message → ℕ → State
 joined_state w now client m exchange =
     record (later w now) { waiters = w.waiters ++ new_waiter w client m exchange ∷ []; admitted = w.admitted + 1 }
@@ -187,13 +187,13 @@ abbrev pub opened_state : State → ℕ → Endpoint → Message → CacheKey �
 opened_state w now client m key stored =
     record (later w now) { exchanges = w.exchanges ++ new_exchange w now client m key stored ∷ []; waiters = w.waiters ++ new_waiter w client m (w.opened + 1) ∷ []; opened = w.opened + 1; admitted = w.admitted + 1 }
 
--- the clients that are left after one was sent this message: without it, or with it, until it
+-- the waiters that are left after one was sent this message: without it, or with it, until it
 -- acknowledges the message
 pub data IsTold (w : State) (now draw number : ℕ) (m : Message) : List (Numbered Waiter) → Type 0 where
   done_with : is_con m.kind ≡ false → IsTold w now draw number m (without number w.waiters)
   to_acknowledge : is_con m.kind ≡ true → IsTold w now draw number m (changed_at number (waiters.delivered (spelling m) m.id (started now draw)) w.waiters)
 
--- the client that is due first was sent its answer, and exists
+-- the waiter that is due first was sent its answer, and exists
 pub record IsTurnOfTold (w : State) (now at number : ℕ) (v : Waiter) (bytes : List ℕ) (id : ℕ) (timer : Timer) : Type 0 where
   pub due : if_due now (item_due w) ≡ Some (OfWaiter at number)
   pub found : item_at number w.waiters ≡ Some v
@@ -518,9 +518,9 @@ module _ (w : State) (now draw : ℕ) (grown : Bool) (source : Endpoint) (bytes 
     rule_awaited other (Some x) e = rule_answer x (by_response response e) other
 
     -- so is one that is Confirmable, and also by the room
-    rule_separate : m.kind ≡ Con → known_of w now source m ≡ None → (o : Option (Numbered Exchange)) → awaiting w source m ≡ o → Rule w now draw grown (arrival source bytes) (on_separate w now grown source m o)
-    rule_separate con unknown None e = rejecting source bytes own_head (head_of_read w bytes m fits read) (ap is_con con) (unawaited (λ recorded. unknown) e)
-    rule_separate con unknown (Some x) e = go (has_record_room w now source m.kind) refl
+    rule_new_confirmable : m.kind ≡ Con → known_of w now source m ≡ None → (o : Option (Numbered Exchange)) → awaiting w source m ≡ o → Rule w now draw grown (arrival source bytes) (on_new_confirmable w now grown source m o)
+    rule_new_confirmable con unknown None e = rejecting source bytes own_head (head_of_read w bytes m fits read) (ap is_con con) (unawaited (λ recorded. unknown) e)
+    rule_new_confirmable con unknown (Some x) e = go (has_record_room w now source m.kind) refl
       where
         recorded : is_recorded m ≡ true
         recorded = or_second (brings_requests m.kind && is_request m.code) (is_con m.kind && is_response m.code) (and_from (is_con m.kind) (is_response m.code) (ap is_con con) code)
@@ -530,7 +530,7 @@ module _ (w : State) (now draw : ℕ) (grown : Bool) (source : Endpoint) (bytes 
         go false full = dropping source bytes m fits (record { read = read; recorded = recorded }) (λ _. (x, e)) unknown full
 
     rule_unknown : m.kind ≡ Con → (o : Option Record) → known_of w now source m ≡ o → Rule w now draw grown (arrival source bytes) (on_unknown w now grown source m o)
-    rule_unknown con None e = rule_separate con e (awaiting w source m) refl
+    rule_unknown con None e = rule_new_confirmable con e (awaiting w source m) refl
     rule_unknown con (Some known) e =
         repeating source bytes m known fits
         (record { read = read; recorded = or_second (brings_requests m.kind && is_request m.code) (is_con m.kind && is_response m.code) (and_from (is_con m.kind) (is_response m.code) (ap is_con con) code) })
@@ -653,7 +653,7 @@ rule_exchange w now draw grown at number due (Some x) e = by_deadline (nat_le (d
     by_deadline true late = giving_up at number x turn (overdue (leb-true _ _ late))
     by_deadline false early = by_state (leb-false _ _ early) x.state refl
 
--- a client that is due is a case by its state: by the answer of its exchange, or by its timer
+-- a waiter that is due is a case by its state: by the answer of its exchange, or by its timer
 rule_waiter : (w : State) (now draw : ℕ) (grown : Bool) (at number : ℕ) → if_due now (item_due w) ≡ Some (OfWaiter at number) → (o : Option Waiter) → item_at number w.waiters ≡ o → Rule w now draw grown tick (on_waiter w now draw number o)
 rule_waiter w now draw grown at number due None e = stuck (no_waiter at number due e)
 rule_waiter w now draw grown at number due (Some v) e = by_state v.state refl

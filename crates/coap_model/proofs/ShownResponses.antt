@@ -26,7 +26,7 @@ use Rattle.coap_option.specs.Selection.{is_of, max_age_of}
 use Rattle.coap_option.proofs.MaxAges.{length-first_max_age}
 use Rattle.coap_store.specs.Renewing.{tag_of, of_number, has_number, below, above, updated, with_max_age, safe_options, news_of, is_validated, renewed}
 use Rattle.coap_store.specs.Showing as showing
-use Rattle.coap_store.specs.Showing.{is_content, shows_max_age, among, held_tag, valid, aged, aged_or_valid}
+use Rattle.coap_store.specs.Showing.{is_content, is_cacheable, among, held_tag, valid, aged, aged_or_valid}
 use Rattle.coap_store.proofs.Updates.{of_number-updated, AreOptions-updated}
 use Rattle.coap_option.specs.Classes.{is_unsafe}
 use Rattle.std.specs.Int.{w64, to_be_bytes}
@@ -35,7 +35,7 @@ use Rattle.coap_store.proofs.Picked.{AreOptions-above, AreOptions-filter, above-
 use Rattle.coap_store.proofs.Tags.{first_tag, tag_of-first, tag-short}
 use Rattle.coap_endpoint.specs.Equality.{same_bytes}
 use Rattle.coap_store.specs.declared.answer.Answer.{Answer}
-use Rattle.coap_forward.specs.Answers.{is_screened, without_observe, greatest_max_age, widest, fits, validates, taken_of, is_passed_on, bad_gateway, gateway_timeout, own_answer, origin_answer, answer_if_fits, validated, answer_taken, answer_of, left_of, left_to_show, shown_as}
+use Rattle.coap_forward.specs.Answers.{is_screened, without_observe, greatest_max_age, widest, fits, validates, passed_part, is_passed_on, bad_gateway, gateway_timeout, own_answer, origin_answer, answer_if_fits, validated, answer_taken, answer_of, left_of, left_to_show, shown_as}
 use Rattle.coap_forward.specs.Messages.{is_rst}
 use Rattle.coap_model.specs.History.{Matches, in_acknowledgement, separate, by_reset}
 use Rattle.coap_model.proofs.OptionLengths.{lower-length}
@@ -103,7 +103,7 @@ data IsShownAs (m : Message) : Option ℕ → Message → Type 0 where
 -- what is sent is one of the three
 shown-as : (m : Message) (left : Option ℕ) (tags : List (List ℕ)) → IsShownAs m left (showing.shown m left tags)
 shown-as m None tags = as_stored None
-shown-as m (Some left) tags = tells (shows_max_age m.code)
+shown-as m (Some left) tags = tells (is_cacheable m.code)
   where
     holds : (o : Option (List ℕ)) → held_tag m tags ≡ o → IsShownAs m (Some left) (option_map_or (valid m left) o (aged m left))
     holds None e = as_aged left
@@ -381,11 +381,11 @@ pub timeout-is : (most : ℕ) → IsHoldable most gateway_timeout
 timeout-is most = of_proxy GATEWAY_TIMEOUT (λ e. absurd (omega arith)) refl
 
 -- the accepted form of a response that is passed on can be sent to clients
-taken-sendable : (most : ℕ) (to_get : Bool) (bytes : List ℕ) (m : Message) → IsBytes bytes → Spells bytes m → is_response m.code ≡ true → is_passed_on most to_get m ≡ true → IsSendable most (taken_of to_get m)
-taken-sendable most to_get bytes m fit s response e = go (validates to_get m) (leb-true _ _ parts.1)
+passed_part-sendable : (most : ℕ) (to_get : Bool) (bytes : List ℕ) (m : Message) → IsBytes bytes → Spells bytes m → is_response m.code ≡ true → is_passed_on most to_get m ≡ true → IsSendable most (passed_part to_get m)
+passed_part-sendable most to_get bytes m fit s response e = go (validates to_get m) (leb-true _ _ parts.1)
   where
-    parts : (is_screened m ≡ true) × (fits most (taken_of to_get m) ≡ true)
-    parts = and_parts (is_screened m) (fits most (taken_of to_get m)) e
+    parts : (is_screened m ≡ true) × (fits most (passed_part to_get m) ≡ true)
+    parts = and_parts (is_screened m) (fits most (passed_part to_get m)) e
 
     all : AllByRecursion (λ o. IsBytes o.value) (without_observe m).options
     all = kept-all (λ o. not (o.number == 6)) m.options (values-bytes 0 s.options m.options s.options_are (options-bytes bytes m s fit))
@@ -499,7 +499,7 @@ answer-holdable most got to_get copy bytes m fit s response old = go (is_rst m.k
     taken false t is = received t is
 
     go : (r : Bool) → is_rst m.kind ≡ r → (b : Bool) → is_passed_on most to_get m ≡ b → IsHoldable most (cond (not r && b) (answer_taken most to_get copy got m) (own_answer got bad_gateway)).message
-    go false no_reset true passed = taken (validates to_get m) (taken_of to_get m) (taken-sendable most to_get bytes m fit s (response no_reset) passed)
+    go false no_reset true passed = taken (validates to_get m) (passed_part to_get m) (passed_part-sendable most to_get bytes m fit s (response no_reset) passed)
     go false no_reset false passed = bad_gateway-is most
     go true reset b passed = bad_gateway-is most
 

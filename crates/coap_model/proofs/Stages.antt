@@ -12,7 +12,7 @@ use Rattle.coap_model.specs.declared.report.Outcome.TheVariants.{Opened, Answere
 use Rattle.coap_model.specs.Setting.{Setting}
 use Rattle.coap_model.specs.Events.{Event, arrival, tick}
 use Rattle.coap_model.specs.History.{Act, admits, moves, Action, Position, IsPositionOf, Never, opened_in, ends, Sends, Ends}
-use Rattle.coap_model.specs.Standing.{Standing, Stage, queued, sent, acked, done, Open, staged, waits_for, awaited, open_since, open_by, open_in, standing_in, stage_of}
+use Rattle.coap_model.specs.Standing.{WaiterStanding, Stage, queued, sent, acked, done, Open, staged, waits_for, awaited, open_since, open_by, open_in, standing_in, stage_of}
 use Rattle.coap_model.specs.Justified.{IsOpening, IsSettled, Settles, a_request, an_answer, IsForwarding, IsGivingUp, overdue, unheard, unacknowledged, JustifiedBy, AllJustified}
 use Rattle.coap_model.proofs.Lists.{find-holds, All-filter}
 use Rattle.coap_model.proofs.Positions.{here, same_moves, same_admits, never-from, justified-at, opened-number}
@@ -21,7 +21,7 @@ use Rattle.coap_model.proofs.OwedActions.{taken-so}
 -- ---- what holds of the open exchanges
 
 -- what holds of all exchanges holds of those that are awaited
-All-awaited : (P : Open → Type 0) (standing : List Standing) (xs : List Open) → AllByRecursion P xs → AllByRecursion P (awaited standing xs)
+All-awaited : (P : Open → Type 0) (standing : List WaiterStanding) (xs : List Open) → AllByRecursion P xs → AllByRecursion P (awaited standing xs)
 All-awaited P standing xs all =
     All-weaken (λ o. P o × (list_any (λ s. waits_for o.number s.service) standing ≡ true)) P (awaited standing xs) (λ o h. h.0) (All-filter P (λ o. list_any (λ s. waits_for o.number s.service) standing) xs all)
 
@@ -37,7 +37,7 @@ All-staged P Q x stage (o ∷ xs) this others all = (go (o.number == x) refl, Al
 -- What held of all open exchanges holds, as they change, of all after an action: of a new one, of
 -- the one that is sent, of the one that is acknowledged, of the one that ends, and of each one that
 -- the action leaves as it is.
-pub All-open : (P Q : Open → Type 0) (o : Outcome) (act : Act) (event : Event) (send : Option Endpoint) (standing : List Standing) (xs : List Open)
+pub All-open : (P Q : Open → Type 0) (o : Outcome) (act : Act) (event : Event) (send : Option Endpoint) (standing : List WaiterStanding) (xs : List Open)
     → ((client : Endpoint) (came : List ℕ) (v x : ℕ) → event ≡ arrival client came → o ≡ Opened → act ≡ admits v x → Q (record { number = x; client = client; stage = queued }))
     → ((x : ℕ) (to : Endpoint) → o ≡ SentRequest → act ≡ moves x → send ≡ Some to → (q : Open) → P q → q.number ≡ x → Q (record q { stage = sent to }))
     → ((x : ℕ) → o ≡ Acked → act ≡ moves x → (q : Open) → P q → q.number ≡ x → Q (record q { stage = acked }))

@@ -21,7 +21,7 @@ use Rattle.coap_model.specs.declared.report.Storing.TheVariants.{Kept, TooLarge}
 use Rattle.coap_model.specs.Setting.{Setting}
 use Rattle.coap_model.specs.Keys.{request_key}
 use Rattle.coap_model.specs.Answers.{marked_all}
-use Rattle.coap_model.specs.History.{Action, Brings, takes, Gets}
+use Rattle.coap_model.specs.History.{Action, Brings, accepts_answer, Gets}
 use Rattle.coap_model.specs.Pairs.{Pairs, Both}
 use Rattle.coap_model.specs.Changed.{key_asked, IsTold}
 use Rattle.coap_model.specs.Cached.{Cached, cached_key, cached_size, entry_of_cached, entry_got, kept_for, store_limits, leaves, IsCacheOf, empty, kept, too_large, hit, otherwise, WasCacheAt, IsStored, IsStoreOf, IsEntryOf}
@@ -80,7 +80,7 @@ pub store-empty : (setting : Setting) → IsStoreOf setting [] []
 store-empty setting = record { cached = []; is_cache = empty; each = tt }
 
 -- an entry of the store stays right if no answer is accepted
-stored-stays : {setting : Setting} {past : List Action} (d : Action) → takes d.observation.report.outcome ≡ false → (s : Entry) (c : Cached) → IsStored setting past s c → IsStored setting (d ∷ past) s c
+stored-stays : {setting : Setting} {past : List Action} (d : Action) → accepts_answer d.observation.report.outcome ≡ false → (s : Entry) (c : Cached) → IsStored setting past s c → IsStored setting (d ∷ past) s c
 stored-stays {setting} {past} d none s c is = record { same = is.same; was_asked = inr is.was_asked; told = told-stays s.1.marked setting c.key.target c.asking past d none is.told }
 
 module _ (setting : Setting) (past : List Action) (d : Action) {x : ℕ} (gets : Gets setting x (here past d)) where
@@ -133,7 +133,7 @@ module _ (setting : Setting) (past : List Action) (d : Action) {x : ℕ} (gets :
   store-marked store leaving s = record { cached = s.cached; is_cache = otherwise d leaving s.is_cache; each = marked-on store s.cached s.each }
 
 -- what accepts no answer, and moves nothing, leaves the store as it is
-pub store-otherwise : (setting : Setting) (past : List Action) (store : List Entry) (d : Action) → leaves d.observation.report.outcome ≡ true → takes d.observation.report.outcome ≡ false → IsStoreOf setting past store → IsStoreOf setting (d ∷ past) store
+pub store-otherwise : (setting : Setting) (past : List Action) (store : List Entry) (d : Action) → leaves d.observation.report.outcome ≡ true → accepts_answer d.observation.report.outcome ≡ false → IsStoreOf setting past store → IsStoreOf setting (d ∷ past) store
 store-otherwise setting past store d leaving none s = record { cached = s.cached; is_cache = otherwise d leaving s.is_cache; each = Pairs-weaken (IsStored setting past) (IsStored setting (d ∷ past)) store s.cached (stored-stays d none) s.each }
 
 -- ---- what is found
@@ -195,7 +195,7 @@ pub store-hit : (setting : Setting) (past : List Action) (store : List Entry) (d
 store-hit setting past store d client request target stored is came to found s =
     let key = request_key target request in
     let f = found-cached setting past store s.cached key stored s.each found in
-    let none : takes d.observation.report.outcome ≡ false = ap takes is in
+    let none : accepts_answer d.observation.report.outcome ≡ false = ap accepts_answer is in
     record {
       cached = used cached_key key s.cached;
       is_cache = hit d client request target f.entry is came to f.is_there s.is_cache;

@@ -82,7 +82,7 @@ count-some {A} test (y ∷ ys) x h t =
     (λ (there : Has x ys). let i = count-some test ys x there t in omega arith)
     h
 
--- the exchange that a client waits for is there, if all exchanges are still there
+-- the exchange that a waiter waits for is there, if all exchanges are still there
 pub HasExchange-on : (s : WaiterState) (xs ys : List (Numbered Exchange)) → ((n : ℕ) → HasNumber n xs → HasNumber n ys) → HasExchange s xs → HasExchange s ys
 HasExchange-on (Waiting exchange) xs ys on has = on exchange has
 HasExchange-on (Delivering bytes id timer) xs ys on has = tt

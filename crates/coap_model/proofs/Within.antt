@@ -22,7 +22,7 @@ use Rattle.coap_model.specs.declared.report.Outcome.TheVariants.{Joined, Opened,
 use Rattle.coap_model.specs.Setting.{Setting}
 use Rattle.coap_model.specs.Events.{Event, arrival, tick}
 use Rattle.coap_model.specs.History.{Act, admits, moves, serves, Action, Position, IsPositionOf, IsRequestOf, admits_one, last_of, IsInOrder, is_con_datagram}
-use Rattle.coap_model.specs.Standing.{Standing, Stage, Open, others_than, as_told, waiting_since, standing_by, standing_in, waits_for, told, open_since, at_stage, sent, done, acked, open_by, open_in, exchanges_of, waiters_of}
+use Rattle.coap_model.specs.Standing.{WaiterStanding, Stage, Open, others_than, as_delivering, waiting_since, standing_by, standing_in, waits_for, delivering, open_since, at_stage, sent, done, acked, open_by, open_in, exchanges_of, waiters_of}
 use Rattle.coap_model.specs.Remembered.{is_remembered, goes_with, kept_of, kept_at, kept_by, kept_in, most_of_client, most_remembered, remembered_at, remembered_for, remembered_of}
 use Rattle.coap_model.specs.Justified.{IsOpening, JustifiedBy, AllJustified}
 use Rattle.coap_model.specs.Word.{until, IsCacheWithin, IsWithin}
@@ -33,7 +33,7 @@ use Rattle.coap_model.proofs.Positions.{arrival-same, justified-at}
 use Rattle.coap_model.proofs.Repeats.{new-here}
 use Rattle.coap_model.proofs.Stages.{all-before}
 
--- ---- exchanges and clients
+-- ---- exchanges and waiters
 
 -- changing each element leaves as many
 same-many : {X : Type 0} (f : X → X) (xs : List X) (n : ℕ) → length xs ≤ n → length (map f xs) ≤ n
@@ -43,7 +43,7 @@ same-many f xs n h = let e = length-map xs f in omega (arith, e, h)
 fewer : {X : Type 0} (p : X → Bool) (xs : List X) (n : ℕ) → length xs ≤ n → length (filter p xs) ≤ n
 fewer p xs n h = let e = filter-length p xs in omega (arith, e, h)
 
--- an event brings at most one more exchange or client
+-- an event brings at most one more exchange or waiter
 one-more : {X : Type 0} (xs ys : List X) (n : ℕ) → length ys ≤ 1 → length xs < n → length (xs ++ ys) ≤ n
 one-more xs ys n one room = omega (arith, length-append xs ys, one, room)
 
@@ -52,13 +52,13 @@ one-opened : (event : Event) (x : ℕ) → length (open_since event x) ≤ 1
 one-opened (arrival source bytes) x = omega arith
 one-opened tick x = omega arith
 
--- and with the clients whose request it brings
+-- and with the waiters whose request it brings
 one-waiting : (event : Event) (v x : ℕ) → length (waiting_since event v x) ≤ 1
 one-waiting (arrival source bytes) v x = omega arith
 one-waiting tick v x = omega arith
 
 -- no more exchanges are open than the limit, if there was room for one that is opened
-open-few : (n : ℕ) (o : Outcome) (act : Act) (event : Event) (send : Option Endpoint) (standing : List Standing) (xs : List Open) → (o ≡ Opened → length xs < n) → length xs ≤ n → length (open_by o act event send standing xs) ≤ n
+open-few : (n : ℕ) (o : Outcome) (act : Act) (event : Event) (send : Option Endpoint) (standing : List WaiterStanding) (xs : List Open) → (o ≡ Opened → length xs < n) → length xs ≤ n → length (open_by o act event send standing xs) ≤ n
 open-few n Opened (admits v x) event send standing xs room few = one-more xs (open_since event x) n (one-opened event x) (room refl)
 open-few n SentRequest (moves x) event (Some to) standing xs room few = same-many (at_stage x (sent to)) xs n few
 open-few n Acked (moves x) event send standing xs room few = same-many (at_stage x acked) xs n few
@@ -68,16 +68,16 @@ open-few n Delivered act event send standing xs room few = fewer _ xs n few
 open-few n SentRequest (moves x) event None standing xs room few = few
 open-few n _ _ event send standing xs room few = few
 
--- nor are more clients pending than the limit
-standing-few : (n : ℕ) (o : Outcome) (act : Act) (event : Event) (bytes : List ℕ) (standing : List Standing) → (o ≡ Opened → length standing < n) → (o ≡ Joined → length standing < n) → length standing ≤ n → length (standing_by o act event bytes standing) ≤ n
+-- nor are more waiters there than the limit
+standing-few : (n : ℕ) (o : Outcome) (act : Act) (event : Event) (bytes : List ℕ) (standing : List WaiterStanding) → (o ≡ Opened → length standing < n) → (o ≡ Joined → length standing < n) → length standing ≤ n → length (standing_by o act event bytes standing) ≤ n
 standing-few n Opened (admits v x) event bytes standing opens joins few = one-more standing (waiting_since event v x) n (one-waiting event v x) (opens refl)
 standing-few n Joined (admits v x) event bytes standing opens joins few = one-more standing (waiting_since event v x) n (one-waiting event v x) (joins refl)
 standing-few n Acked (serves v) event bytes standing opens joins few = fewer _ standing n few
 standing-few n GaveUp (serves v) event bytes standing opens joins few = fewer _ standing n few
 standing-few n Delivered (serves v) event bytes standing opens joins few = go (is_con_datagram bytes)
   where
-    go : (b : Bool) → length (if b then map (as_told v) standing else others_than v standing) ≤ n
-    go true = same-many (as_told v) standing n few
+    go : (b : Bool) → length (if b then map (as_delivering v) standing else others_than v standing) ≤ n
+    go true = same-many (as_delivering v) standing n few
     go false = fewer _ standing n few
 standing-few n _ _ event bytes standing opens joins few = few
 
@@ -89,7 +89,7 @@ open-within setting (d ∷ past) all =
     (λ is. let j = subst (λ (o : Outcome). JustifiedBy o setting past d) is all.0 in j.room.shared.exchange)
     (open-within setting past all.1)
 
--- and so does the limit for clients
+-- and so does the limit for waiters
 pub standing-within : (setting : Setting) (history : List Action) → AllJustified setting history → length (standing_in history) ≤ setting.limits.waiters
 standing-within setting [] all = omega arith
 standing-within setting (d ∷ past) all =
@@ -105,7 +105,7 @@ abbrev pub opener : Open → Endpoint
 opener o = o.client
 
 -- who sent a pending request
-abbrev pub asker : Standing → Endpoint
+abbrev pub asker : WaiterStanding → Endpoint
 asker s = s.client
 
 -- who sent a message that is remembered
@@ -125,15 +125,15 @@ staged-client x stage o = go (o.number == x)
     go false = refl
 
 -- and a pending request still its client's once it is answered
-told-client : (v : ℕ) (s : Standing) → (as_told v s).client ≡ s.client
-told-client v s = go (s.number == v)
+delivering-client : (v : ℕ) (s : WaiterStanding) → (as_delivering v s).client ≡ s.client
+delivering-client v s = go (s.number == v)
   where
-    go : (b : Bool) → (if b then record s { service = told } else s).client ≡ s.client
+    go : (b : Bool) → (if b then record s { service = delivering } else s).client ≡ s.client
     go true = refl
     go false = refl
 
 -- no client has more open exchanges than it may, if whoever opens one had room for it
-open-own : (n : ℕ) (o : Outcome) (act : Act) (event : Event) (send : Option Endpoint) (standing : List Standing) (xs : List Open)
+open-own : (n : ℕ) (o : Outcome) (act : Act) (event : Event) (send : Option Endpoint) (standing : List WaiterStanding) (xs : List Open)
     → (o ≡ Opened → (source : Endpoint) (bytes : List ℕ) → event ≡ arrival source bytes → owned opener source xs < n)
     → AreFew opener n xs → AreFew opener n (open_by o act event send standing xs)
 open-own n Opened (admits v x) (arrival source bytes) send standing xs room few = few-more opener n xs _ (room refl source bytes refl) few
@@ -147,7 +147,7 @@ open-own n SentRequest (moves x) event None standing xs room few = few
 open-own n _ _ event send standing xs room few = few
 
 -- nor more pending requests, if whoever is admitted had room for it
-standing-own : (n : ℕ) (o : Outcome) (act : Act) (event : Event) (bytes : List ℕ) (xs : List Standing)
+standing-own : (n : ℕ) (o : Outcome) (act : Act) (event : Event) (bytes : List ℕ) (xs : List WaiterStanding)
     → (admits_one o ≡ 1 → (source : Endpoint) (came : List ℕ) → event ≡ arrival source came → owned asker source xs < n)
     → AreFew asker n xs → AreFew asker n (standing_by o act event bytes xs)
 standing-own n Opened (admits v x) (arrival source came) bytes xs room few = few-more asker n xs _ (room refl source came refl) few
@@ -158,8 +158,8 @@ standing-own n Acked (serves v) event bytes xs room few = few-left asker n (λ s
 standing-own n GaveUp (serves v) event bytes xs room few = few-left asker n (λ s. not (s.number == v)) xs few
 standing-own n Delivered (serves v) event bytes xs room few = go (is_con_datagram bytes)
   where
-    go : (b : Bool) → AreFew asker n (if b then map (as_told v) xs else others_than v xs)
-    go true = few-changed asker n (as_told v) (told-client v) xs few
+    go : (b : Bool) → AreFew asker n (if b then map (as_delivering v) xs else others_than v xs)
+    go true = few-changed asker n (as_delivering v) (delivering-client v) xs few
     go false = few-left asker n (λ s. not (s.number == v)) xs few
 standing-own n _ _ event bytes xs room few = few
 

@@ -12,14 +12,14 @@ use Rattle.coap_store.specs.Entries as entries
 use Rattle.coap_store.specs.Entries.{entry_key, entry_size}
 use Rattle.coap_store.specs.Lists.{of_key, others, put, used}
 use Rattle.coap_store.specs.Renewing.{tag_of, is_validated, renewed}
-use Rattle.coap_store.specs.Showing.{shows_max_age}
+use Rattle.coap_store.specs.Showing.{is_cacheable}
 use Rattle.coap_model.specs.declared.report.Outcome.{Outcome}
 use Rattle.coap_model.specs.declared.report.Outcome.TheVariants.{Ignored, Rejected, Again, NoRecordRoom, Refused, Hit, Joined, Opened, Overloaded, NoId, Answered, Acked, SentRequest, Resent, GaveUp, Delivered, Idle}
 use Rattle.coap_model.specs.declared.report.Storing.{Storing}
 use Rattle.coap_model.specs.declared.report.Storing.TheVariants.{Kept, TooLarge, NoMemory, NotStored}
 use Rattle.coap_model.specs.Setting.{Setting}
 use Rattle.coap_model.specs.Keys.{request_key}
-use Rattle.coap_forward.specs.Answers.{answer_of, fits, is_passed_on, taken_of}
+use Rattle.coap_forward.specs.Answers.{answer_of, fits, is_passed_on, passed_part}
 use Rattle.coap_model.specs.History.{Action, Position, index, IsPositionOf, Brings, Opens, Gets}
 use Rattle.coap_model.specs.Changed.{asked_of, key_asked, to_get, Unchanged, IsTold}
 use Rattle.coap_model.specs.Pairs.{Pairs}
@@ -39,7 +39,7 @@ pub record IsFetched (setting : Setting) (key : CacheKey) (asking getting : Posi
 
 -- it may be kept: a 2.05 or an error of class 4 or 5, with a positive Max-Age
 pub record IsLasting (response : Message) : Type 0 where
-  pub code : shows_max_age response.code ≡ true
+  pub code : is_cacheable response.code ≡ true
   pub age : 0 < max_age_of response
 
 -- The response was obtained for this key: it arrived for a GET with the key, or it was obtained for
@@ -49,7 +49,7 @@ pub data IsObtained (setting : Setting) (key : CacheKey) : Message → Position 
     → Type 0 where
   first_hand : {response : Message} {asking getting : Position}
       (fetched : IsFetched setting key asking getting)
-      → response ≡ taken_of true fetched.gets.meets.message
+      → response ≡ passed_part true fetched.gets.meets.message
       → IsLasting response
       → IsObtained setting key response asking getting
   validated : {response old : Message} {asking getting old_asking old_getting : Position}
@@ -59,8 +59,8 @@ pub data IsObtained (setting : Setting) (key : CacheKey) : Message → Position 
       → IsPositionOf asking.before old_getting
       → tag_of old.options ≡ Some tag
       → tags_of (asked_of fetched.gets) ≡ tag ∷ []
-      → is_validated old (taken_of true fetched.gets.meets.message) ≡ true
-      → response ≡ renewed old (taken_of true fetched.gets.meets.message)
+      → is_validated old (passed_part true fetched.gets.meets.message) ≡ true
+      → response ≡ renewed old (passed_part true fetched.gets.meets.message)
       → fits setting.limits.datagram response ≡ true
       → IsLasting response
       → IsObtained setting key response asking getting
@@ -80,8 +80,8 @@ entry_marked marked c = (
   c.key,
   record {
     response = c.response;
-    asked = index c.asking;
-    got_no = index c.getting;
+    asked_event = index c.asking;
+    got_event = index c.getting;
     got = c.getting.action.observation.now;
     marked = marked;
   },

@@ -31,7 +31,7 @@ use Rattle.coap_forward.specs.Forms.{forwarded, tag_for}
 use Rattle.coap_model.specs.Keys.{key_sent}
 use Rattle.coap_model.specs.Verdicts.{may_ask}
 use Rattle.coap_model.specs.State.{State, reserved}
-use Rattle.coap_model.specs.Standing.{Stage, Service, Standing, Open, queued, sent, acked, done, waits, told, open_in, standing_in, window_ids}
+use Rattle.coap_model.specs.Standing.{Stage, Service, WaiterStanding, Open, queued, sent, acked, done, waits, delivering, open_in, standing_in, window_ids}
 use Rattle.coap_model.specs.Schedules.{IsSchedule, oldest, sends_by}
 use Rattle.coap_model.specs.History.{Observation, Act, moves, serves, Action, told_by, Position, index, IsPositionOf, Never, Somewhere, opened_in, admitted_in, ids_in, Opens, Admits, Sends, Serves, Asks, Ends, WasOpened, WasAdmitted, last_of, IsInOrder, AreIds}
 use Rattle.coap_model.specs.Changed.{IsTold}
@@ -79,9 +79,9 @@ stage_seen x =
 
 abbrev pub service_in : WaiterState → Service
 service_in (Waiting exchange) = waits exchange
-service_in (Delivering bytes id timer) = told
+service_in (Delivering bytes id timer) = delivering
 
-abbrev pub standing_seen : Numbered Waiter → Standing
+abbrev pub standing_seen : Numbered Waiter → WaiterStanding
 standing_seen v =
     record { number = v.0; client = v.1.client; service = service_in v.1.state }
 
@@ -89,7 +89,7 @@ abbrev pub HasNumber : {A : Type 0} → ℕ → List (Numbered A) → Type 0
 HasNumber n [] = ⊥
 HasNumber n (x ∷ xs) = (n ≡ x.0) ⊎ HasNumber n xs
 
--- the exchange that a client waits for exists
+-- the exchange that a waiter waits for exists
 abbrev pub HasExchange : WaiterState → List (Numbered Exchange) → Type 0
 HasExchange (Waiting exchange) exchanges = HasNumber exchange exchanges
 HasExchange (Delivering bytes id timer) exchanges = Unit {0}
@@ -100,13 +100,13 @@ pub record AreWhole (history : List Action) (w : State) : Type 0 where
   pub waiters : map standing_seen w.waiters ≡ standing_in history
   pub rising : IsRising 0 w.exchanges
   pub waiters_rise : IsRising 0 w.waiters
-  -- the exchange that a client waits for exists, and each exchange has a client that waits for it
+  -- the exchange that a waiter waits for exists, and each exchange has a waiter that waits for it
   pub awaited : AllByRecursion (λ v. HasExchange v.1.state w.exchanges) w.waiters
   pub waited : AllByRecursion (λ x. 0 < count (waits_for x.0) w.waiters) w.exchanges
   -- an exchange that was opened and never ended is there
   pub unended :
       (x : ℕ) → Somewhere (Opens x) history → Never (Ends x) history → HasNumber x w.exchanges
-  -- a client that was admitted and never served is there
+  -- a waiter that was admitted and never served is there
   pub unserved :
       (v x : ℕ) → Somewhere (Admits v x) history → Never (Serves v) history
       → HasNumber v w.waiters
@@ -139,7 +139,7 @@ pub record WasAsked
   pub asked_key : key_sent asks.sends.to asks.sends.message ≡ key
   pub to : asks.sends.to ≡ key.target.at
   pub id_is : s.id ≡ asks.sends.message.id
-  pub number : s.asked ≡ index asking
+  pub number : s.asked_event ≡ index asking
   pub timer : IsTimer s.timer (sends_by (moves x) history)
   pub bytes : AreOfBytes key.target.at form (sends_by (moves x) history)
 
@@ -210,7 +210,7 @@ pub record IsExchangeOf
     (setting : Setting) (history : List Action) (x : Numbered Exchange) : Type 0 where
   pub opened : WasOpened setting history x.0
   pub client_is : x.1.client ≡ opened.client
-  pub admitted : x.1.admitted ≡ opened.opening.action.observation.now
+  pub admitted : x.1.opened_at ≡ opened.opening.action.observation.now
   pub verdict : verdict_on setting opened.request ≡ may_ask x.1.key
   pub method : x.1.is_get ≡ is_get opened.request.code
   pub former : List Cached
@@ -231,7 +231,7 @@ pub record IsExchangeOf
 
 -- ---- waiters
 
--- a client waits: it was admitted to this exchange, which hadn't ended then
+-- a waiter waits: it was admitted to this exchange, which hadn't ended then
 pub record IsWaiting
     (setting : Setting) (history : List Action) (v : Numbered Waiter) (exchange : ℕ)
     : Type 0 where
@@ -250,7 +250,7 @@ pub record IsWaiting
   pub method : is_get opened.request.code ≡ is_get admitted.request.code
   pub verdict : verdict_on setting opened.request ≡ verdict_on setting admitted.request
 
--- A client was served once, in a Confirmable message: in these bytes, with this id, by this
+-- A waiter was served once, in a Confirmable message: in these bytes, with this id, by this
 -- schedule. The token and the tags of its request are dropped.
 pub record IsDelivering
     (setting : Setting) (history : List Action) (v : Numbered Waiter) (bytes : List ℕ) (id : ℕ)
@@ -284,7 +284,7 @@ IsWaiterOf setting history v = IsWaiterIn setting history v v.1.state
 
 -- ---- numbers that aren't used yet
 
--- no exchange that wasn't opened was sent or ended, and no client that wasn't admitted was served
+-- no exchange that wasn't opened was sent or ended, and no waiter that wasn't admitted was served
 pub record AreUnused (setting : Setting) (history : List Action) : Type 0 where
   pub exchanges :
       (x : ℕ)

@@ -4,7 +4,7 @@ use Rattle.coap_endpoint.specs.declared.endpoint.Endpoint.{Endpoint}
 use Rattle.coap_store.specs.declared.key.CacheKey.{CacheKey}
 use Rattle.coap_model.specs.Setting.{Setting}
 use Rattle.coap_model.specs.Verdicts.{may_ask, verdict_of}
-use Rattle.coap_model.specs.Standing.{queued, sent, stage_of, outstanding_to, told, service_of}
+use Rattle.coap_model.specs.Standing.{queued, sent, stage_of, outstanding_to, delivering, service_of}
 use Rattle.coap_model.specs.Schedules.{sends_by, next_send}
 use Rattle.coap_model.specs.History.{Act, no_item, admits, moves, serves, Action, Position, IsPositionOf, Never, Ends, Serves, WasOpened, WasAdmitted}
 
@@ -38,9 +38,9 @@ pub data IsExchangeDue (setting : Setting) (past : List Action) (x at : ℕ) : T
   to_repeat : IsToRepeat setting past x at → IsExchangeDue setting past x at
   to_end : IsToEnd setting past x at → IsExchangeDue setting past x at
 
--- ---- clients
+-- ---- waiters
 
--- a client that wasn't served is due to be served from when its exchange was answered or given up
+-- a waiter that wasn't served is due to be served from when its exchange was answered or given up
 pub record IsToServe (setting : Setting) (past : List Action) (v at : ℕ) : Type 0 where
   pub admitted : WasAdmitted setting past v
   pub unserved : Never (Serves v) past
@@ -51,7 +51,7 @@ pub record IsToServe (setting : Setting) (past : List Action) (v at : ℕ) : Typ
 
 -- one that was served, and hasn't acknowledged its answer, is due to get it again by its schedule
 pub record IsToServeAgain (past : List Action) (v at : ℕ) : Type 0 where
-  pub service : service_of v past ≡ Some told
+  pub service : service_of v past ≡ Some delivering
   pub at_is : at ≡ next_send (sends_by (serves v) past)
 
 pub data IsWaiterDue (setting : Setting) (past : List Action) (v at : ℕ) : Type 0 where

@@ -63,12 +63,12 @@ abbrev pub exchange_bytes : Numbered Exchange → ℕ
 exchange_bytes x =
     length x.1.form + key_bytes x.1.key + copy_bytes x.1.copy + state_bytes x.1.state
 
--- the answer that a client hasn't acknowledged yet
+-- the answer to a waiter that isn't acknowledged yet
 abbrev pub answer_bytes : WaiterState → ℕ
 answer_bytes (Waiting exchange) = 0
 answer_bytes (Delivering bytes id timer) = length bytes
 
--- a client's token, its tags, each preceded by its length, and its answer
+-- a waiter's token, its tags, each preceded by its length, and its answer
 abbrev pub waiter_bytes : Numbered Waiter → ℕ
 waiter_bytes v =
     length v.1.token + length (pieces_spelling v.1.tags) + answer_bytes v.1.state
@@ -104,7 +104,7 @@ abbrev pub exchange_size : Numbered Exchange → ℕ
 exchange_size x =
     length x.1.form + key_size x.1.key + copy_size x.1.copy + answer_size x.1.state
 
--- a client that waits: its token and its tags; one that was served: the bytes of its answer
+-- a waiter that waits: its token and its tags; one that was served: the bytes of its answer
 abbrev pub waiter_size : Waiter → WaiterState → ℕ
 waiter_size v (Waiting exchange) = length v.token + sum_by length v.tags
 waiter_size v (Delivering bytes id timer) = length bytes

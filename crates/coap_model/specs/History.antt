@@ -1,5 +1,5 @@
 -- What the traffic alone shows: which observation of a history opened an exchange, sent its
--- request, got its answer, or admitted a client. This file names no table. A history has its newest
+-- request, got its answer, or admitted a waiter. This file names no table. A history has its newest
 -- observation first.
 use Rattle.std.specs.Prelude.{◌≡◌, ◌⊎◌, ℕ, ◌+◌, ◌%◌, ◌≤◌, List, [], ◌∷◌, length, map, Bool, true, false, not, if◌then◌else◌, Some}
 use Rattle.coap_message.specs.declared.kind.Kind.TheVariants.{Ack, Rst}
@@ -277,29 +277,29 @@ pub record Meets (setting : Setting) (x : ℕ) (past : List Action) (event : Eve
   pub matches : Matches (token_of setting.salt x) asks.sends.message.id message
 
 -- an answer is accepted, whether it is stored or not
-abbrev pub takes : Outcome → Bool
-takes Ignored = false
-takes Rejected = false
-takes Again = false
-takes NoRecordRoom = false
-takes (Refused code) = false
-takes Hit = false
-takes Joined = false
-takes Opened = false
-takes Overloaded = false
-takes NoId = false
-takes (Answered storing) = true
-takes Acked = false
-takes SentRequest = false
-takes Resent = false
-takes GaveUp = false
-takes Delivered = false
-takes Idle = false
+abbrev pub accepts_answer : Outcome → Bool
+accepts_answer Ignored = false
+accepts_answer Rejected = false
+accepts_answer Again = false
+accepts_answer NoRecordRoom = false
+accepts_answer (Refused code) = false
+accepts_answer Hit = false
+accepts_answer Joined = false
+accepts_answer Opened = false
+accepts_answer Overloaded = false
+accepts_answer NoId = false
+accepts_answer (Answered storing) = true
+accepts_answer Acked = false
+accepts_answer SentRequest = false
+accepts_answer Resent = false
+accepts_answer GaveUp = false
+accepts_answer Delivered = false
+accepts_answer Idle = false
 
 -- the answer of this exchange arrived there
 pub record Gets (setting : Setting) (x : ℕ) (p : Position) : Type 0 where
   pub act : p.action.act ≡ moves x
-  pub outcome : takes p.action.observation.report.outcome ≡ true
+  pub outcome : accepts_answer p.action.observation.report.outcome ≡ true
   pub meets : Meets setting x p.before p.action.observation.event
   pub bytes : IsBytes meets.brings.bytes
 
@@ -338,31 +338,31 @@ pub record Serves (v : ℕ) (p : Position) : Type 0 where
   pub act : p.action.act ≡ serves v
   pub outcome : p.action.observation.report.outcome ≡ Delivered
 
--- a client is finished: its answer was acknowledged, or isn't retransmitted any more, or was sent
+-- a waiter is finished: its answer was acknowledged, or isn't retransmitted any more, or was sent
 -- in a message that isn't Confirmable
-abbrev pub closes_unused : Outcome → List ℕ → Bool
-closes_unused Ignored bytes = false
-closes_unused Rejected bytes = false
-closes_unused Again bytes = false
-closes_unused NoRecordRoom bytes = false
-closes_unused (Refused code) bytes = false
-closes_unused Hit bytes = false
-closes_unused Joined bytes = false
-closes_unused Opened bytes = false
-closes_unused Overloaded bytes = false
-closes_unused NoId bytes = false
-closes_unused (Answered storing) bytes = false
-closes_unused Acked bytes = true
-closes_unused SentRequest bytes = false
-closes_unused Resent bytes = false
-closes_unused GaveUp bytes = true
-closes_unused Delivered bytes = not (is_con_datagram bytes)
-closes_unused Idle bytes = false
+abbrev pub finishes : Outcome → List ℕ → Bool
+finishes Ignored bytes = false
+finishes Rejected bytes = false
+finishes Again bytes = false
+finishes NoRecordRoom bytes = false
+finishes (Refused code) bytes = false
+finishes Hit bytes = false
+finishes Joined bytes = false
+finishes Opened bytes = false
+finishes Overloaded bytes = false
+finishes NoId bytes = false
+finishes (Answered storing) bytes = false
+finishes Acked bytes = true
+finishes SentRequest bytes = false
+finishes Resent bytes = false
+finishes GaveUp bytes = true
+finishes Delivered bytes = not (is_con_datagram bytes)
+finishes Idle bytes = false
 
 -- the waiter was finished there
-pub record LetsGo (v : ℕ) (p : Position) : Type 0 where
+pub record Finishes (v : ℕ) (p : Position) : Type 0 where
   pub act : p.action.act ≡ serves v
-  pub outcome : closes_unused p.action.observation.report.outcome p.action.observation.bytes ≡ true
+  pub outcome : finishes p.action.observation.report.outcome p.action.observation.bytes ≡ true
 
 -- ---- moments and ids
 

@@ -16,7 +16,7 @@ use Rattle.coap_model.specs.ResponseExamples.{empty_ack, empty_reset}
 
 -- ---- proxies and clients
 
--- with room for one exchange, and for two waiting clients
+-- with room for one exchange, and for two waiters
 abbrev pub two_waiters : State
 two_waiters = proxy_of (record default_limits { exchanges = 1; waiters = 2 })
 
@@ -147,7 +147,7 @@ reset_for_all_sent =
 abbrev pub is_busy : ℕ → ℕ → Sent
 is_busy n id = to Overloaded (client n) (0x51 ∷ 0xA3 ∷ 0 ∷ id ∷ n ∷ 0xD1 ∷ 1 ∷ 5 ∷ [])
 
--- room for one waiting client: others are told to try again, until the first is served
+-- room for one waiter: others are told to try again, until the first is served
 abbrev pub one_waits : List Turn
 one_waits =
     asks 0 1 ∷ asks 0 2 ∷ tick_at 0 ∷ from 0 origin (got_stale 2 1) ∷ asks 0 3 ∷ tick_at 0
@@ -158,7 +158,7 @@ one_waits_sent =
     nothing Opened ∷ is_busy 2 1 ∷ to SentRequest origin (asked 2 1) ∷ nothing (Answered NotStored)
     ∷ is_busy 3 3 ∷ stale 1 4 ∷ nothing Opened ∷ []
 
--- Room for one exchange and two waiting clients: a client that requests something else is told to
+-- Room for one exchange and two waiters: a client that requests something else is told to
 -- try again, another one joins, and then there is no room for a third.
 abbrev pub full_tables : List Turn
 full_tables = asks 0 1 ∷ from 0 (client 4) (get_t (1 ∷ 0x78 ∷ [])) ∷ asks 0 2 ∷ asks 0 3 ∷ []

@@ -20,7 +20,7 @@ proxy_of limits =
       salt = 0;
     })
 
--- with room for one exchange, and with room for one waiting client
+-- with room for one exchange, and with room for one waiter
 abbrev pub one_exchange : State
 one_exchange = proxy_of (record default_limits { exchanges = 1 })
 

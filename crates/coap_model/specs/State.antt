@@ -28,7 +28,7 @@ use Rattle.coap_forward.specs.Messages.{is_con, reset, acknowledgement, kept_rep
 
 pub record State : Type 0 where
   pub setting : Setting
-  -- the exchanges in progress and the waiting clients, in order of number
+  -- the exchanges in progress and the waiters, in order of number
   pub exchanges : List (Numbered Exchange)
   pub waiters : List (Numbered Waiter)
   -- the stored responses, the most recently used first
@@ -36,7 +36,7 @@ pub record State : Type 0 where
   -- the records of the Confirmable and of the Non-confirmable messages that were received
   pub con_records : Records
   pub non_records : Records
-  -- how many exchanges were ever opened, and how many clients were ever admitted
+  -- how many exchanges were ever opened, and how many waiters were ever admitted
   pub opened : ℕ
   pub admitted : ℕ
   -- the next Message ID, and how many were given out recently
@@ -163,7 +163,7 @@ drops w now = silent NoRecordRoom (later w now)
 abbrev pub next_id : State → ℕ
 next_id w = w.ids.following
 
--- the number of ids reserved for clients that haven't been served yet, and for exchanges whose
+-- the number of ids reserved for waiters that haven't been served yet, and for exchanges whose
 -- request hasn't been sent yet
 abbrev pub reserved : State → ℕ
 reserved w = count is_waiting w.waiters + count is_queued w.exchanges

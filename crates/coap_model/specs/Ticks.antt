@@ -26,7 +26,7 @@ use Rattle.coap_model.specs.State.{State, Step, later, silent, says, next_id}
 
 -- ---- what is due
 
--- the exchange that is due first, and the client that is due first
+-- the exchange that is due first, and the waiter that is due first
 abbrev pub exchange_due : State → Option (ℕ × ℕ)
 exchange_due w =
     first_due (due_among w.setting.limits.nstart w.setting.limits.exchange_ms w.exchanges)
@@ -73,7 +73,7 @@ sends w now draw number x =
       state = record (later w now) {
         exchanges =
             changed_at number
-            (sent (record { asked = w.events; id = next_id w; timer = started now draw }))
+            (sent (record { asked_event = w.events; id = next_id w; timer = started now draw }))
             w.exchanges;
         ids = called now w.ids;
       };
@@ -118,9 +118,9 @@ on_exchange w now draw number (Some x) =
     then gives_up w now number
     else in_time w now draw number x x.state
 
--- ---- clients
+-- ---- waiters
 
--- an exchange for which no client waits any more is removed
+-- an exchange for which no waiter waits any more is removed
 abbrev pub without_idle :
     ℕ → List (Numbered Waiter) → List (Numbered Exchange) → List (Numbered Exchange)
 without_idle number waiters exchanges =
@@ -131,7 +131,7 @@ without_idle number waiters exchanges =
 abbrev pub given_to : State → ℕ → Waiter → Bool → Answer → Message
 given_to w now v to_get a = shown_as v.kind to_get now a (next_id w) v.token v.tags
 
--- the clients, after one was sent this message: a Confirmable one will be retransmitted until it is
+-- the waiters, after one was sent this message: a Confirmable one will be retransmitted until it is
 -- acknowledged
 abbrev pub waiters_after : State → ℕ → ℕ → ℕ → Message → List (Numbered Waiter)
 waiters_after w now draw number m =
@@ -139,7 +139,7 @@ waiters_after w now draw number m =
     then changed_at number (delivered (spelling m) m.id (started now draw)) w.waiters
     else without number w.waiters
 
--- the client is sent a message, after which these clients are left
+-- the client is sent a message, after which these waiters are left
 abbrev pub tells : State → ℕ → Waiter → ℕ → Message → List (Numbered Waiter) → Step
 tells w now v exchange m waiters =
     says Delivered v.client m (record (later w now) {
@@ -154,7 +154,7 @@ delivers w now draw number v exchange to_get a =
     tells w now v exchange (given_to w now v to_get a)
     (waiters_after w now draw number (given_to w now v to_get a))
 
--- a waiting client is due when its exchange has its answer, so the first cases of this and of
+-- a waiter that waits is due when its exchange has its answer, so the first cases of this and of
 -- `on_awaited` never occur
 abbrev pub on_answer : State → ℕ → ℕ → ℕ → Waiter → ℕ → Bool → Option Answer → Step
 on_answer w now draw number v exchange to_get None = idles w now
@@ -186,14 +186,14 @@ abbrev pub on_delivery_timeout : State → ℕ → ℕ → Waiter → List ℕ �
 on_delivery_timeout w now number v bytes Again = redelivers w now number v bytes
 on_delivery_timeout w now number v bytes GiveUp = abandons w now number
 
--- a waiting client is sent its answer; one that was sent it is sent it again, or is given up
+-- a waiter that waits is sent its answer; one that was sent it is sent it again, or is given up
 abbrev pub on_waiting : State → ℕ → ℕ → ℕ → Waiter → WaiterState → Step
 on_waiting w now draw number v (Waiting exchange) =
     on_awaited w now draw number v exchange (item_at exchange w.exchanges)
 on_waiting w now draw number v (Delivering bytes id timer) =
     on_delivery_timeout w now number v bytes (fire_of now timer)
 
--- a client that is due exists, so the first case never occurs
+-- a waiter that is due exists, so the first case never occurs
 abbrev pub on_waiter : State → ℕ → ℕ → ℕ → Option Waiter → Step
 on_waiter w now draw number None = idles w now
 on_waiter w now draw number (Some v) = on_waiting w now draw number v v.state

@@ -14,10 +14,10 @@ ghost use Rattle.coap_model.specs.declared.report.Storing.TheVariants.{Kept, Too
 ghost use Rattle.coap_model.specs.Setting.{Setting};
 ghost use Rattle.coap_model.specs.Keys.{request_key};
 ghost use Rattle.coap_model.specs.History as told;
-ghost use Rattle.coap_model.specs.History.{Action, Position, IsPositionOf, Brings, moves, takes, Gets};
+ghost use Rattle.coap_model.specs.History.{Action, Position, IsPositionOf, Brings, moves, accepts_answer, Gets};
 ghost use Rattle.coap_model.specs.Answers.{marked_all};
 ghost use Rattle.coap_model.specs.Changed.{asked_of, key_asked, to_get, Unchanged, WasChanged, IsTold};
-ghost use Rattle.coap_forward.specs.Answers.{fits, taken_of, is_passed_on};
+ghost use Rattle.coap_forward.specs.Answers.{fits, passed_part, is_passed_on};
 ghost use Rattle.coap_forward.specs.Changes.{changed_by};
 ghost use Rattle.coap_store.specs.Renewing.{is_validated, renewed};
 ghost use Rattle.coap_option.specs.Selection.{tags_of};
@@ -198,7 +198,7 @@ pub fn what_came_so_may_be_stored()
         → Unchanged setting (key_asked gets).target gets.meets.asking past
         → WasCacheAt setting gets.meets.asking.before exchange former
         → is_passed_on setting.limits.datagram true gets.meets.message ≡ true
-        → IsLasting (taken_of true gets.meets.message)
+        → IsLasting (passed_part true gets.meets.message)
         → IsObtainedHere setting past d }
     ensures renewed { (setting : Setting) (past : List Action) (d : Action) (exchange : ℕ)
         (gets : Gets setting exchange (record { before = past; action = d })) (former : List Cached)
@@ -208,9 +208,9 @@ pub fn what_came_so_may_be_stored()
         → WasCacheAt setting gets.meets.asking.before exchange former
         → is_passed_on setting.limits.datagram true gets.meets.message ≡ true
         → copied (tags_of (asked_of gets)) (key_asked gets) former ≡ Some old
-        → is_validated old (taken_of true gets.meets.message) ≡ true
-        → fits setting.limits.datagram (renewed old (taken_of true gets.meets.message)) ≡ true
-        → IsLasting (renewed old (taken_of true gets.meets.message))
+        → is_validated old (passed_part true gets.meets.message) ≡ true
+        → fits setting.limits.datagram (renewed old (passed_part true gets.meets.message)) ≡ true
+        → IsLasting (renewed old (passed_part true gets.meets.message))
         → IsObtainedHere setting past d }
 {}
 
@@ -220,7 +220,7 @@ pub fn what_takes_a_place_is_kept()
     ensures { (setting : Setting) (past : List Action) (d : Action) (cached : List Cached)
         (entry : Cached) (here : IsObtainedHere setting past d)
         → JustifiedBy d.observation.report.outcome setting past d
-        → takes d.observation.report.outcome ≡ true
+        → accepts_answer d.observation.report.outcome ≡ true
         → size_here here ≤ setting.limits.cache_bytes
         → IsCacheOf setting past cached
         → of_key cached_key (key_asked here.gets) cached ≡ Some entry
@@ -303,7 +303,7 @@ pub fn stores_follow_caches()
         → IsStoreOf setting (d ∷ past) (used entry_key (request_key target request) store) }
     ensures otherwise { (setting : Setting) (past : List Action) (store : List Entry) (d : Action)
         → leaves d.observation.report.outcome ≡ true
-        → takes d.observation.report.outcome ≡ false
+        → accepts_answer d.observation.report.outcome ≡ false
         → IsStoreOf setting past store
         → IsStoreOf setting (d ∷ past) store }
 {}

@@ -225,7 +225,7 @@ pub fn options()
     ensures read_back { key_in origin form_with_others ≡ Some key_of_others }
     ensures own_tag { key_in origin form_with_tag ≡ Some key_of_temp }
     ensures odd_form { key_in origin odd_form ≡ Some odd_key }
-    ensures of_client { request_key named get_with_others ≡ key_of_others }
+    ensures of_waiter { request_key named get_with_others ≡ key_of_others }
     ensures sent_on { sent_on get_with_others ≡ others }
     ensures held { play proxy (with_tag 0xAB) ≡ held_sent }
     ensures other_tag { play proxy (with_tag 0xEF) ≡ other_tag_sent }
@@ -262,7 +262,7 @@ pub fn next_proxies()
     ensures form { spelling (forwarded eight_zeros beyond.beyond None beyond.put_with_others 7)
         ≡ beyond.beyond_form }
     ensures read_back { key_in beyond.next beyond.beyond_form ≡ Some beyond.key_beyond }
-    ensures of_client { request_key beyond.beyond beyond.put_with_others ≡ beyond.key_beyond }
+    ensures of_waiter { request_key beyond.beyond beyond.put_with_others ≡ beyond.key_beyond }
     ensures port_alone { target_in beyond.next beyond.port_alone ≡ Some beyond.at_no_port }
     ensures held { target_bytes beyond.beyond ≡ 6 }
 {}

@@ -22,7 +22,7 @@ ghost use Rattle.coap_model.specs.ClientExamples as clients;
 ghost use Rattle.coap_model.specs.JoiningExamples as joining;
 ghost use Rattle.coap_model.specs.ConfirmableExamples as confirmable;
 ghost use Rattle.coap_model.specs.ChangeExamples as changes;
-ghost use Rattle.coap_model.specs.Standing.{waits, queued, sent, acked, done, stage_of, outstanding_to, queued_in, window_ids, open_in, standing_in, service_of, waiting_in, told};
+ghost use Rattle.coap_model.specs.Standing.{waits, queued, sent, acked, done, stage_of, outstanding_to, queued_in, window_ids, open_in, standing_in, service_of, waiting_in, delivering};
 ghost use Rattle.coap_model.specs.Schedules.{sends_by, next_send};
 ghost use Rattle.coap_model.specs.Held.{held};
 ghost use Rattle.coap_model.specs.LimitExamples.{get_u, not_found, got, one_exchange, one_waiter, two_at_once, narrow, after_ids};

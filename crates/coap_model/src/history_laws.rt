@@ -8,13 +8,13 @@ ghost use Rattle.coap_model.specs.declared.report.Storing.TheVariants.{Kept, Too
 ghost use Rattle.coap_model.specs.Verdicts.{may_ask};
 ghost use Rattle.coap_model.specs.Events.{tick, arrival, IsEvent};
 ghost use Rattle.coap_model.specs.State.{client_counts, counts, State};
-ghost use Rattle.coap_model.specs.History.{Act, serves, takes, opened_in, Action, Position, IsPositionOf, Somewhere, Sends, Ends, Serves, LetsGo, Never, last_of, IsInOrder, IsRequestOf, Observation, gives_id, ids_in, Gives};
+ghost use Rattle.coap_model.specs.History.{Act, serves, accepts_answer, opened_in, Action, Position, IsPositionOf, Somewhere, Sends, Ends, Serves, Finishes, Never, last_of, IsInOrder, IsRequestOf, Observation, gives_id, ids_in, Gives};
 ghost use Rattle.coap_forward.specs.Messages.{kept_reply, brings_requests};
 ghost use Rattle.coap_model.specs.Justified.{HaveOneMemory, Comes, known_of, HasRecordRoom, Acknowledges, Closes, IsNew, IsUnprocessable, verdict_on, fits_on, IsMiss, IsJoinable, IsUnanswered, IsAwaited, IsActing, JustifiedBy, AllJustified, IsOwed, MayFollow, AreOfOneTurn, IsGet, IsUsable, HasIdFor, IsObtainedHere, size_here};
 ghost use Rattle.coap_model.specs.Runs.{answer_at};
 ghost use Rattle.coap_model.specs.Examples.{to, from, client};
 ghost use Rattle.coap_model.specs.ResponseExamples.{no_room, request};
-ghost use Rattle.coap_model.specs.Standing.{sent, done, outstanding_to, HasRoomToJoin, HasRoomToOpen, told};
+ghost use Rattle.coap_model.specs.Standing.{sent, done, outstanding_to, HasRoomToJoin, HasRoomToOpen, delivering};
 ghost use Rattle.coap_model.specs.Schedules.{sends_by, IsSchedule};
 ghost use Rattle.coap_model.specs.Held.{held, most_held};
 ghost use Rattle.coap_model.specs.LimitExamples.{got};
@@ -167,7 +167,7 @@ pub fn what_is_owed_is_given_at_each_position()
     ensures not_stored { (history : List Observation) (w : State) (p : Promised history w)
         (position : Position)
         → IsPositionOf p.actions position
-        → takes position.action.observation.report.outcome ≡ true
+        → accepts_answer position.action.observation.report.outcome ≡ true
         → ¬ IsObtainedHere w.setting position.before position.action
         → position.action.observation.report.outcome ≡ Answered NotStored }
 {}
@@ -202,7 +202,7 @@ pub fn nothing_is_done_twice()
         → AllJustified setting history
         → IsPositionOf history position
         → position.action.act ≡ serves waiter
-        → Never (LetsGo waiter) position.before }
+        → Never (Finishes waiter) position.before }
 {}
 
 /// What is owed is done, if an observation is justified by the actions before it: a duplicate of a
@@ -248,14 +248,14 @@ pub fn what_is_owed_is_given()
         → JustifiedBy d.observation.report.outcome setting past d
         → (awaited.meets.message.kind ≡ Con
         → IsNew setting past d.observation.now awaited.meets.asks.sends.to awaited.meets.message)
-        → takes d.observation.report.outcome ≡ true }
+        → accepts_answer d.observation.report.outcome ≡ true }
     ensures settled { (setting : Setting) (past : List Action) (d : Action) (exchange : ℕ)
         → JustifiedBy d.observation.report.outcome setting past d
         → Acknowledges setting past d.observation.now exchange d.observation.event
         → d.observation.report.outcome ≡ Acked }
-    ensures closed { (setting : Setting) (past : List Action) (d : Action) (client : ℕ)
+    ensures closed { (setting : Setting) (past : List Action) (d : Action) (waiter : ℕ)
         → JustifiedBy d.observation.report.outcome setting past d
-        → Closes setting past d.observation.now client d.observation.event
+        → Closes setting past d.observation.now waiter d.observation.event
         → d.observation.report.outcome ≡ Acked }
     ensures no_answer_room { (setting : Setting) (past : List Action) (d : Action) (exchange : ℕ)
         (awaited : IsAwaited setting past d.observation.now exchange d.observation.event)

@@ -7,7 +7,7 @@ ghost use Rattle.coap_model.specs.Setting.{Setting};
 ghost use Rattle.coap_model.specs.declared.report.Outcome.TheVariants.{Idle, Answered};
 ghost use Rattle.coap_model.specs.declared.report.Storing.TheVariants.{NoMemory};
 ghost use Rattle.coap_option.specs.Selection.{sent_on, max_age_of};
-ghost use Rattle.coap_forward.specs.Forms.{goes_on};
+ghost use Rattle.coap_forward.specs.Forms.{is_forwarded};
 ghost use Rattle.coap_model.specs.Keys.{key_sent};
 ghost use Rattle.coap_forward.specs.Answers.{left_of};
 ghost use Rattle.coap_model.specs.Events.{tick, Event, IsEvent};
@@ -51,10 +51,10 @@ pub fn requests_keep_their_key()
 {}
 
 /// If no option of a request is refused, each option alone decides whether it is forwarded.
-pub fn what_goes_on_shows_by_itself()
+pub fn forwarding_needs_no_place()
     ensures { (m : Message)
         → first_refused Side.Request m.options ≡ None
-        → sent_on m ≡ filter (goes_on m.code) m.options }
+        → sent_on m ≡ filter (is_forwarded m.code) m.options }
 {}
 
 /// The rest of a Max-Age and the age add up to the Max-Age: to no more than it, and with one more
@@ -206,7 +206,7 @@ pub fn what_is_carried_is_promised()
 {}
 
 /// The promise in short. A proxy keeps its promise for any history that it carries, at each
-/// position of it: pending exchanges, waiting clients, remembered messages and the cache are within
+/// position of it: exchanges in progress, waiters, remembered messages and the cache are within
 /// their shared and client limits; each reply from the cache is a response that was received for an
 /// equal key, only renewed by later validations, fresh, with its Max-Age reduced by its age, and
 /// with a target that wasn't changed since it was requested; each message that repeats one within

@@ -35,7 +35,7 @@ pub enum Outcome {
     Joined,
     /// An exchange was opened, and the client waits for it.
     Opened,
-    /// There was no room for an exchange or a client, or too few Message IDs were free: 5.03.
+    /// There was no room for an exchange or a waiter, or too few Message IDs were free: 5.03.
     Overloaded,
     /// No Message ID was free for the reply.
     NoId,
@@ -63,7 +63,7 @@ pub struct Report {
 }
 
 /// How much a proxy holds: bytes and entries of its cache, duplicate records, exchanges, and
-/// pending clients. Expired records don't count.
+/// waiters. Expired records don't count.
 #[derive(Clone, Copy, Debug, PartialEq, Eq)]
 pub struct Counts {
     pub cached_bytes: u64,

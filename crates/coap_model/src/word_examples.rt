@@ -7,7 +7,7 @@ ghost use Rattle.coap_limits.specs.Limits.{default_limits};
 ghost use Rattle.coap_store.specs.Freshness.{is_fresh};
 ghost use Rattle.coap_forward.specs.Answers.{is_passed_on};
 ghost use Rattle.coap_store.specs.Renewing.{renewed};
-ghost use Rattle.coap_forward.specs.Answers.{taken_of};
+ghost use Rattle.coap_forward.specs.Answers.{passed_part};
 ghost use Rattle.coap_model.specs.declared.report.Outcome.TheVariants.{Acked, GaveUp, Resent};
 ghost use Rattle.coap_model.specs.Cached.{IsFetched, IsObtained, entry_of_cached};
 ghost use Rattle.coap_model.specs.CacheExamples.{asked_past, asks_again, first_entry, get_for};
@@ -17,7 +17,7 @@ ghost use Rattle.coap_model.specs.ForgedHits.{reply};
 ghost use Rattle.coap_model.specs.FormExamples.{after};
 ghost use Rattle.coap_model.specs.HitExamples as hits;
 ghost use Rattle.coap_model.specs.Held.{bytes_held};
-ghost use Rattle.coap_model.specs.History.{IsPositionOf, LetsGo};
+ghost use Rattle.coap_model.specs.History.{IsPositionOf, Finishes};
 ghost use Rattle.coap_model.specs.OptionExamples.{key_of_temp};
 ghost use Rattle.coap_model.specs.Schedules.{AreSpaced, IsSchedule, MayGoOn};
 ghost use Rattle.coap_model.specs.Word.{IsFromCache, IsRepliedAgain, IsWithin, KeepsItsWord};
@@ -42,20 +42,20 @@ pub fn forged_replies_are_refused()
 /// response fetched that may not be passed on. Each would be except for that.
 pub fn forged_validations_are_refused()
     ensures renewed { IsObtained setting key_of_temp
-        (renewed words.tagged_content (taken_of true words.valid_message))
+        (renewed words.tagged_content (passed_part true words.valid_message))
         (at words.tagged_past words.asks_tagged) (at words.validated_past words.gets_valid) }
     ensures older { (response : Message) → ¬ IsObtained setting key_of_temp response
         (at words.early_past words.asks_tagged) (at words.validated_early words.gets_valid) }
     ensures but_for_the_order { IsPositionOf words.early_past
         (at (words.asks_tagged ∷ words.early_past) words.gets_tagged)
         → IsObtained setting key_of_temp
-        (renewed words.tagged_content (taken_of true words.valid_message))
+        (renewed words.tagged_content (passed_part true words.valid_message))
         (at words.early_past words.asks_tagged) (at words.validated_early words.gets_valid) }
     ensures untagged { (response : Message) → ¬ IsObtained setting key_of_temp response
         (at words.tagged_past asks_again) (at words.validated_untagged words.gets_valid) }
     ensures but_for_the_tag { tags_of (get_for 3 2) ≡ (0xAB ∷ []) ∷ []
         → IsObtained setting key_of_temp
-        (renewed words.tagged_content (taken_of true words.valid_message))
+        (renewed words.tagged_content (passed_part true words.valid_message))
         (at words.tagged_past asks_again) (at words.validated_untagged words.gets_valid) }
     ensures blocked { ¬ IsFetched setting key_of_temp (at (opened ∷ []) asked)
         (at (asked ∷ opened ∷ []) words.gets_block) }
@@ -122,11 +122,11 @@ pub fn one_id_twice_is_refused()
 /// A client is finished when its answer is acknowledged or given up, and when it is sent in a
 /// Non-confirmable message; not when it is sent in a Confirmable one, nor when that is sent again.
 pub fn examples_of_finished_clients()
-    ensures acknowledged { LetsGo 1 (at [] (words.done_with Acked)) }
-    ensures given_up { LetsGo 1 (at [] (words.done_with GaveUp)) }
-    ensures served { LetsGo 1 (at past right) }
-    ensures not_yet { ¬ LetsGo 1 (at past_con in_con) }
-    ensures sent_again { ¬ LetsGo 1 (at [] (words.done_with Resent)) }
+    ensures acknowledged { Finishes 1 (at [] (words.done_with Acked)) }
+    ensures given_up { Finishes 1 (at [] (words.done_with GaveUp)) }
+    ensures served { Finishes 1 (at past right) }
+    ensures not_yet { ¬ Finishes 1 (at past_con in_con) }
+    ensures sent_again { ¬ Finishes 1 (at [] (words.done_with Resent)) }
 {}
 
 /// The bytes that a proxy holds, where each part is: a form, a key, a token and a tag of a request;

@@ -13,7 +13,7 @@ use Rattle.coap_option.specs.Classes.{is_no_cache_key, is_unsafe}
 use Rattle.coap_option.specs.Places.{PlacedOption, places, places_behind, is_recognised_at}
 use Rattle.coap_option.specs.Recognition.{is_recognised}
 use Rattle.coap_option.specs.Screening.{is_refused, first_refused}
-use Rattle.coap_option.specs.Selection.{goes_on, is_key, is_tag_of_get, is_used_up, key_of, sent_on, is_withheld, used_up}
+use Rattle.coap_option.specs.Selection.{is_forwarded, is_key, is_tag_of_get, is_used_up, key_of, sent_on, is_withheld, used_up}
 use Rattle.coap_option.specs.Survey.{outside_key}
 
 -- what holds of all of a list holds of each of them
@@ -29,7 +29,7 @@ all-any test number (n ∷ ns) all any =
 
 -- an option that goes on is part of the key
 abbrev pub in_key : Code → Opt → Bool
-in_key code o = goes_on code o && not (is_no_cache_key o.number)
+in_key code o = is_forwarded code o && not (is_no_cache_key o.number)
 
 -- in its place an option that is used up is recognised
 abbrev pub IsClean : PlacedOption → Type 0
@@ -45,7 +45,7 @@ clean p passes used = go (is_unsafe p.option.number) (is_recognised_at Request p
     go false false is passes' = absurd cc
 
 -- whether what is clean is sent on shows without its place
-pub goes-on : (code : Code) (p : PlacedOption) → IsClean p → not (is_withheld code p) ≡ goes_on code p.option
+pub goes-on : (code : Code) (p : PlacedOption) → IsClean p → not (is_withheld code p) ≡ is_forwarded code p.option
 goes-on code p is = go (is_used_up p.option.number) refl (is_tag_of_get code p.option.number) refl (is_recognised_at Request p) refl
   where
     tag : (n : ℕ) → n ≡ 4 → is_recognised Request n (length p.option.value) p.before ≡ is_recognised Request n (length p.option.value) 0
@@ -106,10 +106,10 @@ picked test keep (p ∷ ps) all = go (keep p.option) all.0 (picked test keep ps 
     go false e rest = rw (e, rest) refl
 
 -- what is sent on of clean options
-pub sent-clean : (m : Message) → AreClean m.options → sent_on m ≡ filter (goes_on m.code) m.options
+pub sent-clean : (m : Message) → AreClean m.options → sent_on m ≡ filter (is_forwarded m.code) m.options
 sent-clean m are =
-    picked (λ p. not (is_withheld m.code p)) (goes_on m.code) (places m.options) (all-alone (λ p. not (is_withheld m.code p)) (goes_on m.code) (places m.options) (goes-on m.code) are)
-    ∙ ap (filter (goes_on m.code)) (of-places [] m.options)
+    picked (λ p. not (is_withheld m.code p)) (is_forwarded m.code) (places m.options) (all-alone (λ p. not (is_withheld m.code p)) (is_forwarded m.code) (places m.options) (goes-on m.code) are)
+    ∙ ap (filter (is_forwarded m.code)) (of-places [] m.options)
 
 -- and their key
 pub key-clean : (m : Message) → AreClean m.options → key_of m ≡ filter (in_key m.code) m.options
@@ -122,7 +122,7 @@ pub key-screened : (m : Message) → first_refused Request m.options ≡ None �
 key-screened m screened = key-clean m (screened-clean m.options screened)
 
 -- what is sent on of a request that was screened
-pub sent-screened : (m : Message) → first_refused Request m.options ≡ None → sent_on m ≡ filter (goes_on m.code) m.options
+pub sent-screened : (m : Message) → first_refused Request m.options ≡ None → sent_on m ≡ filter (is_forwarded m.code) m.options
 sent-screened m screened = sent-clean m (screened-clean m.options screened)
 
 -- what isn't part of the key of a request that was screened

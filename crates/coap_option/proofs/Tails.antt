@@ -10,7 +10,7 @@ use Rattle.coap_message.specs.Message.{Message}
 use Rattle.coap_message.specs.Options.{AreOptions, from_number, last_number}
 use Rattle.coap_message.proofs.Runs.{from-below, from-here}
 use Rattle.coap_option.specs.Classes.{is_no_cache_key}
-use Rattle.coap_option.specs.Selection.{goes_on, key_of, sent_on}
+use Rattle.coap_option.specs.Selection.{is_forwarded, key_of, sent_on}
 use Rattle.coap_option.specs.declared.survey.Span.{Span}
 use Rattle.coap_option.specs.declared.survey.Survey.{Survey}
 use Rattle.coap_option.specs.Survey.{IsSurvey, from_above, key_from, span_of, widened_by}
@@ -90,7 +90,7 @@ none-before test b (o ∷ os) first rest are is = go (test o) refl is (λ is'. n
 -- What is known of each option is known of all.
 module _ (code : Code) (n : ℕ) where
   -- the options of the key are those from the number on
-  key-is : (os : List Opt) → AllByRecursion (λ o. n ≤ o.number → not (in_key code o) ≡ false) os → AllByRecursion (λ o. o.number < n → goes_on code o ≡ false) os → IsFrom (in_key code) n os
+  key-is : (os : List Opt) → AllByRecursion (λ o. n ≤ o.number → not (in_key code o) ≡ false) os → AllByRecursion (λ o. o.number < n → is_forwarded code o ≡ false) os → IsFrom (in_key code) n os
   key-is [] from under = tt
   key-is (o ∷ os) from under = (
     elim (cases_lt o.number n) [
@@ -101,12 +101,12 @@ module _ (code : Code) (n : ℕ) where
   )
 
   -- and so are those that are forwarded
-  sent-is : (os : List Opt) → AllByRecursion (λ o. n ≤ o.number → not (in_key code o) ≡ false) os → AllByRecursion (λ o. o.number < n → goes_on code o ≡ false) os → IsFrom (goes_on code) n os
+  sent-is : (os : List Opt) → AllByRecursion (λ o. n ≤ o.number → not (in_key code o) ≡ false) os → AllByRecursion (λ o. o.number < n → is_forwarded code o ≡ false) os → IsFrom (is_forwarded code) n os
   sent-is [] from under = tt
   sent-is (o ∷ os) from under = (
     elim (cases_lt o.number n) [
       | inl below ↦ under.0 below ∙ sym (ap not (lt-ltb o.number n below))
-      | inr above ↦ first-true (goes_on code o) (not (is_no_cache_key o.number)) (is-true (in_key code o) (from.0 above)) ∙ sym (ap not (le-ltb o.number n above))
+      | inr above ↦ first-true (is_forwarded code o) (not (is_no_cache_key o.number)) (is-true (in_key code o) (from.0 above)) ∙ sym (ap not (le-ltb o.number n above))
     ],
     sent-is os from.1 under.1,
   )
@@ -136,18 +136,18 @@ pub record IsTail (m : Message) (n : ℕ) : Type 0 where
   pub sent : sent_on m ≡ from_number n m.options
 
 pub is-tail : (m : Message) (survey : Survey) (n : ℕ) → IsSurvey m survey → AreOptions 0 m.options → key_from survey ≡ Some n → IsTail m n
-is-tail m survey n is are from = go (filter (goes_on m.code) m.options) refl (sym (ap (from_above survey.last_outside_key) (is.others ∙ ap span_of (sent-screened m is.screened))) ∙ from)
+is-tail m survey n is are from = go (filter (is_forwarded m.code) m.options) refl (sym (ap (from_above survey.last_outside_key) (is.others ∙ ap span_of (sent-screened m is.screened))) ∙ from)
   where
     outside : survey.last_outside_key ≡ last_number 0 (filter (λ o. not (in_key m.code o)) m.options)
     outside = is.outside ∙ ap (last_number 0) (outside-screened m is.screened)
 
-    go : (sent : List Opt) → filter (goes_on m.code) m.options ≡ sent → from_above survey.last_outside_key (span_of sent) ≡ Some n → IsTail m n
+    go : (sent : List Opt) → filter (is_forwarded m.code) m.options ≡ sent → from_above survey.last_outside_key (span_of sent) ≡ Some n → IsTail m n
     go [] e from' = absurd cc
     go (o ∷ os) e from' =
         let at : (survey.last_outside_key < n) × (n ≡ o.number) = from-span survey.last_outside_key n (widened_by (Some (record { least = o.number; greatest = o.number })) os) o.number (least-stays _ os o.number refl) from' in
         let above = none-from (λ q. not (in_key m.code q)) n 0 0 m.options are (omega (arith, outside, at.0)) in
-        let under = subst (λ (k : ℕ). AllByRecursion (λ q. q.number < k → goes_on m.code q ≡ false) m.options) (sym at.1) (none-before (goes_on m.code) 0 m.options o os are e) in
+        let under = subst (λ (k : ℕ). AllByRecursion (λ q. q.number < k → is_forwarded m.code q ≡ false) m.options) (sym at.1) (none-before (is_forwarded m.code) 0 m.options o os are e) in
         record {
           key = key-screened m is.screened ∙ picks-from (in_key m.code) n 0 m.options are (key-is m.code n m.options above under);
-          sent = sent-screened m is.screened ∙ picks-from (goes_on m.code) n 0 m.options are (sent-is m.code n m.options above under);
+          sent = sent-screened m is.screened ∙ picks-from (is_forwarded m.code) n 0 m.options are (sent-is m.code n m.options above under);
         }

@@ -1,4 +1,4 @@
--- The option because of which a message is rejected.
+-- The option because of which a message is refused.
 use Rattle.std.specs.Prelude.{ℕ, Bool, ◌&&◌, not, List, Option, find}
 use Rattle.std.specs.Option.{option_map}
 use Rattle.coap_message.specs.declared.options.Opt.{Opt}
@@ -11,7 +11,7 @@ use Rattle.coap_option.specs.Places.{PlacedOption, places, is_recognised_at}
 abbrev pub is_refused : Side → PlacedOption → Bool
 is_refused side p = is_unsafe p.option.number && not (is_recognised_at side p)
 
--- the number of the first option because of which the message is rejected
+-- the number of the first option because of which the message is refused
 abbrev pub first_refused : Side → List Opt → Option ℕ
 first_refused side options =
     option_map (λ p. p.option.number) (find (is_refused side) (places options))

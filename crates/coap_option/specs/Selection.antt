@@ -48,10 +48,10 @@ abbrev pub sent_on : Message → List Opt
 sent_on m = selected (λ p. not (is_withheld m.code p)) m.options
 
 -- If no option is refused, an option alone, apart from its place, determines whether it is
--- forwarded (`laws::what_goes_on_shows_by_itself` of `coap_model`): it isn't consumed, and isn't a
+-- forwarded (`laws::forwarding_needs_no_place` of `coap_model`): it isn't consumed, and isn't a
 -- recognised ETag of a GET.
-abbrev pub goes_on : Code → Opt → Bool
-goes_on code o =
+abbrev pub is_forwarded : Code → Opt → Bool
+is_forwarded code o =
     not (
     is_used_up o.number
     || (is_tag_of_get code o.number && is_recognised Request o.number (length o.value) 0)

@@ -26,9 +26,9 @@ pub const URI_QUERY: u16 = 15;
 pub const ACCEPT: u16 = 17;
 /// Location-Query (RFC 7252, 5.10.7).
 pub const LOCATION_QUERY: u16 = 20;
-/// Block2 (RFC 7959, 2.1): not recognised.
+/// Block2 (RFC 7959, 2.1): not recognised, and named by computed examples alone.
 pub const BLOCK2: u16 = 23;
-/// Block1 (RFC 7959, 2.1): not recognised.
+/// Block1 (RFC 7959, 2.1): not recognised, and named by computed examples alone.
 pub const BLOCK1: u16 = 27;
 /// Proxy-Uri (RFC 7252, 5.10.2).
 pub const PROXY_URI: u16 = 35;

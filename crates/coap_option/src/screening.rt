@@ -1,4 +1,5 @@
-//! Messages that a proxy rejects because of an option (RFC 7252, 5.4.1, 5.4.2 and 5.7.1).
+//! Messages that a proxy refuses to pass on because of an option (RFC 7252, 5.4.1, 5.4.2 and
+//! 5.7.1).
 ghost use Rattle.std.specs.Prelude.{◌≡◌, OnOk, IfErr};
 ghost use Rattle.coap_option.specs.Screening.{is_refused, first_refused};
 
@@ -33,7 +34,7 @@ impl Test for Refused {
     }
 }
 
-/// Rejects a request because of its first option that is unsafe and not recognised (RFC 7252,
+/// Refuses a request because of its first option that is unsafe and not recognised (RFC 7252,
 /// 5.7.1: a proxy responds with 4.02).
 ///
 /// # Errors
@@ -58,8 +59,8 @@ pub fn screen_request_ref(message: &MessageRef<'_>) -> Result<(), BadOption>
     screen(Side::Request, &message.option_list())
 }
 
-/// Rejects a response because of its first option that is unsafe and not recognised (RFC 7252,
-/// 5.7.1: a proxy sends 5.02 instead).
+/// Tells that a response may not be passed on, because of its first option that is unsafe and not
+/// recognised (RFC 7252, 5.7.1: a proxy sends 5.02 instead).
 ///
 /// # Errors
 /// The number of that option.
@@ -83,7 +84,7 @@ pub fn screen_response_ref(message: &MessageRef<'_>) -> Result<(), BadOption>
     screen(Side::Response, &message.option_list())
 }
 
-/// Rejects the options of a message of this side because of the first that is unsafe and not
+/// Refuses the options of a message of this side because of the first that is unsafe and not
 /// recognised.
 fn screen(side: Side, options: &Options<'_>) -> Result<(), BadOption>
     ensures ok { OnOk result (first_refused side options.now ≡ None) }

@@ -2,7 +2,7 @@
 //! cached (RFC 7252, 5.4.2, 5.6, 5.7 and 5.10).
 ghost use Rattle.std.specs.Prelude.{◌≡◌, ◌≢◌, [], IfOk, OnOk, OnErr, not};
 ghost use Rattle.coap_message.specs.OptRef.{seen};
-ghost use Rattle.coap_option.specs.Selection.{goes_on, is_for_proxy, is_key, is_of, is_tag_of_get, is_used_up, key_of, max_age_of, sent_on, is_withheld, tags_of};
+ghost use Rattle.coap_option.specs.Selection.{is_forwarded, is_for_proxy, is_key, is_of, is_tag_of_get, is_used_up, key_of, max_age_of, sent_on, is_withheld, tags_of};
 
 use crate::classes::is_no_cache_key;
 use crate::numbers;
@@ -16,7 +16,8 @@ use std::alloc::Global;
 /// The Max-Age of a response that has none, in seconds (RFC 7252, 5.10.5).
 const DEFAULT_MAX_AGE: u32 = 60;
 
-/// Whether the proxy consumes options with this number (RFC 7252, 5.7 and 5.10.2; RFC 7641, 2).
+/// Whether the proxy consumes options with this number (RFC 7252, 5.7, 5.10.1 and 5.10.2; RFC 7641,
+/// 2): the target's, Observe, and Max-Age, which means nothing in a request.
 fn is_used_up(number: u16) -> bool
     ensures { result ≡ is_used_up number }
 {
@@ -50,9 +51,11 @@ pub(crate) fn is_for_proxy(code: Code, number: u16) -> bool
 }
 
 /// Whether an option of a request with this code is forwarded, given that no option of the request
-/// is refused: this shows by the option alone, and not by its place.
-pub fn goes_on(code: Code, option: OptRef<'_>) -> bool
-    ensures { result ≡ goes_on code (seen option.entry) }
+/// is refused. Then it doesn't matter how many with its number stand before it: the options that
+/// are consumed are all unsafe, so recognised where none is refused, and an ETag may stand any
+/// number of times.
+pub fn is_forwarded(code: Code, option: OptRef<'_>) -> bool
+    ensures { result ≡ is_forwarded code (seen option.entry) }
 {
     if is_used_up(option.number) {
         return false;

@@ -17,7 +17,7 @@ use crate::numbers;
 use crate::places::{Run, row_after};
 use crate::recognition::option_recognised;
 use crate::screening::BadOption;
-use crate::selection::{goes_on, is_for_proxy, tags_into};
+use crate::selection::{is_for_proxy, is_forwarded, tags_into};
 use crate::side::Side;
 use crate::table::Row;
 use coap_message::{Code, MessageRef, OptRef, OptionList, OutOfMemory, Pieces};
@@ -262,7 +262,7 @@ impl Survey {
 }
 
 /// Adds to an empty list the options of a request that are part of its cache key, given that none
-/// of its options is refused: then each shows by itself.
+/// of its options is refused: then an option's place doesn't matter (`is_forwarded`).
 fn push_key_options(list: &mut OptionList, request: &MessageRef<'_>) -> Result<(), OutOfMemory>
     requires empty { list.old ≡ [] }
     requires screened { first_refused Side.Request request.now.options ≡ None }
@@ -271,14 +271,14 @@ fn push_key_options(list: &mut OptionList, request: &MessageRef<'_>) -> Result<(
 {
     let code = request.code();
     for option in request.options() {
-        if goes_on(code, option) && !is_no_cache_key(option.number) {
+        if is_forwarded(code, option) && !is_no_cache_key(option.number) {
             list.push(option.number, option.value)?;
         }
     }
     Ok(())
 }
 
-/// Goes over the options of a request once, and rejects it because of its first option that is
+/// Goes over the options of a request once, and refuses it because of its first option that is
 /// unsafe and not recognised (RFC 7252, 5.7.1), as `screen_request_ref` does.
 ///
 /// # Errors

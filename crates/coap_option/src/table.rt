@@ -56,6 +56,7 @@ impl Row {
             numbers::LOCATION_PATH => (Times::Never, Times::Many, 0, 255),
             numbers::URI_PATH => (Times::Many, Times::Never, 0, 255),
             numbers::CONTENT_FORMAT => (Times::Once, Times::Once, 0, 2),
+            // It is unsafe, so a request that has it, where it means nothing, would be refused.
             numbers::MAX_AGE => (Times::Once, Times::Once, 0, 4),
             numbers::URI_QUERY => (Times::Many, Times::Never, 0, 255),
             numbers::ACCEPT => (Times::Once, Times::Never, 0, 2),

@@ -15,8 +15,8 @@ use Rattle.coap_pending.specs.declared.exchange.ExchangeState.{ExchangeState}
 use Rattle.coap_pending.specs.declared.exchange.ExchangeState.TheVariants.{Queued, Sent, Acked, Done}
 use Rattle.coap_pending.specs.declared.exchange.Sending.{Sending}
 use Rattle.coap_pending.specs.declared.exchange.Exchange.{Exchange}
-use Rattle.coap_pending.specs.declared.exchange.Change.{Change}
-use Rattle.coap_pending.specs.declared.exchange.Change.TheVariants as change
+use Rattle.coap_pending.specs.declared.exchange.Transition.{Transition}
+use Rattle.coap_pending.specs.declared.exchange.Transition.TheVariants as transition
 use Rattle.coap_pending.specs.Table.{Numbered, count, item_at}
 use Rattle.coap_pending.specs.Timers.{fire_of, fired, IsShort}
 
@@ -109,9 +109,9 @@ was_sent_with id None = false
 was_sent_with id (Some s) = s.id == id
 
 -- the number of the event in which its request was sent; 0 before that
-abbrev pub asked_of : Option Sending → ℕ
-asked_of None = 0
-asked_of (Some s) = s.asked
+abbrev pub asked_event_of : Option Sending → ℕ
+asked_event_of None = 0
+asked_event_of (Some s) = s.asked_event
 
 -- its request was sent to this endpoint with this id, less than 247,000 ms ago (RFC 7252, 4.4)
 abbrev pub was_sent_as : Endpoint → ℕ → ℕ → Exchange → Bool
@@ -168,30 +168,30 @@ abbrev pub fire_at : ℕ → Option Exchange → Fire
 fire_at now None = GiveUp
 fire_at now (Some x) = fire_of_sending now x.sending
 
-abbrev pub changed_by : Change → Exchange → Exchange
-changed_by (change.Send s) = sent s
-changed_by (change.Fire now) = fired_exchange now
-changed_by change.Acknowledge = acked
-changed_by (change.Answer a) = answered a
+abbrev pub after_transition : Transition → Exchange → Exchange
+after_transition (transition.Send s) = sent s
+after_transition (transition.Fire now) = fired_exchange now
+after_transition transition.Acknowledge = acked
+after_transition (transition.Answer a) = answered a
 
--- whether an exchange is in the sent state after a change, given whether it was before
-abbrev pub is_sent_after : Change → Bool → Bool
-is_sent_after (change.Send s) was = true
-is_sent_after (change.Fire now) was = was
-is_sent_after change.Acknowledge was = false
-is_sent_after (change.Answer a) was = false
+-- whether an exchange is in the sent state after a transition, given whether it was before
+abbrev pub is_sent_after : Transition → Bool → Bool
+is_sent_after (transition.Send s) was = true
+is_sent_after (transition.Fire now) was = was
+is_sent_after transition.Acknowledge was = false
+is_sent_after (transition.Answer a) was = false
 
 -- the moment of a change is within the allowed range, and a first timeout is at most 3,000 ms
-abbrev pub is_timely : Change → Bool
-is_timely (change.Send s) = nat_le s.timer.timeout 3000
-is_timely (change.Fire now) = nat_le now (2 ^ 62)
-is_timely change.Acknowledge = true
-is_timely (change.Answer a) = true
+abbrev pub is_timely : Transition → Bool
+is_timely (transition.Send s) = nat_le s.timer.timeout 3000
+is_timely (transition.Fire now) = nat_le now (2 ^ 62)
+is_timely transition.Acknowledge = true
+is_timely (transition.Answer a) = true
 
 -- ---- when it is due
 
 abbrev pub deadline : ℕ → Exchange → ℕ
-deadline exchange_ms x = x.admitted + exchange_ms
+deadline exchange_ms x = x.opened_at + exchange_ms
 
 -- the end of the current timeout, but no later than `last`
 abbrev pub timer_or : ℕ → Option Sending → ℕ
@@ -202,7 +202,7 @@ timer_or last (Some s) = min s.timer.due last
 -- its timeout; and at the latest at its deadline, unless its answer has come.
 abbrev pub due_in : ExchangeState → Bool → ℕ → Exchange → Option ℕ
 due_in Queued blocked exchange_ms x =
-    Some (if blocked then deadline exchange_ms x else x.admitted)
+    Some (if blocked then deadline exchange_ms x else x.opened_at)
 due_in Sent blocked exchange_ms x = Some (timer_or (deadline exchange_ms x) x.sending)
 due_in Acked blocked exchange_ms x = Some (deadline exchange_ms x)
 due_in (Done a) blocked exchange_ms x = None
@@ -234,33 +234,33 @@ abbrev pub CanFire : ℕ → Option Sending → Type 0
 CanFire now None = Unit {0}
 CanFire now (Some s) = (s.timer.due ≤ now) × (s.timer.timeout ≤ 2 ^ 32)
 
-abbrev pub CanChange : Change → Exchange → Type 0
-CanChange (change.Send s) x = Unit {0}
-CanChange (change.Fire now) x = (now ≤ 2 ^ 62) × CanFire now x.sending
-CanChange change.Acknowledge x = Unit {0}
-CanChange (change.Answer a) x = Unit {0}
+abbrev pub CanChange : Transition → Exchange → Type 0
+CanChange (transition.Send s) x = Unit {0}
+CanChange (transition.Fire now) x = (now ≤ 2 ^ 62) × CanFire now x.sending
+CanChange transition.Acknowledge x = Unit {0}
+CanChange (transition.Answer a) x = Unit {0}
 
 -- if the change fires its timer, the exchange is due
-abbrev pub IsFireDue : Change → Option Exchange → Type 0
-IsFireDue (change.Send s) found = Unit {0}
-IsFireDue (change.Fire now) found = IfSome found (IsDue now)
-IsFireDue change.Acknowledge found = Unit {0}
-IsFireDue (change.Answer a) found = Unit {0}
+abbrev pub IsFireDue : Transition → Option Exchange → Type 0
+IsFireDue (transition.Send s) found = Unit {0}
+IsFireDue (transition.Fire now) found = IfSome found (IsDue now)
+IsFireDue transition.Acknowledge found = Unit {0}
+IsFireDue (transition.Answer a) found = Unit {0}
 
 -- An update is possible: a change comes at a moment in range, fires only a timer that has ended,
 -- and leaves no exchange waiting for its turn. Any exchange can be removed.
-abbrev pub CanUpdate : Option Change → Option Exchange → Type 0
+abbrev pub CanUpdate : Option Transition → Option Exchange → Type 0
 CanUpdate None found = Unit {0}
 CanUpdate (Some change) found =
     (is_timely change ≡ true)
     × IsFireDue change found
-    × IfSome found (λ x. is_queued (changed_by change x) ≡ false)
+    × IfSome found (λ x. is_queued (after_transition change x) ≡ false)
 
 -- ---- invariants of a table of exchanges
 
 -- admission moments are at most 2^62
 abbrev pub AreTimely : List (Numbered Exchange) → Type 0
-AreTimely exchanges = AllByRecursion (λ x. x.1.admitted ≤ 2 ^ 62) exchanges
+AreTimely exchanges = AllByRecursion (λ x. x.1.opened_at ≤ 2 ^ 62) exchanges
 
 -- timeouts stay short
 abbrev pub IsSendingShort : Option Sending → Type 0

@@ -10,8 +10,8 @@ use Rattle.coap_pending.specs.declared.timer.Fire.TheVariants.{GiveUp}
 use Rattle.coap_pending.specs.declared.timer.Timer.{Timer}
 use Rattle.coap_pending.specs.declared.waiter.Joining.{Joining}
 use Rattle.coap_pending.specs.declared.waiter.Waiter.{Waiter}
-use Rattle.coap_pending.specs.declared.waiter.WaiterChange.{WaiterChange}
-use Rattle.coap_pending.specs.declared.waiter.WaiterChange.TheVariants.{Deliver, Fire as fire}
+use Rattle.coap_pending.specs.declared.waiter.WaiterTransition.{WaiterTransition}
+use Rattle.coap_pending.specs.declared.waiter.WaiterTransition.TheVariants.{Deliver, Fire as fire}
 use Rattle.coap_pending.specs.declared.waiter.WaiterState.{WaiterState}
 use Rattle.coap_pending.specs.declared.waiter.WaiterState.TheVariants.{Waiting, Delivering}
 use Rattle.coap_pending.specs.Exchanges.{answer_in}
@@ -94,9 +94,9 @@ abbrev pub fire_at : ℕ → Option Waiter → Fire
 fire_at now None = GiveUp
 fire_at now (Some w) = fire_of_state now w.state
 
-abbrev pub changed_by : WaiterChange → Waiter → Waiter
-changed_by (Deliver bytes id timer) = delivered bytes id timer
-changed_by (fire now) = fired_waiter now
+abbrev pub after_transition : WaiterTransition → Waiter → Waiter
+after_transition (Deliver bytes id timer) = delivered bytes id timer
+after_transition (fire now) = fired_waiter now
 
 -- ---- when it is due
 
@@ -127,13 +127,13 @@ abbrev pub CanFire : ℕ → WaiterState → Type 0
 CanFire now (Waiting exchange) = Unit {0}
 CanFire now (Delivering bytes id timer) = (timer.due ≤ now) × (timer.timeout ≤ 2 ^ 32)
 
-abbrev pub CanChange : WaiterChange → Waiter → Type 0
+abbrev pub CanChange : WaiterTransition → Waiter → Type 0
 CanChange (Deliver bytes id timer) w = Unit {0}
 CanChange (fire now) w = (now ≤ 2 ^ 62) × CanFire now w.state
 
 -- An update is possible: a first timeout is at most 3,000 ms, and only a timer that has ended is
 -- fired. Any waiter can be removed.
-abbrev pub CanUpdate : Option WaiterChange → Option Waiter → Type 0
+abbrev pub CanUpdate : Option WaiterTransition → Option Waiter → Type 0
 CanUpdate None found = Unit {0}
 CanUpdate (Some (Deliver bytes id timer)) found = timer.timeout ≤ 3000
 CanUpdate (Some (fire now)) found = (now ≤ 2 ^ 62) × IfSome found (IsDue now)

@@ -1,7 +1,7 @@
 //! Exchanges: requests on their way to an origin.
 ghost use Rattle.std.specs.Prelude.{◌≡◌, ◌≤◌, ◌^◌};
 ghost use Rattle.std.specs.Option.{option_copied};
-ghost use Rattle.coap_pending.specs.Exchanges.{answer_at, changed_by, fire_of_sending, fired_exchange, is_meant_by, is_acked, is_changed_with, is_joinable, is_queued, is_sent, tainted_by, was_sent_as, CanChange, CanFire, is_queued_to, is_sent_after, asked_of, is_in_flight, was_sent_with};
+ghost use Rattle.coap_pending.specs.Exchanges.{answer_at, after_transition, fire_of_sending, fired_exchange, is_meant_by, is_acked, is_changed_with, is_joinable, is_queued, is_sent, tainted_by, was_sent_as, CanChange, CanFire, is_queued_to, is_sent_after, asked_event_of, is_in_flight, was_sent_with};
 
 use crate::timer::{Fire, Timer};
 use coap_endpoint::{Endpoint, Target};
@@ -15,7 +15,7 @@ pub type ExchangeNumber = u64;
 #[derive(Clone, Copy)]
 pub struct Sending {
     /// The number of the event in which the request was first sent.
-    pub asked: EventNumber,
+    pub asked_event: EventNumber,
     /// The Message ID of the request.
     pub id: u16,
     pub timer: Timer,
@@ -66,7 +66,7 @@ pub struct Exchange {
     /// The stored response that the request asks to validate, if it does (RFC 7252, 5.6.2).
     pub copy: Option<Stored>,
     /// When the exchange was opened, in milliseconds.
-    pub admitted: Moment,
+    pub opened_at: Moment,
     /// How the request was sent, once it has been.
     pub sending: Option<Sending>,
     /// Whether its target has changed since the request was sent (RFC 7252, 5.9.1).
@@ -82,7 +82,7 @@ impl Drop for Exchange {
             is_get: _,
             form: _,
             copy: _,
-            admitted: _,
+            opened_at: _,
             sending: _,
             tainted: _,
             state: _,
@@ -90,9 +90,9 @@ impl Drop for Exchange {
     }
 }
 
-/// A change to an exchange.
+/// A transition of an exchange from one state to another, or within its state.
 #[derive(Drop)]
-pub enum Change {
+pub enum Transition {
     /// Its request is sent.
     Send(Sending),
     /// Its timer is due at this moment, in milliseconds.
@@ -103,15 +103,15 @@ pub enum Change {
     Answer(Answer),
 }
 
-impl Change {
-    /// Whether an exchange is in the sent state after this change, given whether it was before.
+impl Transition {
+    /// Whether an exchange is in the sent state after this transition, given whether it was before.
     pub fn is_sent_after(&self, was: bool) -> bool
         ensures exact { result ≡ is_sent_after self.now was }
     {
         match self {
-            Change::Send(_) => true,
-            Change::Fire(_) => was,
-            Change::Acknowledge | Change::Answer(_) => false,
+            Transition::Send(_) => true,
+            Transition::Fire(_) => was,
+            Transition::Acknowledge | Transition::Answer(_) => false,
         }
     }
 }
@@ -164,12 +164,13 @@ impl Exchange {
         }
     }
 
-    /// The number of the event in which the request was first sent; 0 before that.
-    pub fn asked(&self) -> EventNumber
-        ensures exact { result ≡ asked_of self.now.sending }
+    /// The number of the event in which the request was first sent; 0 before that, when nobody asks
+    /// for it.
+    pub fn asked_event(&self) -> EventNumber
+        ensures exact { result ≡ asked_event_of self.now.sending }
     {
         match &self.sending {
-            Some(sending) => sending.asked,
+            Some(sending) => sending.asked_event,
             None => 0,
         }
     }
@@ -229,19 +230,19 @@ impl Exchange {
     }
 
     /// Applies a change.
-    pub fn change(&mut self, change: Change)
+    pub fn change(&mut self, change: Transition)
         requires { CanChange change self.old }
-        ensures exact { self.new ≡ changed_by change self.old }
+        ensures exact { self.new ≡ after_transition change self.old }
     {
         match change {
-            Change::Send(sending) => {
+            Transition::Send(sending) => {
                 set_id(&mut self.form, sending.id);
                 self.sending = Some(sending);
                 self.state = ExchangeState::Sent;
             }
-            Change::Fire(now) => self.fire(now),
-            Change::Acknowledge => self.state = ExchangeState::Acked,
-            Change::Answer(answer) => self.state = ExchangeState::Done(answer),
+            Transition::Fire(now) => self.fire(now),
+            Transition::Acknowledge => self.state = ExchangeState::Acked,
+            Transition::Answer(answer) => self.state = ExchangeState::Done(answer),
         }
     }
 

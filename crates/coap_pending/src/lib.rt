@@ -20,7 +20,7 @@ mod timer;
 mod waiter;
 
 pub use coap_store::Answer;
-pub use exchange::{Change, Exchange, ExchangeNumber, ExchangeState, Sending};
+pub use exchange::{Exchange, ExchangeNumber, ExchangeState, Sending, Transition};
 pub use ids::Ids;
 pub use timer::{Fire, Timer};
-pub use waiter::{Joining, Waiter, WaiterChange, WaiterNumber, WaiterState};
+pub use waiter::{Joining, Waiter, WaiterNumber, WaiterState, WaiterTransition};

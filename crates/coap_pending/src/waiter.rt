@@ -1,6 +1,6 @@
 //! Waiters: requests that wait for an exchange, or whose answer isn't acknowledged yet.
 ghost use Rattle.std.specs.Prelude.{◌≡◌, ◌≤◌, ◌^◌};
-ghost use Rattle.coap_pending.specs.Waiters.{changed_by, exchange_of, fire_of_state, fired_waiter, is_waiting, joined, was_sent_as, waits_for, CanChange, CanFire};
+ghost use Rattle.coap_pending.specs.Waiters.{after_transition, exchange_of, fire_of_state, fired_waiter, is_waiting, joined, was_sent_as, waits_for, CanChange, CanFire};
 
 use crate::exchange::ExchangeNumber;
 use crate::timer::{Fire, Timer};
@@ -89,9 +89,9 @@ impl Joining {
     }
 }
 
-/// A change to a waiter.
+/// A transition of a waiter from one state to another, or within its state.
 #[derive(Drop)]
-pub enum WaiterChange {
+pub enum WaiterTransition {
     /// Its client is sent the answer.
     Deliver {
         bytes: Seq<u8>,
@@ -163,17 +163,17 @@ impl Waiter {
     }
 
     /// Applies a change.
-    pub fn change(&mut self, change: WaiterChange, alloc: Global)
+    pub fn change(&mut self, change: WaiterTransition, alloc: Global)
         requires { CanChange change self.old }
-        ensures exact { self.new ≡ changed_by change self.old }
+        ensures exact { self.new ≡ after_transition change self.old }
     {
         match change {
-            WaiterChange::Deliver { bytes, id, timer } => {
+            WaiterTransition::Deliver { bytes, id, timer } => {
                 self.token = Token::empty();
                 self.tags = Pieces::new(alloc);
                 self.state = WaiterState::Delivering { bytes, id, timer };
             }
-            WaiterChange::Fire(now) => self.fire(now),
+            WaiterTransition::Fire(now) => self.fire(now),
         }
     }
 

@@ -11,7 +11,7 @@ use Rattle.coap_counts.specs.declared.origins.AnswerClasses.{AnswerClasses}
 use Rattle.coap_counts.specs.declared.requests.RefusalCounts.{RefusalCounts}
 use Rattle.coap_counts.specs.declared.requests.RequestCounts.{RequestCounts}
 use Rattle.coap_stats.specs.declared.tally.Tally.{Tally}
-use Rattle.coap_stats.specs.declared.words.Share as program_share
+use Rattle.coap_stats.specs.declared.words.Fill as program_fill
 use Rattle.coap_stats.specs.declared.words.Word as program_word
 
 -- a key and its number
@@ -19,7 +19,7 @@ abbrev pub Word : Type 0
 Word = List ℕ × ℕ
 
 -- a key, a number, and the limit of that
-pub record Share : Type 0 where
+pub record Fill : Type 0 where
   pub key : List ℕ
   pub count : ℕ
   pub limit : ℕ
@@ -31,8 +31,8 @@ word_text w = codes " " ++ w.0 ++ codes "=" ++ decimal w.1
 abbrev pub words_text : List Word → List ℕ
 words_text words = flat_map word_text words
 
-abbrev pub share_text : Share → List ℕ
-share_text s = codes " " ++ s.key ++ codes "=" ++ decimal s.count ++ codes "/" ++ decimal s.limit
+abbrev pub fill_text : Fill → List ℕ
+fill_text s = codes " " ++ s.key ++ codes "=" ++ decimal s.count ++ codes "/" ++ decimal s.limit
 
 abbrev pub traffic_words : Tally → List Word
 traffic_words n =
@@ -69,17 +69,17 @@ class_words n =
 abbrev pub eviction_words : Evictions → List Word
 eviction_words n = (codes "evicted", n.entries) ∷ (codes "evicted_fresh", n.fresh) ∷ []
 
-abbrev pub share : List ℕ → ℕ → ℕ → Share
-share key count limit = record { key = key; count = count; limit = limit }
+abbrev pub fill : List ℕ → ℕ → ℕ → Fill
+fill key count limit = record { key = key; count = count; limit = limit }
 
-abbrev pub shares : Counts → Limits → List Share
-shares c l =
-    share (codes "cached_bytes") c.cached_bytes l.cache_bytes
-    ∷ share (codes "entries") c.entries l.cache_entries
-    ∷ share (codes "con_records") c.con_records l.con_records
-    ∷ share (codes "non_records") c.non_records l.non_records
-    ∷ share (codes "exchanges") c.exchanges l.exchanges
-    ∷ share (codes "waiters") c.waiters l.waiters ∷ []
+abbrev pub fills : Counts → Limits → List Fill
+fills c l =
+    fill (codes "cached_bytes") c.cached_bytes l.cache_bytes
+    ∷ fill (codes "entries") c.entries l.cache_entries
+    ∷ fill (codes "con_records") c.con_records l.con_records
+    ∷ fill (codes "non_records") c.non_records l.non_records
+    ∷ fill (codes "exchanges") c.exchanges l.exchanges
+    ∷ fill (codes "waiters") c.waiters l.waiters ∷ []
 
 -- All words of the line, in order: full seconds since the start, what was counted, and what the
 -- proxy holds, with its limits.
@@ -88,12 +88,12 @@ line_of n o e c l =
     codes "seconds=" ++ decimal (n.last / 1000) ++ words_text (traffic_words n)
     ++ words_text (request_words n.requests) ++ words_text (refusal_words n.requests.refused)
     ++ words_text (answer_words n.answers) ++ words_text (opening_words o)
-    ++ words_text (eviction_words e) ++ flat_map share_text (shares c l) ++ codes "\n"
+    ++ words_text (eviction_words e) ++ flat_map fill_text (fills c l) ++ codes "\n"
 
 -- ---- keys and numbers as the program has them
 
 abbrev pub word_seen : program_word.Word → Word
 word_seen w = (w.key.now, w.number)
 
-abbrev pub share_seen : program_share.Share → Share
-share_seen s = record { key = s.key.now; count = s.count; limit = s.limit }
+abbrev pub fill_seen : program_fill.Fill → Fill
+fill_seen s = record { key = s.key.now; count = s.count; limit = s.limit }

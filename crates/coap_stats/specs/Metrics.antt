@@ -7,7 +7,7 @@ use Rattle.coap_store.specs.declared.evictions.Evictions.{Evictions}
 use Rattle.coap_counts.specs.declared.openings.OpeningCounts.{OpeningCounts}
 use Rattle.coap_stats.specs.declared.metrics.Metric as program
 use Rattle.coap_stats.specs.declared.tally.Tally.{Tally}
-use Rattle.coap_stats.specs.Line.{Share, Word, answer_words, opening_words, refusal_words, request_words}
+use Rattle.coap_stats.specs.Line.{Fill, Word, answer_words, opening_words, refusal_words, request_words}
 
 -- ---- metrics
 
@@ -147,14 +147,14 @@ cache_text listen e o =
     ++ head_text opened ++ samples_text listen opened (codes "stored") (opening_words o)
 
 -- how much the proxy holds of one kind, and how much it may hold
-abbrev pub count_text : List ℕ → Share → List ℕ
+abbrev pub count_text : List ℕ → Fill → List ℕ
 count_text listen s = sample_text listen held (codes "what") (s.key, s.count)
 
-abbrev pub limit_text : List ℕ → Share → List ℕ
+abbrev pub limit_text : List ℕ → Fill → List ℕ
 limit_text listen s = sample_text listen limit (codes "what") (s.key, s.limit)
 
 -- of each kind
-abbrev pub held_text : List ℕ → List Share → List ℕ
+abbrev pub held_text : List ℕ → List Fill → List ℕ
 held_text listen kinds =
     head_text held ++ flat_map (count_text listen) kinds ++ head_text limit
     ++ flat_map (limit_text listen) kinds

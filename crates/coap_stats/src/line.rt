@@ -6,7 +6,7 @@ ghost use Rattle.coap_stats.specs.Line as spec;
 
 use crate::statistics::Statistics;
 use crate::words::{
-    Share, Word, answer_words, eviction_words, opening_words, refusal_words, request_words, shares,
+    Fill, Word, answer_words, eviction_words, fills, opening_words, refusal_words, request_words,
     traffic_words,
 };
 use coap_core::{Counts, LimitValues};
@@ -51,25 +51,25 @@ fn put_words(out: &mut Vec<u8>, words: &[Word]) -> Result<(), OutOfMemory>
 }
 
 /// Adds a key and its number, with the limit of that, behind a space.
-fn put_share(out: &mut Vec<u8>, share: Share) -> Result<(), OutOfMemory>
+fn put_fill(out: &mut Vec<u8>, fill: Fill) -> Result<(), OutOfMemory>
     ensures { OnOk result
-        (out.new.items ≡ out.old.items ++ spec.share_text (spec.share_seen share)) }
+        (out.new.items ≡ out.old.items ++ spec.fill_text (spec.fill_seen fill)) }
 {
     put(out, b" ")?;
-    put(out, share.key.as_bytes())?;
+    put(out, fill.key.as_bytes())?;
     put(out, b"=")?;
-    put_number(out, share.count)?;
+    put_number(out, fill.count)?;
     put(out, b"/")?;
-    put_number(out, share.limit)
+    put_number(out, fill.limit)
 }
 
 /// Adds keys and their numbers, with the limits of these.
-fn put_shares(out: &mut Vec<u8>, shares: &[Share]) -> Result<(), OutOfMemory>
+fn put_fills(out: &mut Vec<u8>, fills: &[Fill]) -> Result<(), OutOfMemory>
     ensures { OnOk result (out.new.items
-        ≡ out.old.items ++ flat_map spec.share_text (map spec.share_seen shares.now)) }
+        ≡ out.old.items ++ flat_map spec.fill_text (map spec.fill_seen fills.now)) }
 {
-    for share in shares {
-        put_share(out, *share)?;
+    for fill in fills {
+        put_fill(out, *fill)?;
     }
     Ok(())
 }
@@ -100,6 +100,6 @@ pub fn put_line(
     put_words(out, &answer_words(&tally.answers))?;
     put_words(out, &opening_words(&statistics.openings))?;
     put_words(out, &eviction_words(&statistics.evictions))?;
-    put_shares(out, &shares(counts, limits))?;
+    put_fills(out, &fills(counts, limits))?;
     put(out, b"\n")
 }

@@ -2,7 +2,7 @@
 ghost use Rattle.std.specs.Prelude.{◌≡◌, ◌++◌, codes, OnOk, map};
 ghost use Rattle.std.specs.List.{flat_map};
 ghost use Rattle.coap_stats.specs.declared.labels.Whose.TheVariants.{All};
-ghost use Rattle.coap_stats.specs.Line.{refusal_words, request_words, share_seen, word_seen};
+ghost use Rattle.coap_stats.specs.Line.{refusal_words, request_words, fill_seen, word_seen};
 ghost use Rattle.coap_stats.specs.Metrics as spec;
 
 use crate::labels::{Whose, put_whose};
@@ -10,9 +10,7 @@ use crate::line::{put, put_number};
 use crate::series::{put_holders, put_maps, put_origins};
 use crate::statistics::Statistics;
 use crate::tally::Tally;
-use crate::words::{
-    Share, Word, answer_words, opening_words, refusal_words, request_words, shares,
-};
+use crate::words::{Fill, Word, answer_words, fills, opening_words, refusal_words, request_words};
 use coap_core::{Counts, LimitValues};
 use coap_counts::RequestCounts;
 use coap_message::OutOfMemory;
@@ -322,60 +320,60 @@ fn put_kind(out: &mut Vec<u8>, listen: &str, metric: Metric, word: Word) -> Resu
 }
 
 /// Adds how much a proxy holds of one kind.
-fn put_count(out: &mut Vec<u8>, listen: &str, share: Share) -> Result<(), OutOfMemory>
+fn put_count(out: &mut Vec<u8>, listen: &str, fill: Fill) -> Result<(), OutOfMemory>
     ensures { OnOk result (out.new.items ≡ out.old.items
-        ++ spec.count_text listen.now (share_seen share)) }
+        ++ spec.count_text listen.now (fill_seen fill)) }
 {
     let word = Word {
-        key: share.key,
-        number: share.count,
+        key: fill.key,
+        number: fill.count,
     };
     put_kind(out, listen, HELD, word)
 }
 
 /// Adds how much it may hold.
-fn put_limit(out: &mut Vec<u8>, listen: &str, share: Share) -> Result<(), OutOfMemory>
+fn put_limit(out: &mut Vec<u8>, listen: &str, fill: Fill) -> Result<(), OutOfMemory>
     ensures { OnOk result (out.new.items ≡ out.old.items
-        ++ spec.limit_text listen.now (share_seen share)) }
+        ++ spec.limit_text listen.now (fill_seen fill)) }
 {
     let word = Word {
-        key: share.key,
-        number: share.limit,
+        key: fill.key,
+        number: fill.limit,
     };
     put_kind(out, listen, LIMIT, word)
 }
 
 /// Adds how much a proxy holds of each kind.
-fn put_counts_of(out: &mut Vec<u8>, listen: &str, shares: &[Share]) -> Result<(), OutOfMemory>
+fn put_counts_of(out: &mut Vec<u8>, listen: &str, fills: &[Fill]) -> Result<(), OutOfMemory>
     ensures { OnOk result (out.new.items ≡ out.old.items
-        ++ flat_map (spec.count_text listen.now) (map share_seen shares.now)) }
+        ++ flat_map (spec.count_text listen.now) (map fill_seen fills.now)) }
 {
-    for share in shares {
-        put_count(out, listen, *share)?;
+    for fill in fills {
+        put_count(out, listen, *fill)?;
     }
     Ok(())
 }
 
 /// Adds how much it may hold of each.
-fn put_limits_of(out: &mut Vec<u8>, listen: &str, shares: &[Share]) -> Result<(), OutOfMemory>
+fn put_limits_of(out: &mut Vec<u8>, listen: &str, fills: &[Fill]) -> Result<(), OutOfMemory>
     ensures { OnOk result (out.new.items ≡ out.old.items
-        ++ flat_map (spec.limit_text listen.now) (map share_seen shares.now)) }
+        ++ flat_map (spec.limit_text listen.now) (map fill_seen fills.now)) }
 {
-    for share in shares {
-        put_limit(out, listen, *share)?;
+    for fill in fills {
+        put_limit(out, listen, *fill)?;
     }
     Ok(())
 }
 
 /// Adds what a proxy holds, and what it may hold.
-fn put_held(out: &mut Vec<u8>, listen: &str, shares: &[Share]) -> Result<(), OutOfMemory>
+fn put_held(out: &mut Vec<u8>, listen: &str, fills: &[Fill]) -> Result<(), OutOfMemory>
     ensures { OnOk result (out.new.items ≡ out.old.items
-        ++ spec.held_text listen.now (map share_seen shares.now)) }
+        ++ spec.held_text listen.now (map fill_seen fills.now)) }
 {
     put_head(out, HELD)?;
-    put_counts_of(out, listen, shares)?;
+    put_counts_of(out, listen, fills)?;
     put_head(out, LIMIT)?;
-    put_limits_of(out, listen, shares)
+    put_limits_of(out, listen, fills)
 }
 
 /// Adds the counts of the whole proxy.
@@ -409,7 +407,7 @@ pub fn put_metrics(
     put_own(out, listen, statistics)?;
     put_maps(out, listen, &statistics.maps)?;
     put_origins(out, listen, &statistics.origins, statistics.tally.last)?;
-    put_held(out, listen, &shares(counts, limits))?;
+    put_held(out, listen, &fills(counts, limits))?;
     put_holders(out, listen, &statistics.holders, statistics.tally.last)
 }
 

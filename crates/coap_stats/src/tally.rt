@@ -29,9 +29,9 @@ pub struct Tally {
     pub last: Moment,
     /// Datagrams that came.
     pub received: u64,
-    /// Datagrams that were sent, and taken.
+    /// Datagrams that were sent, and that the port took.
     pub sent: u64,
-    /// Datagrams that were sent, but not taken.
+    /// Datagrams that were sent, but that the port didn't take.
     pub send_faults: u64,
     /// Turns that ran out of memory, so that nothing was done.
     pub lost: u64,

@@ -16,7 +16,7 @@ pub(crate) struct Word {
 
 /// A key, its number, and the limit of that.
 #[derive(Clone, Copy)]
-pub(crate) struct Share {
+pub(crate) struct Fill {
     pub(crate) key: &'static str,
     pub(crate) count: u64,
     pub(crate) limit: u64,
@@ -30,10 +30,10 @@ fn word_of(key: &'static str, number: u64) -> Word
 }
 
 /// A key with its number, and the limit of that.
-fn share_of(key: &'static str, count: u64, limit: u64) -> Share
-    ensures { spec.share_seen result ≡ spec.share key.entry.now count limit }
+fn fill_of(key: &'static str, count: u64, limit: u64) -> Fill
+    ensures { spec.fill_seen result ≡ spec.fill key.entry.now count limit }
 {
-    Share { key, count, limit }
+    Fill { key, count, limit }
 }
 
 /// The counts of all turns.
@@ -125,15 +125,15 @@ pub(crate) fn eviction_words(n: &Evictions) -> [Word; 2]
 }
 
 /// What a proxy holds, with its limits.
-pub(crate) fn shares(counts: &Counts, limits: &LimitValues) -> [Share; 6]
-    ensures { map spec.share_seen result ≡ spec.shares counts.now limits.now }
+pub(crate) fn fills(counts: &Counts, limits: &LimitValues) -> [Fill; 6]
+    ensures { map spec.fill_seen result ≡ spec.fills counts.now limits.now }
 {
     [
-        share_of("cached_bytes", counts.cached_bytes, limits.cache_bytes),
-        share_of("entries", counts.entries, limits.cache_entries),
-        share_of("con_records", counts.con_records, limits.con_records),
-        share_of("non_records", counts.non_records, limits.non_records),
-        share_of("exchanges", counts.exchanges, limits.exchanges),
-        share_of("waiters", counts.waiters, limits.waiters),
+        fill_of("cached_bytes", counts.cached_bytes, limits.cache_bytes),
+        fill_of("entries", counts.entries, limits.cache_entries),
+        fill_of("con_records", counts.con_records, limits.con_records),
+        fill_of("non_records", counts.non_records, limits.non_records),
+        fill_of("exchanges", counts.exchanges, limits.exchanges),
+        fill_of("waiters", counts.waiters, limits.waiters),
     ]
 }

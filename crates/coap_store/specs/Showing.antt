@@ -16,9 +16,9 @@ use Rattle.coap_store.specs.Renewing.{tag_of, max_age_option, with_max_age}
 abbrev pub is_content : Code → Bool
 is_content code = is_code code CONTENT
 
--- a 2.05, or an error of class 4 or 5, is sent with a Max-Age
-abbrev pub shows_max_age : Code → Bool
-shows_max_age code = is_content code || (code.0 / 32 == 4 || code.0 / 32 == 5)
+-- a 2.05, or an error of class 4 or 5, may be cached, and is sent with a Max-Age
+abbrev pub is_cacheable : Code → Bool
+is_cacheable code = is_content code || (code.0 / 32 == 4 || code.0 / 32 == 5)
 
 -- a tag, if it is one of the client's
 abbrev pub among : List (List ℕ) → Option (List ℕ) → Option (List ℕ)
@@ -50,7 +50,7 @@ aged_or_valid m left tags = option_map_or (valid m left) (held_tag m tags) (aged
 -- fresh, if it is an origin's answer to a GET; without it the response is sent as it is.
 abbrev pub shown : Message → Option ℕ → List (List ℕ) → Message
 shown m None tags = m
-shown m (Some left) tags = if shows_max_age m.code then aged_or_valid m left tags else m
+shown m (Some left) tags = if is_cacheable m.code then aged_or_valid m left tags else m
 
 -- as a message of its own, with this type, Message ID and token
 abbrev pub addressed : Kind → ℕ → List ℕ → Message → Message

@@ -23,8 +23,8 @@ pub fn cuts_are_longest<T>()
 /// Newer options replace older ones by number: for a number that a newer option has, the result has
 /// the newer options, and for each other number the older ones. Options in order stay in order, so
 /// this says which options there are, and where.
-pub fn kinds_are_replaced()
-    ensures kinds { (n : ℕ) (newer older : List Opt)
+pub fn options_are_replaced_by_number()
+    ensures numbers { (n : ℕ) (newer older : List Opt)
         → AreOptions 0 newer
         → of_number n (updated newer older)
         ≡ (if has_number n newer then of_number n newer else of_number n older) }

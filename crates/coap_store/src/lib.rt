@@ -10,8 +10,8 @@
 //! // it came at moment 0, in event 2; the request was sent in event 1
 //! let stored = Stored {
 //!     response,
-//!     asked: 1,
-//!     got_no: 2,
+//!     asked_event: 1,
+//!     got_event: 2,
 //!     got: 0,
 //!     marked: false,
 //! };
@@ -54,7 +54,7 @@ pub use measure::aged_fits;
 pub use renew::renewed;
 pub use renew_error::RenewError;
 pub use shared_key::{KeySource, SharedKey};
-pub use show::{put_max_age, put_response, show_into, shows_max_age};
+pub use show::{is_cacheable, put_max_age, put_response, show_into};
 pub use showing::shown;
 pub use size::bytes_of;
 pub use store::{Put, Store};

@@ -15,7 +15,8 @@ use std::marker::Model;
 use std::ops::Deref;
 
 /// A cache key that all who need it share, so that it is copied and hashed once: an exchange, the
-/// store, and its index of targets. A contract sees the key.
+/// store, and its index of targets. It is a `DigestedKey` of which a contract sees the key alone:
+/// its users needn't know with which secret it was hashed.
 #[derive(Drop)]
 pub struct SharedKey {
     digested: DigestedKey,

@@ -84,9 +84,11 @@ pub fn put_response(
     Ok(())
 }
 
-/// Whether a response with this code is sent with a Max-Age (RFC 7252, 5.10.5).
-pub fn shows_max_age(code: Code) -> bool
-    ensures { result ≡ shows_max_age code }
+/// Whether a response with this code may be cached, and so is sent with a Max-Age: 2.05, 4.xx and
+/// 5.xx (RFC 7252, 5.9.1.5, 5.9.2, 5.9.3 and 5.10.5). A 2.03 to a GET doesn't get here: it renews
+/// what is stored, or becomes 5.02.
+pub fn is_cacheable(code: Code) -> bool
+    ensures { result ≡ is_cacheable code }
 {
     code == Code::CONTENT || code.class() == 4 || code.class() == 5
 }
@@ -104,7 +106,7 @@ fn write_shown(
         (spelling (shown_to envelope.entry message.now left)) result }
 {
     match left {
-        Some(left) if shows_max_age(message.code) => {
+        Some(left) if is_cacheable(message.code) => {
             put_aged_or_valid(message, envelope, u64::from(left), out, room)
         }
         _ => {

@@ -3,9 +3,9 @@ ghost use Rattle.std.specs.Prelude.{◌≡◌, ◌≤◌, ◌∷◌, [], true, l
 ghost use Rattle.coap_message.specs.Options.{option_of};
 ghost use Rattle.coap_option.specs.declared.numbers.TheConstants.{ETAG};
 ghost use Rattle.coap_store.specs.Renewing.{max_age_option};
-ghost use Rattle.coap_store.specs.Showing.{aged, shown, shows_max_age, aged_or_valid, valid};
+ghost use Rattle.coap_store.specs.Showing.{aged, shown, is_cacheable, aged_or_valid, valid};
 
-use crate::show::shows_max_age;
+use crate::show::is_cacheable;
 use crate::tag::held_tag;
 use crate::updating::with_max_age;
 use coap_message::{Code, Message, OptionList, OutOfMemory, Pieces, Seq, without_zeros};
@@ -31,7 +31,7 @@ pub fn shown(
     ensures { IfOk result (λ m. m ≡ shown message.now left tags.now) }
 {
     match left {
-        Some(left) if shows_max_age(message.code) => aged_or_valid(alloc, message, left, tags),
+        Some(left) if is_cacheable(message.code) => aged_or_valid(alloc, message, left, tags),
         _ => message.lent().to_message(alloc),
     }
 }
@@ -43,7 +43,7 @@ fn aged_or_valid(
     left: u32,
     tags: &Pieces,
 ) -> Result<Message, OutOfMemory>
-    requires { shows_max_age message.now.code ≡ true }
+    requires { is_cacheable message.now.code ≡ true }
     ensures { IfOk result (λ m. m ≡ aged_or_valid message.now left tags.now) }
 {
     match held_tag(message, tags) {
@@ -83,7 +83,7 @@ fn tag_and_age(alloc: Global, tag: &[u8], left: u32) -> Result<OptionList, OutOf
 
 /// A response with one Max-Age, of this many seconds.
 fn aged(alloc: Global, message: &Message, left: u32) -> Result<Message, OutOfMemory>
-    requires { shows_max_age message.now.code ≡ true }
+    requires { is_cacheable message.now.code ≡ true }
     ensures { IfOk result (λ m. m ≡ aged message.now left) }
 {
     Ok(Message {

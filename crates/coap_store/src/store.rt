@@ -72,7 +72,8 @@ pub trait Store {
 
     /// Whether the response stored for the key may answer a request at this moment, in
     /// milliseconds: there is one, it is fresh, and it isn't marked (RFC 7252, 5.6 and 5.6.1). If
-    /// so, it becomes the most recently used. Doesn't allocate.
+    /// so, it becomes the most recently used. Doesn't allocate. The core doesn't call it: it writes
+    /// a reply between `peek` and `touch`.
     fn hit(&mut self, key: &SharedKey, now: Moment) -> bool
         ensures usable { result ≡ has_usable key.now now (entries self.old) }
         ensures moved { IsTrue result

@@ -23,8 +23,7 @@ use std::collections::HashSet;
 use std::hash::BuildHasher;
 
 /// A store that finds an entry by the hash of its key, and the keys with a target by a digest of
-/// the target. Peers choose both, so the hasher should have keys that are drawn at random, as
-/// `RandomState` does.
+/// the target. Peers choose both, so the hasher should be seeded at random, as `RandomState` is.
 pub struct LruStore<H: BuildHasher> {
     recent: Recent,
     /// The number of bytes that the entries count for.

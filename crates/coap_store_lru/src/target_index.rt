@@ -24,8 +24,8 @@ use std::hash::BuildHasher;
 pub(crate) struct TargetIndex<H: BuildHasher> {
     /// The groups by digest. Peers can't aim at a digest, so a fast hasher will do.
     pub(crate) groups: HashMap<u64, Group<H>, Seeded>,
-    /// What is hashed before each target to get its digest. It is made by the hasher, whose own
-    /// keys should be drawn at random, since peers choose targets.
+    /// What is hashed before each target to get its digest. It is made by the hasher, which should
+    /// be seeded at random, since peers choose targets.
     pub(crate) secret: u64,
     hasher: H,
     alloc: Global,

@@ -5,15 +5,15 @@ use Rattle.std.specs.declared.io.ErrorKind.TheVariants.{WouldBlock, TimedOut, In
 
 -- A read that failed with this error says nothing about the next one: nothing came in time, it was
 -- interrupted, an earlier datagram found no listener or no route, or the system ran out of memory.
-abbrev pub passes : ErrorKind → Bool
-passes WouldBlock = true
-passes TimedOut = true
-passes Interrupted = true
-passes ConnectionRefused = true
-passes ConnectionReset = true
-passes ConnectionAborted = true
-passes HostUnreachable = true
-passes NetworkUnreachable = true
-passes NetworkDown = true
-passes OutOfMemory = true
-passes _ = false
+abbrev pub is_transient : ErrorKind → Bool
+is_transient WouldBlock = true
+is_transient TimedOut = true
+is_transient Interrupted = true
+is_transient ConnectionRefused = true
+is_transient ConnectionReset = true
+is_transient ConnectionAborted = true
+is_transient HostUnreachable = true
+is_transient NetworkUnreachable = true
+is_transient NetworkDown = true
+is_transient OutOfMemory = true
+is_transient _ = false

@@ -10,7 +10,7 @@ use Rattle.std.specs.declared.net.socket_addr.SocketAddr.{SocketAddr}
 use Rattle.coap_endpoint.specs.declared.endpoint.Endpoint.{Endpoint}
 use Rattle.coap_model.specs.Events.{Event, arrival, tick}
 use Rattle.coap_udp.specs.Addresses.{IsAddress, IsEndpoint}
-use Rattle.coap_udp.specs.Failing.{passes}
+use Rattle.coap_udp.specs.Failing.{is_transient}
 
 -- what is known of an answer of the system: the kind of an error, and not its text
 abbrev pub kind_of : {T : Type 0} → Result T Error → Result T ErrorKind
@@ -141,9 +141,9 @@ abbrev pub IsEvent : Result (List ℕ × SocketAddr) ErrorKind → Event → Typ
 IsEvent (Ok d) (arrival from bytes) = IsFrom d.1 from × (bytes ≡ d.0)
 IsEvent (Ok d) tick = ⊥
 IsEvent (Err k) (arrival from bytes) = ⊥
-IsEvent (Err k) tick = passes k ≡ true
+IsEvent (Err k) tick = is_transient k ≡ true
 
 -- whether a read ends a port
 abbrev pub ends : Result (List ℕ × SocketAddr) ErrorKind → Bool
 ends (Ok d) = false
-ends (Err k) = not (passes k)
+ends (Err k) = not (is_transient k)

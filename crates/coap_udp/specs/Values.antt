@@ -6,7 +6,7 @@ use Rattle.std.specs.declared.io.Error.{Error}
 use Rattle.std.specs.declared.time.Instant.{Instant}
 use Rattle.coap_endpoint.specs.declared.endpoint.Endpoint.{Endpoint}
 use Rattle.coap_port.specs.declared.error.PortFault.{PortFault}
-use Rattle.coap_udp.specs.Failing.{passes}
+use Rattle.coap_udp.specs.Failing.{is_transient}
 
 -- a draw is at most 1,000 ms
 abbrev pub draw_of : ℕ → ℕ
@@ -24,7 +24,7 @@ moment_after last (Some now) = max now last
 -- a transient error is no datagram, and any other ends the port
 abbrev pub turn_of_read : Result Endpoint Error → Result (Option Endpoint) PortFault
 turn_of_read (Ok from) = Ok (Some from)
-turn_of_read (Err e) = if passes (error_kind e) then Ok None else Err (record {})
+turn_of_read (Err e) = if is_transient (error_kind e) then Ok None else Err (record {})
 
 -- For a wait of at least eight milliseconds the read itself waits.
 abbrev pub read_waits : ℕ → Bool

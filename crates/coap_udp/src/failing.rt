@@ -7,8 +7,8 @@ use std::io::ErrorKind;
 /// Whether a read that failed with this error says nothing about the next one: nothing came in
 /// time, it was interrupted, an earlier datagram found no listener or no route, or the system ran
 /// out of memory.
-pub(crate) fn passes(kind: ErrorKind) -> bool
-    ensures { result ≡ spec.passes kind }
+pub(crate) fn is_transient(kind: ErrorKind) -> bool
+    ensures { result ≡ spec.is_transient kind }
 {
     matches!(
         kind,

@@ -2,7 +2,7 @@
 ghost use Rattle.std.specs.Prelude.{◌≡◌, IfOk};
 
 use crate::system::System;
-use crate::values::millis_between;
+use crate::values::{READ_WAIT, millis_between};
 use mio::net::UdpSocket as Watched;
 use mio::{Events, Interest, Poll, Token};
 use rand_core::Rng;
@@ -15,10 +15,6 @@ use std::time::{Clock, Duration, Instant};
 
 /// The token of the one socket.
 const SOCKET: Token = Token(0);
-
-/// How long a read waits if reads wait, in milliseconds. Systems count such a wait in steps of
-/// their own, often of four milliseconds, and round it up.
-const READ_WAIT: u64 = 4;
 
 /// How long a send waits for room if sends wait, in milliseconds.
 const ROOM_WAIT: u64 = 50;

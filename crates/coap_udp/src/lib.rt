@@ -12,7 +12,6 @@
 #![tactic(auto)]
 
 mod address;
-mod exchanging;
 mod failing;
 mod host;
 mod port;
@@ -20,6 +19,7 @@ mod system;
 #[cfg(test)]
 mod tests;
 mod values;
+mod waiting;
 
 pub use host::Host;
 pub use port::UdpPort;

@@ -6,10 +6,10 @@ ghost use Rattle.coap_udp.specs.Systems.{IsTo, read_of};
 ghost use Rattle.coap_udp.specs.Udp.{Arrives, EndsBy, IsDrawn, IsRead, IsTimed, ReadsInto, is_of_ipv6, new_port, port_over};
 
 use crate::address::{address_of, endpoint_of};
-use crate::exchanging::{read_by, send_whole};
 use crate::host::Host;
 use crate::system::System;
 use crate::values::{draw_of, moment_after, read_waits, rest_of, turn_of_read};
+use crate::waiting::{read_by, send_whole};
 use coap_endpoint::{Endpoint, Ip};
 use coap_message::{Datagram, Moment};
 use coap_port::{Port, PortFault, Turn};
@@ -29,10 +29,10 @@ use std::time::Clock;
 ///
 /// A datagram is read straight into the buffer that the port is handed, and the system cuts it to
 /// the room there. A read takes one system call while datagrams come, and so does a send. If
-/// nothing is there, the port waits for as long as it was asked to, which takes up to five more.
-/// With a wait of one millisecond it only looks if anything was handed over since its last read,
-/// since something more may be due already. A send that finds no room to send waits for some, at
-/// most 50 ms, and is tried once more.
+/// nothing is there, the port waits for as long as it was asked to, and up to five milliseconds
+/// longer. Asked to wait for one millisecond after something was handed over since its last read,
+/// it doesn't wait: something more may be due already. A send that finds no room to send waits for
+/// some, at most 50 ms, and is tried once more.
 ///
 /// An IPv6 socket uses IPv4-mapped addresses, `::ffff:a.b.c.d`, for IPv4 endpoints.
 pub struct UdpPort<S> {
@@ -77,8 +77,8 @@ impl<S> Model for UdpPort<S> {
     ghost invariant = { λ p. p.last ≤ 2 ^ 62 };
 }
 
-/// Has a buffer, all of whose places were read into, hold what was read, or nothing after an error.
-/// Returns the source.
+/// Cuts a buffer, into all of whose room a read could write, to what was read, or empties it after
+/// an error. Returns the source.
 fn source_of(read: io::Result<(usize, SocketAddr)>, into: &mut Datagram) -> io::Result<Endpoint>
     ensures read { IsRead (read_of read into.old.bytes) result into.new.bytes }
     ensures room { into.new.room ≡ into.old.room }

@@ -2,7 +2,7 @@
 ghost use Rattle.std.specs.Prelude.{◌≡◌, ◌≤◌, ◌^◌};
 ghost use Rattle.coap_udp.specs.Values as spec;
 
-use crate::failing::passes;
+use crate::failing::is_transient;
 use coap_endpoint::Endpoint;
 use coap_message::{LAST_MOMENT, MOST_JITTER, Moment};
 use coap_port::PortFault;
@@ -10,10 +10,12 @@ use std::io;
 use std::time::Instant;
 
 /// The shortest wait for which the read itself waits, in milliseconds.
-const WAITING_READ: u64 = 8;
+const SHORTEST_BLOCKING_WAIT: u64 = 8;
 
-/// How long a read that waits takes at least, if nothing comes, in milliseconds.
-const FIRST_WAIT: u64 = 4;
+/// How long a read that waits takes at least, if nothing comes, in milliseconds: what the socket is
+/// told. Systems count such a wait in steps of their own, often of four milliseconds, and round it
+/// up.
+pub(crate) const READ_WAIT: u64 = 4;
 
 /// The draw that a random number gives, in milliseconds.
 pub(crate) fn draw_of(number: u32) -> u16
@@ -53,7 +55,7 @@ pub(crate) fn turn_of_read(read: io::Result<Endpoint>) -> Result<Option<Endpoint
 {
     match read {
         Ok(from) => Ok(Some(from)),
-        Err(error) if passes(error.kind()) => Ok(None),
+        Err(error) if is_transient(error.kind()) => Ok(None),
         Err(_) => Err(PortFault),
     }
 }
@@ -62,7 +64,7 @@ pub(crate) fn turn_of_read(read: io::Result<Endpoint>) -> Result<Option<Endpoint
 pub(crate) fn read_waits(wait: u64) -> bool
     ensures { result ≡ spec.read_waits wait }
 {
-    wait >= WAITING_READ
+    wait >= SHORTEST_BLOCKING_WAIT
 }
 
 /// For how long a port waits after a read that gave nothing; `handed` says whether anything was
@@ -71,7 +73,7 @@ pub(crate) fn rest_of(wait: u64, handed: bool) -> u64
     ensures { result ≡ spec.rest_of wait handed }
 {
     if read_waits(wait) {
-        wait - FIRST_WAIT
+        wait - READ_WAIT
     } else if wait > 1 || !handed {
         wait
     } else {

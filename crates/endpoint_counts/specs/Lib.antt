@@ -1,5 +1,5 @@
 pub mod Digests
-pub mod PeerForm
+pub mod DigestedEndpointForm
 pub mod IndexOf
 pub mod Slots
 pub mod Endpoints

@@ -4,19 +4,19 @@ ghost use Rattle.coap_endpoint.specs.declared.endpoint.Endpoint.{Endpoint};
 ghost use Rattle.endpoint_counts.specs.Clients.{count_of, one_of};
 ghost use Rattle.endpoint_counts.specs.Endpoints.{one_if_at};
 
+use crate::digested_endpoint::DigestedEndpoint;
 use crate::endpoint_map::EndpointMap;
 use crate::endpoints::{EndpointCounts, counts_at, counts_of};
-use crate::peer::Peer;
 
 /// The number of items of a client.
-pub fn count_of(clients: &EndpointMap, client: Peer) -> usize
+pub fn count_of(clients: &EndpointMap, client: DigestedEndpoint) -> usize
     ensures exact { result ≡ count_of clients.now client }
 {
     counts_of(clients, client).all
 }
 
 /// Counts one more item of a client. There is room for another client.
-pub fn enter(clients: &mut EndpointMap, client: Peer)
+pub fn enter(clients: &mut EndpointMap, client: DigestedEndpoint)
     requires few { count_of clients.old client < 2 ^ 64 - 1 }
     requires room { length clients.old.items < clients.old.limit }
     ensures limit { clients.new.limit ≡ clients.old.limit }
@@ -29,7 +29,7 @@ pub fn enter(clients: &mut EndpointMap, client: Peer)
 }
 
 /// Counts one item less of a client, if there is one.
-pub fn depart(clients: &mut EndpointMap, client: Option<Peer>)
+pub fn depart(clients: &mut EndpointMap, client: Option<DigestedEndpoint>)
     ensures limit { clients.new.limit ≡ clients.old.limit }
     ensures exact { (e : Endpoint)
         → count_of clients.new e ≡ count_of clients.old e - one_of client e }

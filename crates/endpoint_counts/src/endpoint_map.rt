@@ -5,8 +5,8 @@ ghost use Rattle.endpoint_counts.specs.Endpoints.{is_one};
 ghost use Rattle.endpoint_counts.specs.Slots.{found, is_entry_of, AreDistinct, AreGapless, AreSome};
 ghost use Rattle.coap_pending.specs.Table.{empty_table, first_that, item_at, passes, IsTable};
 
+use crate::digested_endpoint::DigestedEndpoint;
 use crate::endpoints::EndpointCounts;
-use crate::peer::Peer;
 use crate::slots::{Entry, Slots};
 use coap_message::OutOfMemory;
 use ordered_index::HashedIndex;
@@ -77,7 +77,7 @@ impl EndpointMap {
     }
 
     /// What is counted for an endpoint, whose place is this, if anything is.
-    pub fn get(&self, at: Peer, place: Option<u64>) -> Option<EndpointCounts>
+    pub fn get(&self, at: DigestedEndpoint, place: Option<u64>) -> Option<EndpointCounts>
         requires place { place ≡ first_that (is_entry_of at) self.now.items }
         ensures exact { result ≡ found at self.now.items }
     {
@@ -104,7 +104,7 @@ impl EndpointMap {
 
     /// Sets what is counted for an endpoint, whose place is this: of something there is at least
     /// one. If nothing was counted for it, there is room for another.
-    pub fn set(&mut self, at: Peer, place: Option<u64>, counts: EndpointCounts)
+    pub fn set(&mut self, at: DigestedEndpoint, place: Option<u64>, counts: EndpointCounts)
         requires place { place ≡ first_that (is_entry_of at) self.old.items }
         requires some { 0 < counts.all }
         requires room { found at self.old.items ≡ None
@@ -127,7 +127,7 @@ impl EndpointMap {
     }
 
     /// Forgets what is counted for an endpoint, whose place is this. The last entry moves there.
-    pub fn remove(&mut self, at: Peer, place: Option<u64>)
+    pub fn remove(&mut self, at: DigestedEndpoint, place: Option<u64>)
         requires place { place ≡ first_that (is_entry_of at) self.old.items }
         ensures limit { self.new.limit ≡ self.old.limit }
         ensures exact { (e : Endpoint)
@@ -148,7 +148,7 @@ impl EndpointMap {
     }
 
     /// The number of the place of an endpoint, if it has one.
-    pub fn place_of(&self, at: Peer) -> Option<u64>
+    pub fn place_of(&self, at: DigestedEndpoint) -> Option<u64>
         ensures exact { result ≡ first_that (is_entry_of at) self.now.items }
     {
         if self.is_at(self.last, at) {
@@ -158,7 +158,7 @@ impl EndpointMap {
     }
 
     /// The number of the place of an endpoint, found by its digest.
-    fn place_by_digest(&self, at: Peer) -> Option<u64>
+    fn place_by_digest(&self, at: DigestedEndpoint) -> Option<u64>
         ensures exact { result ≡ first_that (is_entry_of at) self.now.items }
     {
         let mut after = 0;
@@ -173,7 +173,7 @@ impl EndpointMap {
 
     /// Whether an endpoint has the place of this number.
     #[inline(always)]
-    fn is_at(&self, number: u64, at: Peer) -> bool
+    fn is_at(&self, number: u64, at: DigestedEndpoint) -> bool
         ensures exact { result ≡ passes (is_entry_of at) (item_at number self.now.items) }
     {
         match self.slots.get(number) {

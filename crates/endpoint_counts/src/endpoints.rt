@@ -5,8 +5,8 @@ ghost use Rattle.endpoint_counts.specs.Endpoints.{one_if_at, open_in, queued_in,
 ghost use Rattle.endpoint_counts.specs.Slots.{is_entry_of};
 ghost use Rattle.coap_pending.specs.Table.{first_that};
 
+use crate::digested_endpoint::DigestedEndpoint;
 use crate::endpoint_map::EndpointMap;
-use crate::peer::Peer;
 
 /// The number of exchanges with an endpoint. For a client `all` counts its items, and the others
 /// are 0.
@@ -46,7 +46,7 @@ impl Stage {
 }
 
 /// The number of exchanges with the endpoint `at`.
-pub fn counts_of(endpoints: &EndpointMap, at: Peer) -> EndpointCounts
+pub fn counts_of(endpoints: &EndpointMap, at: DigestedEndpoint) -> EndpointCounts
     ensures all { result.all ≡ open_in endpoints.now at }
     ensures sent { result.sent ≡ sent_in endpoints.now at }
     ensures queued { result.queued ≡ queued_in endpoints.now at }
@@ -55,7 +55,11 @@ pub fn counts_of(endpoints: &EndpointMap, at: Peer) -> EndpointCounts
 }
 
 /// The number of exchanges with an endpoint whose place is known.
-pub fn counts_at(endpoints: &EndpointMap, at: Peer, place: Option<u64>) -> EndpointCounts
+pub fn counts_at(
+    endpoints: &EndpointMap,
+    at: DigestedEndpoint,
+    place: Option<u64>,
+) -> EndpointCounts
     requires place { place ≡ first_that (is_entry_of at) endpoints.now.items }
     ensures all { result.all ≡ open_in endpoints.now at }
     ensures sent { result.sent ≡ sent_in endpoints.now at }
@@ -73,7 +77,7 @@ pub fn counts_at(endpoints: &EndpointMap, at: Peer, place: Option<u64>) -> Endpo
 
 /// Adds an exchange with this endpoint, which is waiting for its turn, and returns how many are
 /// sent there. There is room for another endpoint.
-pub fn open_one(endpoints: &mut EndpointMap, at: Peer) -> usize
+pub fn open_one(endpoints: &mut EndpointMap, at: DigestedEndpoint) -> usize
     requires all { open_in endpoints.old at < 2 ^ 64 - 1 }
     requires queued { queued_in endpoints.old at < 2 ^ 64 - 1 }
     requires room { length endpoints.old.items < endpoints.old.limit }
@@ -97,7 +101,7 @@ pub fn open_one(endpoints: &mut EndpointMap, at: Peer) -> usize
 }
 
 /// Removes an exchange with this endpoint, which was at the stage `was`.
-pub fn close_one(endpoints: &mut EndpointMap, at: Peer, was: Stage) -> SentCounts
+pub fn close_one(endpoints: &mut EndpointMap, at: DigestedEndpoint, was: Stage) -> SentCounts
     requires all { 0 < open_in endpoints.old at }
     requires sent { sent_in endpoints.old at
         ≤ (open_in endpoints.old at - 1) + (if was.sent then 1 else 0) }
@@ -133,7 +137,12 @@ pub fn close_one(endpoints: &mut EndpointMap, at: Peer, was: Stage) -> SentCount
 }
 
 /// Moves an exchange with this endpoint from the stage `was` to the stage `is`.
-pub fn move_one(endpoints: &mut EndpointMap, at: Peer, was: Stage, is: Stage) -> SentCounts
+pub fn move_one(
+    endpoints: &mut EndpointMap,
+    at: DigestedEndpoint,
+    was: Stage,
+    is: Stage,
+) -> SentCounts
     requires all { 0 < open_in endpoints.old at }
     requires few_sent { sent_in endpoints.old at < 2 ^ 64 - 1 }
     requires few_queued { queued_in endpoints.old at < 2 ^ 64 - 1 }

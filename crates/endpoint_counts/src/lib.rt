@@ -5,21 +5,21 @@
 //!
 //! ```rust
 //! let mut clients = EndpointMap::new(alloc, 256, 0)?;
-//! enter(&mut clients, Peer::new(client)); // a request of this client waits
-//! assert!(rt; count_of(&clients, Peer::new(client)) == 1);
+//! enter(&mut clients, DigestedEndpoint::new(client)); // a request of this client waits
+//! assert!(rt; count_of(&clients, DigestedEndpoint::new(client)) == 1);
 //! ```
 #![tactic(auto)]
 
 pub mod by_client;
 mod digest;
+mod digested_endpoint;
 mod endpoint_map;
 mod endpoints;
-mod peer;
 mod slots;
 
+pub use digested_endpoint::DigestedEndpoint;
 pub use endpoint_map::EndpointMap;
 pub use endpoints::{
     EndpointCounts, SentCounts, Stage, close_one, counts_at, counts_of, lowered, move_one, open_one,
 };
-pub use peer::Peer;
 pub use slots::Entry;

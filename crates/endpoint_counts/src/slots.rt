@@ -3,8 +3,8 @@ ghost use Rattle.std.specs.Prelude.{◌≡◌, ◌<◌, ◌≤◌, ◌^◌, [], 
 ghost use Rattle.endpoint_counts.specs.Slots.{AreGapless};
 ghost use Rattle.coap_pending.specs.Table.{admitted_to, changed_at, empty_table, item_at, withdrawn, IsTable};
 
+use crate::digested_endpoint::DigestedEndpoint;
 use crate::endpoints::EndpointCounts;
-use crate::peer::Peer;
 use coap_message::OutOfMemory;
 use std::alloc::Global;
 use std::marker::Model;
@@ -12,7 +12,7 @@ use std::marker::Model;
 /// What is counted for one endpoint.
 #[derive(Clone, Copy)]
 pub struct Entry {
-    pub peer: Peer,
+    pub peer: DigestedEndpoint,
     pub counts: EndpointCounts,
 }
 

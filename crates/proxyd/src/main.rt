@@ -53,7 +53,7 @@ fn plan(rt: &HostRuntime, config: Option<&[u8]>) -> Result<Plan, Stop> {
     planned.map_err(|fault| Stop::by_words(rt, fault, config))
 }
 
-/// A random first Message ID and a random salt.
+/// A random first Message ID and a random salt: one that `--salt` can give, too, so below 2^63.
 fn draw(rt: &HostRuntime) -> Result<Start, Fault> {
     let (mut id, mut salt) = ([0; 2], [0; 8]);
     match rt

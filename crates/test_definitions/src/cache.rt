@@ -8,7 +8,7 @@ ghost use Rattle.coap_store.specs.Freshness.{is_fresh, is_usable, left_of};
 ghost use Rattle.coap_store.specs.Keys.{same_key};
 ghost use Rattle.coap_store.specs.Lists.{are_distinct, cut, of_key, others, total, used};
 ghost use Rattle.coap_store.specs.Renewing.{is_validated, renewed, tag_of, with_max_age};
-ghost use Rattle.coap_store.specs.Showing.{shown, shows_max_age};
+ghost use Rattle.coap_store.specs.Showing.{shown, is_cacheable};
 ghost use Rattle.coap_store.specs.Sizes.{size_of};
 
 /// Which requests have the same key: Accept is part of it, and Size1 isn't (RFC 7252, 5.4.6 and
@@ -161,7 +161,7 @@ pub fn told()
 /// Which codes, of all 256, are sent with a Max-Age: 2.05, and those of classes 4 and 5 (RFC 7252,
 /// 5.10.5). A 2.02 isn't.
 pub fn told_with_an_age()
-    ensures codes { filter (λ n. shows_max_age (record { 0 = n })) (range_with_len 0 256)
+    ensures codes { filter (λ n. is_cacheable (record { 0 = n })) (range_with_len 0 256)
         ≡ 0x45 ∷ (range_with_len 0x80 32 ++ range_with_len 0xA0 32) }
     ensures deleted { shown (response 2 2 (max_age 9 ∷ []) []) (Some 8) []
         ≡ response 2 2 (max_age 9 ∷ []) [] }

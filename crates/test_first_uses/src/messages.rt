@@ -19,7 +19,7 @@ fn coap_option(rt: HostRuntime) -> Result<(), Fail> {
     let alloc = rt.alloc();
     assert!(rt; is_critical(35) && is_unsafe(35)); // Proxy-Uri
     let request = decode(alloc, b"\x40\x01\x00\x01\xB1t\x60\xD1\x1E\x05")?; // with Accept and Size1
-    screen_request(&request)?; // nothing that a proxy would have to reject
+    screen_request(&request)?; // nothing for which a proxy would have to refuse it
     let key = key_options(alloc, &request)?;
     assert_eq!(rt; key.lent().bytes(), b"\xD0\x04".as_slice()); // Accept: Size1 isn't part of it
     Ok(())

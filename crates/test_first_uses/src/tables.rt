@@ -4,12 +4,12 @@ use crate::fixtures;
 use crate::fixtures::{CLIENT, ORIGIN};
 use coap_dedup::{EXCHANGE_LIFETIME, Records, Seen};
 use coap_exchange::{Exchanges, Opening, Sending, Timer};
-use coap_forward::{Form, SentRequest, answer_of, put_forwarded, token_of};
+use coap_forward::{AnsweredRequest, Form, answer_of, put_forwarded, token_of};
 use coap_message::{Code, Datagram, MessageRef, Seq};
 use coap_option::survey_request;
 use coap_pending::Ids;
 use endpoint_counts::by_client::{count_of, enter};
-use endpoint_counts::{EndpointMap, Peer};
+use endpoint_counts::{DigestedEndpoint, EndpointMap};
 use ordered_index::OrderedIndex;
 use std::test::*;
 
@@ -52,8 +52,8 @@ fn endpoint_counts(rt: HostRuntime) -> Result<(), Fail> {
     let alloc = rt.alloc();
     let client = CLIENT;
     let mut clients = EndpointMap::new(alloc, 256, 0)?;
-    enter(&mut clients, Peer::new(client)); // a request of this client waits
-    assert!(rt; count_of(&clients, Peer::new(client)) == 1);
+    enter(&mut clients, DigestedEndpoint::new(client)); // a request of this client waits
+    assert!(rt; count_of(&clients, DigestedEndpoint::new(client)) == 1);
     Ok(())
 }
 
@@ -65,7 +65,7 @@ fn coap_exchange(rt: HostRuntime) -> Result<(), Fail> {
     let form = Seq::from_slice(alloc, b"\x48\x01\0\0\0\0\0\0\0\0\0\x01\xB4temp")?;
     let mut exchanges = Exchanges::new(alloc, 256, 16)?;
     let opening = Opening {
-        client: Peer::new(client),
+        client: DigestedEndpoint::new(client),
         key: &key,
         is_get: true,
         form,
@@ -75,7 +75,7 @@ fn coap_exchange(rt: HostRuntime) -> Result<(), Fail> {
     let number = exchanges.admit(opening)?;
     assert!(rt; exchanges.due(1, 93_000) == Some((0, number))); // it is its turn
     let sending = Sending {
-        asked: 0,
+        asked_event: 0,
         id: 7,
         timer: Timer::start(0, 250),
     };
@@ -108,7 +108,7 @@ fn coap_forward(rt: HostRuntime) -> Result<(), Fail> {
         b"\x48\x01\0\0\0\0\0\0\0\0\0\x01\xB4temp".as_slice()
     );
     // its response, received at `now`
-    let sent = SentRequest {
+    let sent = AnsweredRequest {
         is_get: true,
         copy: None,
     };

@@ -13,7 +13,7 @@ use Rattle.coap_message.proofs.WholeMessages.{read_is}
 use Rattle.coap_option.specs.Selection.{max_age_of}
 use Rattle.coap_limits.specs.Limits.{default_limits}
 use Rattle.coap_store.specs.Renewing.{has_tag, is_validated, tag_of}
-use Rattle.coap_forward.specs.Answers.{fits, taken_of}
+use Rattle.coap_forward.specs.Answers.{fits, passed_part}
 use Rattle.coap_forward.specs.Forms.{target_options}
 use Rattle.coap_forward.specs.Messages.{token_of}
 use Rattle.coap_model.specs.Cached.{first_hand, validated, IsFetched, IsObtained}
@@ -51,11 +51,11 @@ no-validation old m none valid =
 pub not_ageless : (response : Message) → ¬ IsObtained setting key_of_temp response first_entry.asking (here get_past gets_ageless)
 unfolding token_of
 not_ageless response (first_hand fetched is lasting) =
-    let same : response ≡ ageless = is ∙ ap (taken_of true) (one-getting fetched.gets ageless_gets).message in
+    let same : response ≡ ageless = is ∙ ap (passed_part true) (one-getting fetched.gets ageless_gets).message in
     let age : 0 < 0 = subst (λ (m : Message). 0 < max_age_of m) same lasting.age in
     omega (arith, age)
 not_ageless response (validated {old = old} fetched tag obtained behind tagged sent is renewal fit lasting) =
-    absurd (no-validation old (taken_of true ageless) refl (subst (λ (m : Message). is_validated old (taken_of true m) ≡ true) (one-getting fetched.gets ageless_gets).message is))
+    absurd (no-validation old (passed_part true ageless) refl (subst (λ (m : Message). is_validated old (passed_part true m) ≡ true) (one-getting fetched.gets ageless_gets).message is))
 
 -- though it was fetched
 pub ageless_fetched : IsFetched setting key_of_temp first_entry.asking (here get_past gets_ageless)

@@ -14,16 +14,16 @@ use Rattle.coap_model.specs.Cached.{IsFetched}
 use Rattle.coap_model.specs.Changed.{key_asked, to_get, Unchanged}
 use Rattle.coap_model.specs.Events.{arrival}
 use Rattle.coap_model.specs.Examples.{origin}
-use Rattle.coap_model.specs.History.{Asks, Action, Gets, IsPositionOf, Position, in_acknowledgement, moves, takes}
+use Rattle.coap_model.specs.History.{Asks, Action, Gets, IsPositionOf, Position, in_acknowledgement, moves, accepts_answer}
 use Rattle.coap_model.specs.WordExamples.{setting_with}
 use Rattle.coap_model.proofs.Positions.{here}
 
 -- a piggybacked response of the origin server to the request of an exchange arrives
-abbrev pub gets-by : (limits : Limits) (past : List Action) (d : Action) (x : ℕ) (bytes : List ℕ) (m : Message) (asking : Position) → d.act ≡ moves x → takes d.observation.report.outcome ≡ true → d.observation.event ≡ arrival origin bytes → IsPositionOf past asking → (asks : Asks 0 x asking) → asks.sends.to ≡ origin → asks.sends.message.id ≡ m.id
+abbrev pub gets-by : (limits : Limits) (past : List Action) (d : Action) (x : ℕ) (bytes : List ℕ) (m : Message) (asking : Position) → d.act ≡ moves x → accepts_answer d.observation.report.outcome ≡ true → d.observation.event ≡ arrival origin bytes → IsPositionOf past asking → (asks : Asks 0 x asking) → asks.sends.to ≡ origin → asks.sends.message.id ≡ m.id
     → m.kind ≡ Ack → is_response m.code ≡ true → m.token ≡ token_of 0 x → IsBytes bytes → Spells bytes m → length bytes ≤ limits.datagram → Gets (setting_with limits) x (here past d)
-gets-by limits past d x bytes m asking act takes came was asks to id kind code token are spells short = record {
+gets-by limits past d x bytes m asking act accepts_answer came was asks to id kind code token are spells short = record {
   act = act;
-  outcome = takes;
+  outcome = accepts_answer;
   meets = record {
     asking = asking;
     was_asked = was;

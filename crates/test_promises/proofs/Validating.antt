@@ -14,8 +14,8 @@ use Rattle.coap_option.specs.Selection.{tags_of}
 use Rattle.coap_limits.specs.Limits.{Limits, default_limits}
 use Rattle.coap_store.specs.declared.key.CacheKey.{CacheKey}
 use Rattle.coap_store.specs.Renewing.{has_tag, is_validated, renewed, tag_of}
-use Rattle.coap_store.specs.Showing.{shows_max_age}
-use Rattle.coap_forward.specs.Answers.{fits, is_passed_on, taken_of, validates, without_observe}
+use Rattle.coap_store.specs.Showing.{is_cacheable}
+use Rattle.coap_forward.specs.Answers.{fits, is_passed_on, passed_part, validates, without_observe}
 use Rattle.coap_forward.specs.Forms.{target_options}
 use Rattle.coap_forward.specs.Messages.{token_of}
 use Rattle.coap_model.specs.Cached.{first_hand, validated, IsFetched, IsLasting, IsObtained}
@@ -97,11 +97,11 @@ tagged_obtained limits long passed =
 -- ---- renewals
 
 -- the cached response is renewed by a message that arrives so, if the words that are left hold
-pub renewal-whole : (limits : Limits) (asking getting : Position) (m : Message) (is : IsAsked limits asking getting m) → tags_asked is ≡ (0xAB ∷ []) ∷ [] → is_validated tagged_content (taken_of true m) ≡ true → fits limits.datagram (renewed_by m) ≡ true → IsLasting (renewed_by m)
+pub renewal-whole : (limits : Limits) (asking getting : Position) (m : Message) (is : IsAsked limits asking getting m) → tags_asked is ≡ (0xAB ∷ []) ∷ [] → is_validated tagged_content (passed_part true m) ≡ true → fits limits.datagram (renewed_by m) ≡ true → IsLasting (renewed_by m)
     → IsObtained (setting_with limits) key_of_temp (renewed_by m) asking getting
 renewal-whole limits asking getting m is tags valid fit lasting =
     validated is.fetched (0xAB ∷ []) is.obtained is.behind refl tags
-    (subst (λ (n : Message). is_validated tagged_content (taken_of true n) ≡ true) (sym is.message) valid)
+    (subst (λ (n : Message). is_validated tagged_content (passed_part true n) ≡ true) (sym is.message) valid)
     (ap (λ (n : Message). renewed_by n) (sym is.message))
     fit lasting
 
@@ -112,14 +112,14 @@ abbrev other_valid_gets : Gets setting 2 (here validated_past gets_other_valid)
 other_valid_gets = gets-by default_limits validated_past gets_other_valid 2 other_valid_bytes other_valid (here tagged_past asks_tagged) refl refl refl (inl refl) tagged_asks refl refl refl refl refl (are-bytes other_valid_bytes refl) other_valid_spelled (omega arith)
 
 -- a 2.03 alone isn't a response that may be kept
-not-alone : {limits : Limits} {key : CacheKey} {response m : Message} {asking : Position} {past : List Action} {d : Action} (gets : Gets (setting_with limits) 2 (here past d)) → m.code ≡ VALID → gets.meets.message ≡ m → (fetched : IsFetched (setting_with limits) key asking (here past d)) → response ≡ taken_of true fetched.gets.meets.message → IsLasting response → ⊥
+not-alone : {limits : Limits} {key : CacheKey} {response m : Message} {asking : Position} {past : List Action} {d : Action} (gets : Gets (setting_with limits) 2 (here past d)) → m.code ≡ VALID → gets.meets.message ≡ m → (fetched : IsFetched (setting_with limits) key asking (here past d)) → response ≡ passed_part true fetched.gets.meets.message → IsLasting response → ⊥
 not-alone {response = response} {m = m} gets code same fetched is lasting =
-    let taken : response.code ≡ VALID = ap (λ (n : Message). n.code) is ∙ ap (λ (n : Message). (taken_of true n).code) ((one-getting fetched.gets gets).message ∙ same) ∙ taken-code m code in
-    let none : shows_max_age response.code ≡ false = ap shows_max_age taken in
+    let taken : response.code ≡ VALID = ap (λ (n : Message). n.code) is ∙ ap (λ (n : Message). (passed_part true n).code) ((one-getting fetched.gets gets).message ∙ same) ∙ passed_part-code m code in
+    let none : is_cacheable response.code ≡ false = ap is_cacheable taken in
     absurd (let e = sym lasting.code ∙ none in cc)
   where
-    taken-code : (n : Message) → n.code ≡ VALID → (taken_of true n).code ≡ VALID
-    taken-code n valid = go (validates true n)
+    passed_part-code : (n : Message) → n.code ≡ VALID → (passed_part true n).code ≡ VALID
+    passed_part-code n valid = go (validates true n)
       where
         go : (b : Bool) → (if b then record (without_observe n) { payload = [] } else without_observe n).code ≡ VALID
         go true = valid
@@ -142,8 +142,8 @@ not_other_valid response (first_hand fetched is lasting) = not-alone {limits = d
 not_other_valid response (validated {old = old} fetched tag obtained behind tagged sent is renewal fit lasting) =
     let one = one-getting fetched.gets other_valid_gets in
     let tag_is : 0xAB ∷ [] ≡ tag = one-tag tag (0xAB ∷ []) (sym (ap (λ (m : Message). tags_of m) one.asked) ∙ sent) in
-    let valid : is_validated old (taken_of true other_valid) ≡ true = subst (λ (m : Message). is_validated old (taken_of true m) ≡ true) one.message is in
-    let same : has_tag (0xAB ∷ []) (taken_of true other_valid) ≡ true = subst (λ (t : List ℕ). has_tag t (taken_of true other_valid) ≡ true) (sym tag_is) (same-tag old (taken_of true other_valid) tag tagged valid) in
+    let valid : is_validated old (passed_part true other_valid) ≡ true = subst (λ (m : Message). is_validated old (passed_part true m) ≡ true) one.message is in
+    let same : has_tag (0xAB ∷ []) (passed_part true other_valid) ≡ true = subst (λ (t : List ℕ). has_tag t (passed_part true other_valid) ≡ true) (sym tag_is) (same-tag old (passed_part true other_valid) tag tagged valid) in
     absurd (let e : false ≡ true = same in cc)
 
 -- though it was asked for
@@ -184,8 +184,8 @@ not_other_get response (first_hand fetched is lasting) = not-alone {limits = def
 not_other_get response (validated {old = old} fetched tag obtained behind tagged sent is renewal fit lasting) =
     let one = one-getting fetched.gets other_gets in
     let tag_is : 0xCD ∷ [] ≡ tag = one-tag tag (0xCD ∷ []) (sym (ap (λ (m : Message). tags_of m) one.asked) ∙ sent) in
-    let valid : is_validated old (taken_of true valid_message) ≡ true = subst (λ (m : Message). is_validated old (taken_of true m) ≡ true) one.message is in
-    let same : has_tag (0xCD ∷ []) (taken_of true valid_message) ≡ true = subst (λ (t : List ℕ). has_tag t (taken_of true valid_message) ≡ true) (sym tag_is) (same-tag old (taken_of true valid_message) tag tagged valid) in
+    let valid : is_validated old (passed_part true valid_message) ≡ true = subst (λ (m : Message). is_validated old (passed_part true m) ≡ true) one.message is in
+    let same : has_tag (0xCD ∷ []) (passed_part true valid_message) ≡ true = subst (λ (t : List ℕ). has_tag t (passed_part true valid_message) ≡ true) (sym tag_is) (same-tag old (passed_part true valid_message) tag tagged valid) in
     absurd (let e : false ≡ true = same in cc)
 
 -- the 2.03 was fetched
@@ -245,7 +245,7 @@ unfolding format_is_asked token_of target_options target_sent key_sent spelling 
 format_tags = refl
 
 -- but what it makes of the cached response is too long then
-pub not_format : ¬ IsObtained (setting_with (limits_of 23)) key_of_temp (renewed tagged_content (taken_of true format_valid)) (here tagged_past asks_tagged) (here validated_past gets_format_valid)
+pub not_format : ¬ IsObtained (setting_with (limits_of 23)) key_of_temp (renewed tagged_content (passed_part true format_valid)) (here tagged_past asks_tagged) (here validated_past gets_format_valid)
 unfolding token_of target_options spelling option_spelling uint_spelling
 not_format (first_hand fetched is lasting) = not-alone {limits = limits_of 23} {m = format_valid} (format_gets (limits_of 23) (omega arith)) refl refl fetched is lasting
 not_format (validated fetched tag obtained behind tagged sent is renewal fit lasting) = absurd (let e : false ≡ true = fit in cc)

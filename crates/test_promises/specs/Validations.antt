@@ -7,7 +7,7 @@ use Rattle.coap_option.specs.declared.numbers.TheConstants.{CONTENT_FORMAT, ETAG
 use Rattle.coap_option.specs.Selection.{tags_of}
 use Rattle.coap_limits.specs.Limits.{Limits, default_limits}
 use Rattle.coap_store.specs.Renewing.{renewed}
-use Rattle.coap_forward.specs.Answers.{taken_of}
+use Rattle.coap_forward.specs.Answers.{passed_part}
 use Rattle.coap_forward.specs.Forms.{forwarded}
 use Rattle.coap_forward.specs.Messages.{token_of}
 use Rattle.coap_model.specs.Cached.{IsFetched, IsObtained}
@@ -90,4 +90,4 @@ tags_asked is = tags_of (asked_of is.fetched.gets)
 
 -- what the message makes of that response
 abbrev pub renewed_by : Message → Message
-renewed_by m = renewed tagged_content (taken_of true m)
+renewed_by m = renewed tagged_content (passed_part true m)

@@ -3,8 +3,8 @@ ghost use Rattle.std.specs.Prelude.{◌≡◌, ◌∷◌, [], true};
 ghost use Rattle.coap_message.specs.Message.{Message};
 ghost use Rattle.coap_limits.specs.Limits.{default_limits};
 ghost use Rattle.coap_store.specs.Renewing.{is_validated};
-ghost use Rattle.coap_store.specs.Showing.{shows_max_age};
-ghost use Rattle.coap_forward.specs.Answers.{fits, taken_of};
+ghost use Rattle.coap_store.specs.Showing.{is_cacheable};
+ghost use Rattle.coap_forward.specs.Answers.{fits, passed_part};
 ghost use Rattle.coap_model.specs.Cached.{IsFetched, IsObtained};
 ghost use Rattle.coap_model.specs.CacheExamples.{first_entry};
 ghost use Rattle.coap_model.specs.Forged.{setting};
@@ -24,13 +24,13 @@ pub fn responses_without_an_age_are_refused()
     ensures but_for_its_age { (fetched : IsFetched setting key_of_temp
         first_entry.asking (at get_past gets_ageless))
         × (fetched.gets.meets.message ≡ ageless)
-        × (shows_max_age (taken_of true ageless).code ≡ true) }
+        × (is_cacheable (passed_part true ageless).code ≡ true) }
     ensures renewed { ¬ IsObtained setting key_of_temp (renewed_by ageless_valid)
         (at tagged_past asks_tagged) (at validated_past gets_ageless_valid) }
     ensures but_for_the_age_of_the_validation { (is : IsAsked default_limits
         (at tagged_past asks_tagged) (at validated_past gets_ageless_valid) ageless_valid)
         × (tags_asked is ≡ (0xAB ∷ []) ∷ [])
-        × (is_validated tagged_content (taken_of true ageless_valid) ≡ true)
+        × (is_validated tagged_content (passed_part true ageless_valid) ≡ true)
         × (fits default_limits.datagram (renewed_by ageless_valid) ≡ true)
-        × (shows_max_age (renewed_by ageless_valid).code ≡ true) }
+        × (is_cacheable (renewed_by ageless_valid).code ≡ true) }
 {}

@@ -3,7 +3,7 @@ ghost use Rattle.std.specs.Prelude.{◌≡◌, ◌∷◌, [], Some, true};
 ghost use Rattle.coap_message.specs.Message.{Message};
 ghost use Rattle.coap_limits.specs.Limits.{Limits, default_limits};
 ghost use Rattle.coap_store.specs.Renewing.{is_validated, tag_of};
-ghost use Rattle.coap_forward.specs.Answers.{fits, taken_of};
+ghost use Rattle.coap_forward.specs.Answers.{fits, passed_part};
 ghost use Rattle.coap_model.specs.Cached.{IsLasting, IsObtained};
 ghost use Rattle.coap_model.specs.Forged.{setting};
 ghost use Rattle.coap_model.specs.History.{Position};
@@ -19,7 +19,7 @@ pub fn a_validated_response_is_renewed()
     ensures whole { (limits : Limits) (asking getting : Position) (m : Message)
         (is : IsAsked limits asking getting m)
         → tags_asked is ≡ (0xAB ∷ []) ∷ []
-        → is_validated tagged_content (taken_of true m) ≡ true
+        → is_validated tagged_content (passed_part true m) ≡ true
         → fits limits.datagram (renewed_by m) ≡ true
         → IsLasting (renewed_by m)
         → IsObtained (setting_with limits) key_of_temp (renewed_by m) asking getting }
@@ -44,7 +44,7 @@ pub fn validations_of_another_tag_are_refused()
         (at tagged_past asks_other) (at other_past gets_valid) }
     ensures but_for_the_tag_of_the_request { IsAsked default_limits
         (at tagged_past asks_other) (at other_past gets_valid) valid_message
-        × (is_validated tagged_content (taken_of true valid_message) ≡ true)
+        × (is_validated tagged_content (passed_part true valid_message) ≡ true)
         × (fits default_limits.datagram (renewed_by valid_message) ≡ true)
         × IsLasting (renewed_by valid_message) }
 {}
@@ -60,6 +60,6 @@ pub fn validations_that_grow_too_long_are_refused()
     ensures but_for_its_length { (is : IsAsked (limits_of 23)
         (at tagged_past asks_tagged) (at validated_past gets_format_valid) format_valid)
         × (tags_asked is ≡ (0xAB ∷ []) ∷ [])
-        × (is_validated tagged_content (taken_of true format_valid) ≡ true)
+        × (is_validated tagged_content (passed_part true format_valid) ≡ true)
         × IsLasting (renewed_by format_valid) }
 {}

@@ -7,7 +7,7 @@ use coap_dedup::{NON_LIFETIME, Records, Refused, Seen, laws};
 use coap_exchange::{AdmitError, Exchanges, Joining, Opening, Waiters};
 use coap_message::{Kind, OptionList, OutOfMemory, Pieces, Seq, Token};
 use coap_target::{Endpoint, Ip, Target};
-use endpoint_counts::Peer;
+use endpoint_counts::DigestedEndpoint;
 use std::alloc::Global;
 use std::process::Abort;
 use std::test::*;
@@ -48,7 +48,7 @@ fn open(
     assert!(rt; exchanges.admitted() < u64::MAX);
     let key = key(alloc)?;
     let opening = Opening {
-        client: Peer::new(client(port)),
+        client: DigestedEndpoint::new(client(port)),
         key: &key,
         is_get: true,
         form: Seq::new(alloc),

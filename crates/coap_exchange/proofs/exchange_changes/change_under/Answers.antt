@@ -2,7 +2,7 @@ use Rattle.std.proofs.Common.{◌≡◌, nat_eq, Some, None, Option, ap, subst, 
 use Rattle.std.specs.Prelude.{IfSome}
 use Rattle.std.specs.Map.{set_value}
 use Rattle.coap_pending.specs.declared.exchange.Exchange.{Exchange}
-use Rattle.coap_pending.specs.Exchanges.{changed_by, CanChange}
+use Rattle.coap_pending.specs.Exchanges.{after_transition, CanChange}
 use Rattle.coap_exchange.specs.Index.{keys_at}
 use Rattle.coap_exchange.proofs.Places.{IsAt-of}
 use Rattle.coap_exchange.proofs.exchange_changes.change_under.Goals as goal
@@ -25,7 +25,7 @@ returns-clause-found c =
     let at = IsAt-of c.args.number c.args.exchanges.now.entries c.in-Some.place c.get_index_mut.ensures.unique c.in-Some.ensures.found in
     let same : Some c.in-Some-get_index_mut.exchange.now ≡ Some at.item = c.in-Some-get_index_mut.ensures.value ∙ at.here in
     let one : c.in-Some-get_index_mut.exchange.now ≡ at.item = cc in
-    rw at.found (at.written c.change.new.self ∙ ap (set_value (nat_eq c.args.number) c.args.exchanges.now.entries) (c.change.ensures.exact ∙ ap (changed_by c.args.change) one))
+    rw at.found (at.written c.change.new.self ∙ ap (set_value (nat_eq c.args.number) c.args.exchanges.now.entries) (c.change.ensures.exact ∙ ap (after_transition c.args.change) one))
 
 pub returns-clause-missing : goal.returns-clause-missing
 returns-clause-missing c =
@@ -37,4 +37,4 @@ returns-clause-keys c =
     let at = IsAt-of c.args.number c.args.exchanges.now.entries c.in-Some.place c.get_index_mut.ensures.unique c.in-Some.ensures.found in
     let same : Some c.in-Some-get_index_mut.exchange.now ≡ Some at.item = c.in-Some-get_index_mut.ensures.value ∙ at.here in
     let one : c.in-Some-get_index_mut.exchange.now ≡ at.item = cc in
-    rw at.found (c.keys_of.ensures.exact ∙ ap (λ x. keys_at c.args.secret (Some x)) (c.change.ensures.exact ∙ ap (changed_by c.args.change) one))
+    rw at.found (c.keys_of.ensures.exact ∙ ap (λ x. keys_at c.args.secret (Some x)) (c.change.ensures.exact ∙ ap (after_transition c.args.change) one))

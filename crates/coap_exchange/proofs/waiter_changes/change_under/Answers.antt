@@ -2,7 +2,7 @@ use Rattle.std.proofs.Common.{◌≡◌, nat_eq, Some, None, Option, ap, subst, 
 use Rattle.std.specs.Prelude.{IfSome}
 use Rattle.std.specs.Map.{set_value}
 use Rattle.coap_pending.specs.declared.waiter.Waiter.{Waiter}
-use Rattle.coap_pending.specs.Waiters.{changed_by, CanChange}
+use Rattle.coap_pending.specs.Waiters.{after_transition, CanChange}
 use Rattle.coap_exchange.specs.WaiterIndex.{waiter_keys_at}
 use Rattle.coap_exchange.proofs.Places.{IsAt-of}
 use Rattle.coap_exchange.proofs.waiter_changes.change_under.Goals as goal
@@ -25,7 +25,7 @@ returns-clause-found c =
     let at = IsAt-of c.args.number c.args.waiters.now.entries c.in-Some.place c.get_index_mut.ensures.unique c.in-Some.ensures.found in
     let same : Some c.in-Some-get_index_mut.waiter.now ≡ Some at.item = c.in-Some-get_index_mut.ensures.value ∙ at.here in
     let one : c.in-Some-get_index_mut.waiter.now ≡ at.item = cc in
-    rw at.found (at.written c.change.new.self ∙ ap (set_value (nat_eq c.args.number) c.args.waiters.now.entries) (c.change.ensures.exact ∙ ap (changed_by c.args.change) one))
+    rw at.found (at.written c.change.new.self ∙ ap (set_value (nat_eq c.args.number) c.args.waiters.now.entries) (c.change.ensures.exact ∙ ap (after_transition c.args.change) one))
 
 pub returns-clause-missing : goal.returns-clause-missing
 returns-clause-missing c =
@@ -37,4 +37,4 @@ returns-clause-keys c =
     let at = IsAt-of c.args.number c.args.waiters.now.entries c.in-Some.place c.get_index_mut.ensures.unique c.in-Some.ensures.found in
     let same : Some c.in-Some-get_index_mut.waiter.now ≡ Some at.item = c.in-Some-get_index_mut.ensures.value ∙ at.here in
     let one : c.in-Some-get_index_mut.waiter.now ≡ at.item = cc in
-    rw at.found (c.waiter_keys_of.ensures.exact ∙ ap (λ x. waiter_keys_at (Some x)) (c.change.ensures.exact ∙ ap (changed_by c.args.change) one))
+    rw at.found (c.waiter_keys_of.ensures.exact ∙ ap (λ x. waiter_keys_at (Some x)) (c.change.ensures.exact ∙ ap (after_transition c.args.change) one))

@@ -13,9 +13,9 @@ returns g c =
     (λ last.
     line-made c.args.line.now.items c.put_head.new.line.items c.put_event.new.line.items c.put_outcome.new.line.items c.write_all.new.self.items
     (codes "# ") (decimal c.args.core.now.events) (codes " ") (decimal c.args.turn.now) (codes " ") c.args.beside.time.now
-    (spec.source_text event) (spec.message_text event) (spec.taken_text c.args.beside.taken.now)
+    (spec.source_text event) (spec.message_text event) (spec.routed_text c.args.beside.routed.now)
     (spec.outcome_text c.args.turn.report)
-    (spec.details_of event c.args.turn.report c.args.turn.sent.now c.args.turn.now c.args.core.now (spec.noted_seen c.args.beside.before))
+    (spec.details_of event c.args.turn.report c.args.turn.sent.now c.args.turn.now c.args.core.now (spec.noted_seen c.args.beside.noted))
     (codes "\n")
     (rw c.events.ensures.exact at c.in_ok-put_head.ensures) c.in_ok-put_event.ensures c.in_ok-put_outcome.ensures last)
     c.write_all.ensures.bytes

@@ -9,7 +9,7 @@ use Rattle.coap_message.specs.OptRef.{seen}
 use Rattle.coap_message.specs.Options.{AreOptions, from_number, last_number}
 use Rattle.coap_message.specs.Spelling.{option_spelling, options_spelling}
 use Rattle.coap_message.proofs.Appending.{Appends-part}
-use Rattle.coap_option.specs.Selection.{goes_on}
+use Rattle.coap_option.specs.Selection.{is_forwarded}
 use Rattle.coap_forward.specs.Gaps.{end_of, is_in, meets, others_in}
 use Rattle.coap_store.proofs.PickedWriting.{picked, written-all, written-next}
 use Rattle.coap_forward.proofs.Gaps.{AreOptions-others, last-others, known-others, no-others, whole-gap}
@@ -78,18 +78,18 @@ returns-in_err-put_option-clause-written c =
     let m = c.args.form.request.now in
     let l = c.loop-option in
     let o = seen c.in-Some-option.option in
-    let on = rw c.code.ensures.exact at c.if-goes_on.ensures in
+    let on = rw c.code.ensures.exact at c.if-is_forwarded.ensures in
     let has = c.if-has.ensures in
-    let next = picked (λ o. is_in c.args.gap o.number && goes_on m.code o) _ _ _ c.in-Some-option.ensures.steps (sym (λ i. has i && on i)) in
+    let next = picked (λ o. is_in c.args.gap o.number && is_forwarded m.code o) _ _ _ c.in-Some-option.ensures.steps (sym (λ i. has i && on i)) in
     let p = err_from_is_err_and c.from_residual.result c.from_residual.ensures.1 in
     rw p.1 (Appends-part c.args.out.now l.out c.put_option.new.out c.args.room (option_spelling l.last o) (options_spelling o.number (others_in m.code c.args.gap c.next.new.self))
     (options_spelling c.args.before (others_in m.code c.args.gap m.options)) c.in_err-put_option.field-0.0 p.0 l.invariant.room l.invariant.longer (rw next at l.invariant.written) c.in_err-put_option.ensures)
 
-pub loop-option-preserved-then-goes_on : goal.loop-option-preserved-then-goes_on
-loop-option-preserved-then-goes_on c =
-    let on = rw c.code.ensures.exact at c.if-goes_on.ensures in
+pub loop-option-preserved-then-is_forwarded : goal.loop-option-preserved-then-is_forwarded
+loop-option-preserved-then-is_forwarded c =
+    let on = rw c.code.ensures.exact at c.if-is_forwarded.ensures in
     let has = c.if-has.ensures in
-    let next = picked (λ o. is_in c.args.gap o.number && goes_on c.args.form.request.now.code o) _ _ _ c.in-Some-option.ensures.steps (sym (λ i. has i && on i)) in
+    let next = picked (λ o. is_in c.args.gap o.number && is_forwarded c.args.form.request.now.code o) _ _ _ c.in-Some-option.ensures.steps (sym (λ i. has i && on i)) in
     written-next _ _ _ _ _ _ _ _ _ _ next c.loop-option.invariant c.in_ok-put_option.ensures
 
 pub returns-clause-written : goal.returns-clause-written

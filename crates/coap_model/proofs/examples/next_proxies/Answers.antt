@@ -19,4 +19,4 @@ use Rattle.coap_model.proofs.examples.next_proxies.Goals as goal
 
 pub returns : goal.returns
 unfolding digits ipv4_of ipv6_between read_number read_octet read_ipv4 target_sent key_sent read_message body_at options_within option_at extended spelling option_spelling uint_spelling mapped_target by_scheme request_target token_of target_options verdict_of form_fits answer_of changed_by with_id message_in
-returns c = record { nowhere = refl; other_ports = refl; shared = refl; of_an_address = refl; of_a_known_host = refl; local = refl; refused = refl; without_names = refl; impostor = refl; validated = refl; changed = refl; form = refl; read_back = refl; of_client = refl; port_alone = refl; held = refl }
+returns c = record { nowhere = refl; other_ports = refl; shared = refl; of_an_address = refl; of_a_known_host = refl; local = refl; refused = refl; without_names = refl; impostor = refl; validated = refl; changed = refl; form = refl; read_back = refl; of_waiter = refl; port_alone = refl; held = refl }

@@ -18,4 +18,4 @@ use Rattle.coap_model.proofs.examples.options.Goals as goal
 
 pub returns : goal.returns
 unfolding ipv4_of ipv6_between read_number read_octet read_ipv4 target_sent key_sent read_message body_at options_within option_at extended spelling option_spelling uint_spelling mapped_target by_scheme request_target token_of target_options verdict_of form_fits answer_of changed_by with_id message_in
-returns c = record { form = refl; read_back = refl; odd_form = refl; own_tag = refl; of_client = refl; sent_on = refl; held = refl; other_tag = refl; held_bytes = refl; accepted = refl; observed = refl; long_observed = refl; odd_observe = refl; safe = refl; not_safe = refl; fits = refl; does_not = refl; refused = refl; no_map = refl; to_sensor = refl }
+returns c = record { form = refl; read_back = refl; odd_form = refl; own_tag = refl; of_waiter = refl; sent_on = refl; held = refl; other_tag = refl; held_bytes = refl; accepted = refl; observed = refl; long_observed = refl; odd_observe = refl; safe = refl; not_safe = refl; fits = refl; does_not = refl; refused = refl; no_map = refl; to_sensor = refl }

@@ -1,5 +1,5 @@
 use Rattle.coap_model.proofs.Once.{sent-once, ended-once, served-once}
-use Rattle.coap_model.proofs.FinishedClients.{gone-for-good}
+use Rattle.coap_model.proofs.FinishedWaiters.{gone-for-good}
 use Rattle.coap_model.proofs.history_laws.nothing_is_done_twice.Goals as goal
 
 pub returns : goal.returns

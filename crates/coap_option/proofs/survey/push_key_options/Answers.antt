@@ -11,12 +11,12 @@ loop-option-init c =
 
 pub returns-in_err-push-clause-err : goal.returns-in_err-push-clause-err
 returns-in_err-push-clause-err c =
-    let on = rw c.code-code.ensures.exact at c.if-goes_on.ensures in
+    let on = rw c.code-code.ensures.exact at c.if-is_forwarded.ensures in
     let kept = c.if-not-is_no_cache_key.ensures in
     on_err c.from_residual.result (key-some c.args.request.now _ _ _ _ c.in-Some.ensures.steps c.loop-option.invariant (sym (λ i. on i && not (kept i))))
 
 pub loop-option-preserved-then-not-is_no_cache_key : goal.loop-option-preserved-then-not-is_no_cache_key
 loop-option-preserved-then-not-is_no_cache_key c =
-    let on = rw c.code-code.ensures.exact at c.if-goes_on.ensures in
+    let on = rw c.code-code.ensures.exact at c.if-is_forwarded.ensures in
     let kept = c.if-not-is_no_cache_key.ensures in
     rw c.in_ok-push.ensures.ok (key-more c.args.request.now _ _ _ _ c.in-Some.ensures.steps c.loop-option.invariant (sym (λ i. on i && not (kept i))))

@@ -15,8 +15,8 @@ returns c =
     on_ok_weaker c.put-2.result
     (λ last.
     added c.args.out.now.items _ _ _ _ _ _ _ _ _ _ _ _ (spec.words_text (spec.traffic_words s.tally)) (spec.words_text (spec.request_words s.tally.requests)) (spec.words_text (spec.refusal_words s.tally.requests.refused))
-    (spec.words_text (spec.answer_words s.tally.answers)) (spec.words_text (spec.opening_words s.openings)) (spec.words_text (spec.eviction_words s.evictions)) (flat_map spec.share_text (spec.shares c.args.counts.now c.args.limits.now)) _
+    (spec.words_text (spec.answer_words s.tally.answers)) (spec.words_text (spec.opening_words s.openings)) (spec.words_text (spec.eviction_words s.evictions)) (flat_map spec.fill_text (spec.fills c.args.counts.now c.args.limits.now)) _
     c.in_ok-put.ensures c.in_ok-put_number.ensures (rw c.traffic_words.ensures at c.in_ok-put_words.ensures) (rw c.request_words.ensures at c.in_ok-put_words-2.ensures)
     (rw c.refusal_words.ensures at c.in_ok-put_words-3.ensures) (rw c.answer_words.ensures at c.in_ok-put_words-4.ensures) (rw c.opening_words.ensures at c.in_ok-put_words-5.ensures)
-    (rw c.eviction_words.ensures at c.in_ok-put_words-6.ensures) (rw c.shares.ensures at c.in_ok-put_shares.ensures) last)
+    (rw c.eviction_words.ensures at c.in_ok-put_words-6.ensures) (rw c.fills.ensures at c.in_ok-put_fills.ensures) last)
     c.put-2.ensures

@@ -1,9 +1,9 @@
 use Rattle.std.proofs.Common.{◌≡◌, ◌++◌, map, take}
 use Rattle.std.specs.List.{flat_map}
-use Rattle.coap_stats.specs.Line.{share_seen}
+use Rattle.coap_stats.specs.Line.{fill_seen}
 use Rattle.coap_stats.specs.Metrics.{count_text}
 use Rattle.coap_stats.proofs.metrics.put_counts_of.Given as goal
 
 -- the lines of those so far were added
-abbrev pub invariant-loop-share : goal.invariant-loop-share
-invariant-loop-share l = l.out.items ≡ l.initial.out.items ++ flat_map (count_text l.listen) (map share_seen (take l.share-index l.shares))
+abbrev pub invariant-loop-fill : goal.invariant-loop-fill
+invariant-loop-fill l = l.out.items ≡ l.initial.out.items ++ flat_map (count_text l.listen) (map fill_seen (take l.fill-index l.fills))

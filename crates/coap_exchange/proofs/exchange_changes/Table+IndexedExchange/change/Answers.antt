@@ -1,7 +1,7 @@
 use Rattle.std.proofs.Common.{refl, sym, subst}
 use Rattle.std.specs.Prelude.{IfSome, Option}
 use Rattle.coap_pending.specs.declared.exchange.Exchange.{Exchange}
-use Rattle.coap_pending.specs.Exchanges.{changed_by, CanChange}
+use Rattle.coap_pending.specs.Exchanges.{after_transition, CanChange}
 use Rattle.coap_pending.specs.Table.{Table, by_number, item_at}
 use Rattle.coap_pending.proofs.Changes.{changed_at-is, written-is}
 use Rattle.coap_pending.proofs.ByNumber.{item_at-by_number}
@@ -14,12 +14,12 @@ change_under-requires c =
 
 pub invariant_of-self : goal.invariant_of-self
 invariant_of-self c =
-    rw (written-is c.args.number (changed_by c.args.change) 0 c.self.inside.items.entries c.change_under.new.exchanges.entries c.self.invariant.rising c.change_under.ensures.found c.change_under.ensures.missing)
-    (changed_at-is c.args.number (changed_by c.args.change) (record { items = by_number c.self.inside.items.entries; limit = c.self.inside.limit; per_client = c.self.inside.per_client; admitted = c.self.inside.admitted }) c.self.invariant)
+    rw (written-is c.args.number (after_transition c.args.change) 0 c.self.inside.items.entries c.change_under.new.exchanges.entries c.self.invariant.rising c.change_under.ensures.found c.change_under.ensures.missing)
+    (changed_at-is c.args.number (after_transition c.args.change) (record { items = by_number c.self.inside.items.entries; limit = c.self.inside.limit; per_client = c.self.inside.per_client; admitted = c.self.inside.admitted }) c.self.invariant)
 
 pub returns-clause-changed : goal.returns-clause-changed
 returns-clause-changed c =
-    rw (← c.self.view_is, written-is c.args.number (changed_by c.args.change) 0 c.self.inside.items.entries c.change_under.new.exchanges.entries c.self.invariant.rising c.change_under.ensures.found c.change_under.ensures.missing) refl
+    rw (← c.self.view_is, written-is c.args.number (after_transition c.args.change) 0 c.self.inside.items.entries c.change_under.new.exchanges.entries c.self.invariant.rising c.change_under.ensures.found c.change_under.ensures.missing) refl
 
 pub returns-clause-keys : goal.returns-clause-keys
 returns-clause-keys c =

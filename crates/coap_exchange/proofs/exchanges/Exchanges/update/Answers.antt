@@ -1,6 +1,6 @@
 use Rattle.std.proofs.Common.{◌∙◌, refl, rules, subst, sym}
 use Rattle.coap_pending.specs.declared.exchange.Exchange.{Exchange}
-use Rattle.coap_pending.specs.Exchanges.{changed_by, CanUpdate}
+use Rattle.coap_pending.specs.Exchanges.{after_transition, CanUpdate}
 use Rattle.coap_exchange.specs.SendQueue.{head_may_change_at}
 use Rattle.coap_pending.specs.Table.{Table, item_at}
 use Rattle.coap_exchange.specs.Updates.{updated_at}
@@ -23,18 +23,18 @@ rekey-requires c =
     let is = c.get-found.ensures.sound in
     let n = c.args.number in
     let t = c.self.inside.table in
-    let ys = updated_at changed_by c.args.change n t.items in
+    let ys = updated_at after_transition c.args.change n t.items in
     rw (c.keys_in-was.ensures.exact, c.get-found.ensures.exact, c.update-is.ensures.keys)
-    (can-pass-as n t.limit t.items ys c.self.inside.index (moves-updated changed_by n t is c.args.change) c.self.invariant.2 _ _ refl (updated-at changed_by n c.args.change t.items) (updated-is changed_by n t is c.args.change).within)
+    (can-pass-as n t.limit t.items ys c.self.inside.index (moves-updated after_transition n t is c.args.change) c.self.invariant.2 _ _ refl (updated-at after_transition n c.args.change t.items) (updated-is after_transition n t is c.args.change).within)
 
 pub head_of-next-requires-clause-indexed : goal.head_of-next-requires-clause-indexed
 head_of-next-requires-clause-indexed c =
     let is = c.get-found.ensures.sound in
     let n = c.args.number in
     let t = c.self.inside.table in
-    let ys = updated_at changed_by c.args.change n t.items in
+    let ys = updated_at after_transition c.args.change n t.items in
     let passed = rw (c.keys_in-was.ensures.exact, c.get-found.ensures.exact, c.update-is.ensures.keys) at c.rekey.ensures.exact in
-    rw c.update-is.ensures.updated (have-passed-as n t.limit t.items ys c.self.inside.index (moves-updated changed_by n t is c.args.change) c.self.invariant.2 _ _ refl (updated-at changed_by n c.args.change t.items) c.rekey.new.self passed (updated-is changed_by n t is c.args.change).rising)
+    rw c.update-is.ensures.updated (have-passed-as n t.limit t.items ys c.self.inside.index (moves-updated after_transition n t is c.args.change) c.self.invariant.2 _ _ refl (updated-at after_transition n c.args.change t.items) c.rekey.new.self passed (updated-is after_transition n t is c.args.change).rising)
 
 pub replace-requires-clause-free : goal.replace-requires-clause-free
 replace-requires-clause-free c =
@@ -42,9 +42,9 @@ replace-requires-clause-free c =
     let is = c.get-found.ensures.sound in
     let n = c.args.number in
     let t = c.self.inside.table in
-    let ys = updated_at changed_by c.args.change n t.items in
+    let ys = updated_at after_transition c.args.change n t.items in
     rw (c.head_of-head.ensures.exact, c.head_of-next.ensures.exact, c.head_may_change_at-at.ensures.exact, c.get-found.ensures.exact, c.update-is.ensures.updated)
-    (send_queue-free n t.items ys (head_may_change_at c.args.change (item_at n t.items)) (moves-updated changed_by n t is c.args.change) is.rising (updated-is changed_by n t is c.args.change).rising (stays-updated n c.args.change t.items can) c.self.inside.send_queue c.self.invariant.3)
+    (send_queue-free n t.items ys (head_may_change_at c.args.change (item_at n t.items)) (moves-updated after_transition n t is c.args.change) is.rising (updated-is after_transition n t is c.args.change).rising (stays-updated n c.args.change t.items can) c.self.inside.send_queue c.self.invariant.3)
 
 pub replace-requires-clause-room : goal.replace-requires-clause-room
 replace-requires-clause-room c =
@@ -52,9 +52,9 @@ replace-requires-clause-room c =
     let is = c.get-found.ensures.sound in
     let n = c.args.number in
     let t = c.self.inside.table in
-    let ys = updated_at changed_by c.args.change n t.items in
+    let ys = updated_at after_transition c.args.change n t.items in
     rw (c.head_of-head.ensures.exact, c.head_of-next.ensures.exact, c.head_may_change_at-at.ensures.exact, c.get-found.ensures.exact, c.update-is.ensures.updated)
-    (send_queue-room n t.items ys (head_may_change_at c.args.change (item_at n t.items)) (moves-updated changed_by n t is c.args.change) is.rising (updated-is changed_by n t is c.args.change).rising (stays-updated n c.args.change t.items can) c.self.inside.send_queue c.self.invariant.3 (updated-off n c.args.change t.items can))
+    (send_queue-room n t.items ys (head_may_change_at c.args.change (item_at n t.items)) (moves-updated after_transition n t is c.args.change) is.rising (updated-is after_transition n t is c.args.change).rising (stays-updated n c.args.change t.items can) c.self.inside.send_queue c.self.invariant.3 (updated-off n c.args.change t.items can))
 
 pub invariant_of-self : goal.invariant_of-self
 invariant_of-self c =
@@ -62,19 +62,19 @@ invariant_of-self c =
     let is = c.get-found.ensures.sound in
     let n = c.args.number in
     let t = c.self.inside.table in
-    let ys = updated_at changed_by c.args.change n t.items in
-    let moves = moves-updated changed_by n t is c.args.change in
-    let rising = (updated-is changed_by n t is c.args.change).rising in
+    let ys = updated_at after_transition c.args.change n t.items in
+    let moves = moves-updated after_transition n t is c.args.change in
+    let rising = (updated-is after_transition n t is c.args.change).rising in
     let passed = rw (c.keys_in-was.ensures.exact, c.get-found.ensures.exact, c.update-is.ensures.keys) at c.rekey.ensures.exact in
     let len = rw (c.head_of-head.ensures.exact, c.head_of-next.ensures.exact, c.head_may_change_at-at.ensures.exact, c.get-found.ensures.exact, c.update-is.ensures.updated) at c.replace.ensures.length in
     let replaced = rw (c.head_of-head.ensures.exact, c.head_of-next.ensures.exact, c.head_may_change_at-at.ensures.exact, c.get-found.ensures.exact, c.update-is.ensures.updated) at c.replace.ensures.replaced in
     rw c.update-is.ensures.updated (
       exchanges-updated n t is c.args.change c.self.inside.queued c.queued_without-queued.result c.self.invariant.0 can c.queued_without-queued.ensures.fewer,
       counted-updated n t is c.args.change c.self.inside.endpoints c.recount-sent.new.endpoints c.self.invariant.1 c.recount-sent.ensures.all c.recount-sent.ensures.sent c.recount-sent.ensures.queued,
-      have-passed-as n t.limit t.items ys c.self.inside.index moves c.self.invariant.2 _ _ refl (updated-at changed_by n c.args.change t.items) c.rekey.new.self passed rising,
+      have-passed-as n t.limit t.items ys c.self.inside.index moves c.self.invariant.2 _ _ refl (updated-at after_transition n c.args.change t.items) c.rekey.new.self passed rising,
       send_queue-moved n t.items ys (head_may_change_at c.args.change (item_at n t.items)) moves is.rising rising (stays-updated n c.args.change t.items can) c.self.inside.send_queue c.self.invariant.3 (kept-updated n t is c.args.change) (updated-off n c.args.change t.items can) c.replace.new.self c.replace.ensures.limit len replaced,
-      of_clients-updated changed_by n t is (λ (x : Exchange). x.client) client-after c.args.change c.self.inside.clients c.depart.new.clients (rw (c.client_of_removed.ensures.exact, c.get-found.ensures.exact) at c.depart.ensures.exact) c.self.invariant.4,
-      within-updated changed_by n t is (λ (x : Exchange). x.client) client-after c.args.change c.self.invariant.5,
+      of_clients-updated after_transition n t is (λ (x : Exchange). x.client) client-after c.args.change c.self.inside.clients c.depart.new.clients (rw (c.client_of_removed.ensures.exact, c.get-found.ensures.exact) at c.depart.ensures.exact) c.self.invariant.4,
+      within-updated after_transition n t is (λ (x : Exchange). x.client) client-after c.args.change c.self.invariant.5,
       record { for_heads = c.replace.ensures.limit ∙ c.self.invariant.6.for_heads; for_endpoints = c.recount-sent.ensures.limit ∙ c.self.invariant.6.for_endpoints; for_clients = c.depart.ensures.limit ∙ c.self.invariant.6.for_clients },
     )
 
@@ -88,7 +88,7 @@ head_of-next-requires-clause-sent c =
     let n = c.args.number in
     let t = c.self.inside.table in
     let counted = counted-updated n t c.get-found.ensures.sound c.args.change c.self.inside.endpoints c.recount-sent.new.endpoints c.self.invariant.1 c.recount-sent.ensures.all c.recount-sent.ensures.sent c.recount-sent.ensures.queued in
-    rw (c.head_may_change_at-at.ensures.exact, c.get-found.ensures.exact, c.update-is.ensures.updated) (head_may_change_at-sent c.args.change (item_at n t.items) c.recount-sent.result.is (updated_at changed_by c.args.change n t.items) c.recount-sent.new.endpoints counted c.recount-sent.ensures.is)
+    rw (c.head_may_change_at-at.ensures.exact, c.get-found.ensures.exact, c.update-is.ensures.updated) (head_may_change_at-sent c.args.change (item_at n t.items) c.recount-sent.result.is (updated_at after_transition c.args.change n t.items) c.recount-sent.new.endpoints counted c.recount-sent.ensures.is)
 
 pub head_of-head-requires-clause-indexed : goal.head_of-head-requires-clause-indexed
 head_of-head-requires-clause-indexed c = c.self.invariant.2

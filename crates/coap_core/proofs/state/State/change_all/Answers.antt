@@ -1,5 +1,0 @@
-use Rattle.std.proofs.Common.{rules}
-use Rattle.coap_core.proofs.state.State.change_all.Goals as goal
-
-pub returns-in-Some-created : goal.returns-in-Some-created
-returns-in-Some-created g c = search rules

@@ -1,5 +1,0 @@
-use Rattle.coap_store.proofs.Updates.{AreOptions-updated, of_number-updated}
-use Rattle.coap_store.proofs.laws.kinds_are_replaced.Goals as goal
-
-pub returns : goal.returns
-returns c = record { kinds = λ n newer older are. of_number-updated n 0 newer older are; in_order = AreOptions-updated 0 }
