@@ -126,7 +126,10 @@ fn waiting_without(
 }
 
 /// The client of a waiter that is removed, if it is and there is one.
-fn client_of_removed(found: Option<&Waiter>, change: &Option<WaiterTransition>) -> Option<DigestedEndpoint>
+fn client_of_removed(
+    found: Option<&Waiter>,
+    change: &Option<WaiterTransition>,
+) -> Option<DigestedEndpoint>
     ensures exact { result ≡ client_of_removed (λ w. w.client) change.now (option_copied found.entry) }
 {
     match (found, change) {
