@@ -141,7 +141,7 @@ impl<S: Store + Drop> State<S> {
         ensures { result
             ≡ nat_le (deadline self.now.setting.limits.exchange_ms exchange.now) now }
     {
-        now.saturating_sub(exchange.opened_at) >= self.setting.limits.values().exchange_ms
+        now.saturating_sub(exchange.admitted) >= self.setting.limits.values().exchange_ms
     }
 
     /// Sends the request of an exchange to its origin, with a new Message ID. It is to be sent

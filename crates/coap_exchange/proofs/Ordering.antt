@@ -31,7 +31,7 @@ use Rattle.coap_pending.proofs.Changes.{IsRising-all_changed}
 
 -- what is there was there, and was admitted at the same moment
 abbrev pub AreKept : List (Numbered Exchange) → List (Numbered Exchange) → Type 0
-AreKept xs ys = (q : ℕ) (y : Exchange) → item_at q ys ≡ Some y → (x : Exchange) × (item_at q xs ≡ Some x) × (x.opened_at ≡ y.opened_at)
+AreKept xs ys = (q : ℕ) (y : Exchange) → item_at q ys ≡ Some y → (x : Exchange) × (item_at q xs ≡ Some x) × (x.admitted ≡ y.admitted)
 
 -- so it stays in order
 pub order-kept : (xs ys : List (Numbered Exchange)) (latest : ℕ) → AreKept xs ys → AreInOrder xs latest → AreInOrder ys latest
@@ -46,11 +46,11 @@ order-kept xs ys latest kept are = record {
 }
 
 -- where one item changes, the others are kept
-moved-kept : (n : ℕ) (xs ys : List (Numbered Exchange)) → Moves n xs ys → ((y : Exchange) → item_at n ys ≡ Some y → (x : Exchange) × (item_at n xs ≡ Some x) × (x.opened_at ≡ y.opened_at)) → AreKept xs ys
+moved-kept : (n : ℕ) (xs ys : List (Numbered Exchange)) → Moves n xs ys → ((y : Exchange) → item_at n ys ≡ Some y → (x : Exchange) × (item_at n xs ≡ Some x) × (x.admitted ≡ y.admitted)) → AreKept xs ys
 moved-kept n xs ys moves here = λ q y f. go q y f (eqb q n) refl
   where
-    go : (q : ℕ) (y : Exchange) → item_at q ys ≡ Some y → (b : Bool) → eqb q n ≡ b → (x : Exchange) × (item_at q xs ≡ Some x) × (x.opened_at ≡ y.opened_at)
-    go q y f true e = subst (λ (m : ℕ). (x : Exchange) × (item_at m xs ≡ Some x) × (x.opened_at ≡ y.opened_at)) (sym (eqb-true q n e)) (here y (subst (λ (m : ℕ). item_at m ys ≡ Some y) (eqb-true q n e) f))
+    go : (q : ℕ) (y : Exchange) → item_at q ys ≡ Some y → (b : Bool) → eqb q n ≡ b → (x : Exchange) × (item_at q xs ≡ Some x) × (x.admitted ≡ y.admitted)
+    go q y f true e = subst (λ (m : ℕ). (x : Exchange) × (item_at m xs ≡ Some x) × (x.admitted ≡ y.admitted)) (sym (eqb-true q n e)) (here y (subst (λ (m : ℕ). item_at m ys ≡ Some y) (eqb-true q n e) f))
     go q y f false e = (y, sym (moves.others q e) ∙ f, refl)
 
 -- one goes
@@ -58,26 +58,26 @@ pub kept-without : (n : ℕ) (xs : List (Numbered Exchange)) → Moves n xs (wit
 kept-without n xs moves = moved-kept n xs (without n xs) moves (λ y f. absurd (let gone = without-gone n xs in cc))
 
 -- what is made of an item is of one
-made-of : (f : Exchange → Exchange) → ((x : Exchange) → (f x).opened_at ≡ x.opened_at) → (o : Option Exchange) (y : Exchange) → option_map f o ≡ Some y → (x : Exchange) × (o ≡ Some x) × (x.opened_at ≡ y.opened_at)
+made-of : (f : Exchange → Exchange) → ((x : Exchange) → (f x).admitted ≡ x.admitted) → (o : Option Exchange) (y : Exchange) → option_map f o ≡ Some y → (x : Exchange) × (o ≡ Some x) × (x.admitted ≡ y.admitted)
 made-of f same None y e = absurd cc
-made-of f same (Some x) y e = (x, refl, let g : f x ≡ y = cc in sym (same x) ∙ ap (λ (z : Exchange). z.opened_at) g)
+made-of f same (Some x) y e = (x, refl, let g : f x ≡ y = cc in sym (same x) ∙ ap (λ (z : Exchange). z.admitted) g)
 
 -- one changes
-pub kept-changed : (n : ℕ) (f : Exchange → Exchange) (xs : List (Numbered Exchange)) → ((x : Exchange) → (f x).opened_at ≡ x.opened_at) → Moves n xs (changed_at n f xs) → AreKept xs (changed_at n f xs)
+pub kept-changed : (n : ℕ) (f : Exchange → Exchange) (xs : List (Numbered Exchange)) → ((x : Exchange) → (f x).admitted ≡ x.admitted) → Moves n xs (changed_at n f xs) → AreKept xs (changed_at n f xs)
 kept-changed n f xs same moves = moved-kept n xs (changed_at n f xs) moves (λ y g. made-of f same (item_at n xs) y (sym (changed-at n f xs) ∙ g))
 
 -- a change leaves the moment of the admission
-pub admitted-after : (ch : Transition) (x : Exchange) → (after_transition ch x).opened_at ≡ x.opened_at
+pub admitted-after : (ch : Transition) (x : Exchange) → (after_transition ch x).admitted ≡ x.admitted
 admitted-after (transition.Send s) x = refl
 admitted-after (transition.Fire now) x = refl
 admitted-after transition.Acknowledge x = refl
 admitted-after (transition.Answer a) x = refl
 
 -- and so does a taint
-admitted-tainted : (target : Target) (x : Exchange) → (tainted_by target x).opened_at ≡ x.opened_at
+admitted-tainted : (target : Target) (x : Exchange) → (tainted_by target x).admitted ≡ x.admitted
 admitted-tainted target x = go (is_changed_with target x)
   where
-    go : (b : Bool) → (cond b (record x { tainted = true }) x).opened_at ≡ x.opened_at
+    go : (b : Bool) → (cond b (record x { tainted = true }) x).admitted ≡ x.admitted
     go true = refl
     go false = refl
 
@@ -124,7 +124,7 @@ none-past most n (z ∷ ys) all lt = go (eqb n z.0) refl (none-past most n ys al
     go false h rest = rest
 
 -- one is admitted in order, where it is no earlier than the latest
-order-admitted : (t : Table Exchange) (latest now : ℕ) (x : Exchange) → IsTable t → x.opened_at ≡ now → latest ≤ now → AreInOrder t.items latest → AreInOrder (admitted_to x t).items now
+order-admitted : (t : Table Exchange) (latest now : ℕ) (x : Exchange) → IsTable t → x.admitted ≡ now → latest ≤ now → AreInOrder t.items latest → AreInOrder (admitted_to x t).items now
 order-admitted t latest now x is e le are = record {
   early = λ n y f. early n y f (eqb n (t.admitted + 1)) refl;
   order = λ n m y z f g lt. order n m y z f g lt (eqb n (t.admitted + 1)) refl (eqb m (t.admitted + 1)) refl;
@@ -140,18 +140,18 @@ order-admitted t latest now x is e le are = record {
     low q y f true g = grind (arith, nat_tests)
     low q y f false g = absurd (let none = none-past t.admitted q t.items is.below (grind (arith, nat_tests)) in cc)
 
-    early : (n : ℕ) (y : Exchange) → item_at n (admitted_to x t).items ≡ Some y → (b : Bool) → eqb n (t.admitted + 1) ≡ b → y.opened_at ≤ now
+    early : (n : ℕ) (y : Exchange) → item_at n (admitted_to x t).items ≡ Some y → (b : Bool) → eqb n (t.admitted + 1) ≡ b → y.admitted ≤ now
     early n y f true g =
         let same = new y (subst (λ (m : ℕ). item_at m (admitted_to x t).items ≡ Some y) (eqb-true n (t.admitted + 1) g) f) in
-        let moment : x.opened_at ≡ y.opened_at = ap (λ (z : Exchange). z.opened_at) same in
+        let moment : x.admitted ≡ y.admitted = ap (λ (z : Exchange). z.admitted) same in
         omega arith
     early n y f false g = let before = are.early n y (sym (moves.others n g) ∙ f) in omega arith
 
-    order : (n m : ℕ) (y z : Exchange) → item_at n (admitted_to x t).items ≡ Some y → item_at m (admitted_to x t).items ≡ Some z → n < m → (b : Bool) → eqb n (t.admitted + 1) ≡ b → (c : Bool) → eqb m (t.admitted + 1) ≡ c → y.opened_at ≤ z.opened_at
+    order : (n m : ℕ) (y z : Exchange) → item_at n (admitted_to x t).items ≡ Some y → item_at m (admitted_to x t).items ≡ Some z → n < m → (b : Bool) → eqb n (t.admitted + 1) ≡ b → (c : Bool) → eqb m (t.admitted + 1) ≡ c → y.admitted ≤ z.admitted
     order n m y z f g lt false h false k = are.order n m y z (sym (moves.others n h) ∙ f) (sym (moves.others m k) ∙ g) lt
     order n m y z f g lt false h true k =
         let same = new z (subst (λ (q : ℕ). item_at q (admitted_to x t).items ≡ Some z) (eqb-true m (t.admitted + 1) k) g) in
-        let moment : x.opened_at ≡ z.opened_at = ap (λ (w : Exchange). w.opened_at) same in
+        let moment : x.admitted ≡ z.admitted = ap (λ (w : Exchange). w.admitted) same in
         let before = are.early n y (sym (moves.others n h) ∙ f) in
         omega arith
     order n m y z f g lt true h false k =
@@ -164,7 +164,7 @@ order-admitted t latest now x is e le are = record {
         absurd (omega arith)
 
 -- one is admitted
-pub send_queue-admitted : (t : Table Exchange) (x : Exchange) (now : ℕ) (send_queue new : SendQueue) → IsTable t → x.opened_at ≡ now → IsSendQueue t.items send_queue → AreHeads (admitted_to x t).items new.heads → new.in_order ≡ (send_queue.in_order && leb send_queue.latest now) → new.latest ≡ max send_queue.latest now → IsSendQueue (admitted_to x t).items new
+pub send_queue-admitted : (t : Table Exchange) (x : Exchange) (now : ℕ) (send_queue new : SendQueue) → IsTable t → x.admitted ≡ now → IsSendQueue t.items send_queue → AreHeads (admitted_to x t).items new.heads → new.in_order ≡ (send_queue.in_order && leb send_queue.latest now) → new.latest ≡ max send_queue.latest now → IsSendQueue (admitted_to x t).items new
 send_queue-admitted t x now send_queue new is e are heads flag latest = record {
   heads = heads;
   order = λ f. go send_queue.in_order refl (leb send_queue.latest now) refl (sym flag ∙ f);
@@ -186,14 +186,14 @@ module _ (nstart : ℕ) (xs : List (Numbered Exchange)) (send_queue : SendQueue)
   turn x = turn_among nstart xs x
 
   -- it is the turn of one that waits, where fewer are sent to its endpoint
-  turn-on : (x : Exchange) → is_queued x ≡ true → count (is_sent_to x.key.target.at) xs < nstart → turn_among nstart xs x ≡ Some x.opened_at
+  turn-on : (x : Exchange) → is_queued x ≡ true → count (is_sent_to x.key.target.at) xs < nstart → turn_among nstart xs x ≡ Some x.admitted
   turn-on x q lt = let free : leb nstart (count (is_sent_to x.key.target.at) xs) ≡ false = grind (arith, nat_tests) in rw (q, free) refl
 
   -- and of no other
-  turn-only : (x : Exchange) → (turn_among nstart xs x ≡ None) ⊎ ((turn_among nstart xs x ≡ Some x.opened_at) × (is_queued x ≡ true) × (count (is_sent_to x.key.target.at) xs < nstart))
+  turn-only : (x : Exchange) → (turn_among nstart xs x ≡ None) ⊎ ((turn_among nstart xs x ≡ Some x.admitted) × (is_queued x ≡ true) × (count (is_sent_to x.key.target.at) xs < nstart))
   turn-only x = go (is_queued x) refl (leb nstart (count (is_sent_to x.key.target.at) xs)) refl
     where
-      go : (b : Bool) → is_queued x ≡ b → (c : Bool) → leb nstart (count (is_sent_to x.key.target.at) xs) ≡ c → (turn_among nstart xs x ≡ None) ⊎ ((turn_among nstart xs x ≡ Some x.opened_at) × (is_queued x ≡ true) × (count (is_sent_to x.key.target.at) xs < nstart))
+      go : (b : Bool) → is_queued x ≡ b → (c : Bool) → leb nstart (count (is_sent_to x.key.target.at) xs) ≡ c → (turn_among nstart xs x ≡ None) ⊎ ((turn_among nstart xs x ≡ Some x.admitted) × (is_queued x ≡ true) × (count (is_sent_to x.key.target.at) xs < nstart))
       go true e false f = inr (turn-on x e (grind (arith, nat_tests)), e, grind (arith, nat_tests))
       go true e true f = inl (rw (e, f) refl)
       go false e c f = inl (rw e refl)
@@ -215,7 +215,7 @@ module _ (nstart : ℕ) (xs : List (Numbered Exchange)) (send_queue : SendQueue)
   pub turn-none : IsLowestUnder nstart send_queue.heads.pairs None → None ≡ first_due (turn_among nstart xs) xs
   turn-none none = same_first {P = IsDueIn (turn_among nstart xs) xs} {Q = IsDueIn (turn_among nstart xs) xs} None (first_due (turn_among nstart xs) xs) (λ x d. d) (λ x d. d) (record { least = λ x d. (let (m, y, there, e) = d in nothing x m y there e (turn-only y)); there = inl refl }) (first_due-is (turn_among nstart xs) 0 xs r)
     where
-      nothing : (x : Option Pair) (m : ℕ) (y : Exchange) → item_at m xs ≡ Some y → x ≡ as_due m (turn_among nstart xs y) → (turn_among nstart xs y ≡ None) ⊎ ((turn_among nstart xs y ≡ Some y.opened_at) × (is_queued y ≡ true) × (count (is_sent_to y.key.target.at) xs < nstart)) → sooner None x ≡ None
+      nothing : (x : Option Pair) (m : ℕ) (y : Exchange) → item_at m xs ≡ Some y → x ≡ as_due m (turn_among nstart xs y) → (turn_among nstart xs y ≡ None) ⊎ ((turn_among nstart xs y ≡ Some y.admitted) × (is_queued y ≡ true) × (count (is_sent_to y.key.target.at) xs < nstart)) → sooner None x ≡ None
       nothing x m y there e (inl f) = e ∙ ap (as_due m) f
       nothing x m y there e (inr f) =
           let (h, i, le) = head-in m y there f.1 in
@@ -231,38 +231,38 @@ module _ (nstart : ℕ) (xs : List (Numbered Exchange)) (send_queue : SendQueue)
       let a = there in cc
 
   -- of those that stand under fewer than `nstart` it is the turn of the least
-  pub turn-some : (n : ℕ) (x : Exchange) → IsLowestUnder nstart send_queue.heads.pairs (Some n) → item_at n xs ≡ Some x → Some (x.opened_at, n) ≡ first_due (turn_among nstart xs) xs
-  turn-some n x lowest there = same_first {P = IsDueIn (turn_among nstart xs) xs} {Q = IsDueIn (turn_among nstart xs) xs} (Some (x.opened_at, n)) (first_due (turn_among nstart xs) xs) (λ y d. d) (λ y d. d) (record { least = λ z d. (let (m, y, at, e) = d in later z m y at e (turn-only y)); there = inr here }) (first_due-is (turn_among nstart xs) 0 xs r)
+  pub turn-some : (n : ℕ) (x : Exchange) → IsLowestUnder nstart send_queue.heads.pairs (Some n) → item_at n xs ≡ Some x → Some (x.admitted, n) ≡ first_due (turn_among nstart xs) xs
+  turn-some n x lowest there = same_first {P = IsDueIn (turn_among nstart xs) xs} {Q = IsDueIn (turn_among nstart xs) xs} (Some (x.admitted, n)) (first_due (turn_among nstart xs) xs) (λ y d. d) (λ y d. d) (record { least = λ z d. (let (m, y, at, e) = d in later z m y at e (turn-only y)); there = inr here }) (first_due-is (turn_among nstart xs) 0 xs r)
     where
-      here : IsDueIn (turn_among nstart xs) xs (Some (x.opened_at, n))
+      here : IsDueIn (turn_among nstart xs) xs (Some (x.admitted, n))
       here =
           let (c, lt, i) = lowest.0 in
           let (y, at, q, many) = in-head c n i in
           let same : y ≡ x = (let a = at in cc) in
           let few : count (is_sent_to y.key.target.at) xs < nstart = omega arith in
-          (n, x, there, sym (ap (as_due n) (subst (λ (z : Exchange). turn_among nstart xs z ≡ Some z.opened_at) same (turn-on y q few))))
+          (n, x, there, sym (ap (as_due n) (subst (λ (z : Exchange). turn_among nstart xs z ≡ Some z.admitted) same (turn-on y q few))))
 
-      before : (m : ℕ) (y : Exchange) → item_at m xs ≡ Some y → n ≤ m → is_before (y.opened_at, m) (x.opened_at, n) ≡ false
+      before : (m : ℕ) (y : Exchange) → item_at m xs ≡ Some y → n ≤ m → is_before (y.admitted, m) (x.admitted, n) ≡ false
       before m y at le = go (eqb n m) refl
         where
-          go : (b : Bool) → eqb n m ≡ b → is_before (y.opened_at, m) (x.opened_at, n) ≡ false
+          go : (b : Bool) → eqb n m ≡ b → is_before (y.admitted, m) (x.admitted, n) ≡ false
           go true e =
               let one : n ≡ m = eqb-true n m e in
               let same : x ≡ y = (let a = subst (λ (q : ℕ). item_at q xs ≡ Some x) one there in cc) in
-              let moment : x.opened_at ≡ y.opened_at = ap (λ (z : Exchange). z.opened_at) same in
+              let moment : x.admitted ≡ y.admitted = ap (λ (z : Exchange). z.admitted) same in
               grind (arith, nat_tests)
           go false e =
               let other = eqb-false n m e in
               let lt : n < m = omega (arith, other) in
-              let order : x.opened_at ≤ y.opened_at = (are.order on).order n m x y there at lt in
+              let order : x.admitted ≤ y.admitted = (are.order on).order n m x y there at lt in
               grind (arith, nat_tests)
 
-      later : (z : Option Pair) (m : ℕ) (y : Exchange) → item_at m xs ≡ Some y → z ≡ as_due m (turn_among nstart xs y) → (turn_among nstart xs y ≡ None) ⊎ ((turn_among nstart xs y ≡ Some y.opened_at) × (is_queued y ≡ true) × (count (is_sent_to y.key.target.at) xs < nstart)) → sooner (Some (x.opened_at, n)) z ≡ Some (x.opened_at, n)
+      later : (z : Option Pair) (m : ℕ) (y : Exchange) → item_at m xs ≡ Some y → z ≡ as_due m (turn_among nstart xs y) → (turn_among nstart xs y ≡ None) ⊎ ((turn_among nstart xs y ≡ Some y.admitted) × (is_queued y ≡ true) × (count (is_sent_to y.key.target.at) xs < nstart)) → sooner (Some (x.admitted, n)) z ≡ Some (x.admitted, n)
       later z m y at e (inl f) = rw (e, f) refl
       later z m y at e (inr f) =
           let (h, i, le) = head-in m y at f.1 in
           let least : n ≤ h = lowest.1 (count (is_sent_to y.key.target.at) xs, h) i f.2 in
-          rw (e, f.0) (sooner_left (x.opened_at, n) (y.opened_at, m) (before m y at (omega arith)))
+          rw (e, f.0) (sooner_left (x.admitted, n) (y.admitted, m) (before m y at (omega arith)))
 
 -- ---- one exchange comes, changes or goes
 
@@ -351,9 +351,9 @@ module _ (t : Table Exchange) (x : Exchange) (is : IsTable t) (little : length t
   admitted-free = replaced-free (t.admitted + 1) t.items (admitted_to x t).items (Some x.key.target.at) (moves-admitted t x is) is.rising (admitted-is t x is little).rising new-stays send_queue.heads are.heads
 
   -- and then it tells whose turn it is
-  pub send_queue-more : (new : OrderedIndex) → new.limit ≡ send_queue.heads.limit → length new.pairs + one_of (head_at t.items x.key.target.at) ≡ length send_queue.heads.pairs + one_of (head_at (admitted_to x t).items x.key.target.at) → IsReplaced send_queue.heads.pairs new.pairs (head_at t.items x.key.target.at) (head_at (admitted_to x t).items x.key.target.at) → IsSendQueue (admitted_to x t).items (noted x.opened_at (record send_queue { heads = new }))
+  pub send_queue-more : (new : OrderedIndex) → new.limit ≡ send_queue.heads.limit → length new.pairs + one_of (head_at t.items x.key.target.at) ≡ length send_queue.heads.pairs + one_of (head_at (admitted_to x t).items x.key.target.at) → IsReplaced send_queue.heads.pairs new.pairs (head_at t.items x.key.target.at) (head_at (admitted_to x t).items x.key.target.at) → IsSendQueue (admitted_to x t).items (noted x.admitted (record send_queue { heads = new }))
   send_queue-more new limit len replaced =
       let one = one-most (head_at (admitted_to x t).items x.key.target.at) in
-      send_queue-admitted t x x.opened_at send_queue (noted x.opened_at (record send_queue { heads = new })) is refl are
+      send_queue-admitted t x x.admitted send_queue (noted x.admitted (record send_queue { heads = new })) is refl are
       (heads-moved (t.admitted + 1) t.items (admitted_to x t).items (Some x.key.target.at) (moves-admitted t x is) is.rising (admitted-is t x is little).rising new-stays send_queue.heads are.heads new replaced (omega arith))
       refl refl

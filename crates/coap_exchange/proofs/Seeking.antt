@@ -219,10 +219,10 @@ timer-row n last (Some s) = go (leb s.timer.due last) refl
 
 -- what is due of an exchange, in three
 split-row : (s : ExchangeState) (blocked : Bool) (ms n : ℕ) (x : Exchange) → as_due n (due_in s blocked ms x)
-    ≡ sooner (later ms (as_due n (cond (not (is_missing (answer_in_state s))) None (Some x.opened_at)))) (sooner (as_due n (cond (is_sent_state s) (end_in x.sending) None)) (as_due n (cond (is_queued_state s && not blocked) (Some x.opened_at) None)))
+    ≡ sooner (later ms (as_due n (cond (not (is_missing (answer_in_state s))) None (Some x.admitted)))) (sooner (as_due n (cond (is_sent_state s) (end_in x.sending) None)) (as_due n (cond (is_queued_state s && not blocked) (Some x.admitted) None)))
 split-row Queued true ms n x = refl
-split-row Queued false ms n x = sym (earlier (x.opened_at + ms) x.opened_at n (omega arith))
-split-row Sent blocked ms n x = timer-row n (x.opened_at + ms) x.sending
+split-row Queued false ms n x = sym (earlier (x.admitted + ms) x.admitted n (omega arith))
+split-row Sent blocked ms n x = timer-row n (x.admitted + ms) x.sending
 split-row Acked blocked ms n x = refl
 split-row (Done a) blocked ms n x = refl
 
@@ -266,7 +266,7 @@ pub no-turn : (nstart : ℕ) (all xs : List (Numbered Exchange)) → 0 ≡ count
 no-turn nstart all [] e = refl
 no-turn nstart all (x ∷ xs) e = go (is_queued x.1) e (no-turn nstart all xs)
   where
-    go : (b : Bool) → 0 ≡ one_if b + count is_queued xs → (0 ≡ count is_queued xs → first_due (turn_among nstart all) xs ≡ None) → sooner (as_due x.0 (cond (b && not (is_blocked nstart all x.1)) (Some x.1.opened_at) None)) (first_due (turn_among nstart all) xs) ≡ None
+    go : (b : Bool) → 0 ≡ one_if b + count is_queued xs → (0 ≡ count is_queued xs → first_due (turn_among nstart all) xs ≡ None) → sooner (as_due x.0 (cond (b && not (is_blocked nstart all x.1)) (Some x.1.admitted) None)) (first_due (turn_among nstart all) xs) ≡ None
     go true f rest = absurd (omega arith)
     go false f rest = rest (let g : 0 ≡ 0 + count is_queued xs = f in omega arith)
 
@@ -274,7 +274,7 @@ no-turn nstart all (x ∷ xs) e = go (is_queued x.1) e (no-turn nstart all xs)
 pub openings-early : (xs : List (Numbered Exchange)) → AreTimely xs → (n : ℕ) → IfSome (item_at n xs) (λ x. IfSome (opening_of x) (λ m. m ≤ 2 ^ 62))
 openings-early xs timely n = all-at (λ x. IfSome (opening_of x) (λ m. m ≤ 2 ^ 62)) n xs (each xs timely)
   where
-    one : (x : Exchange) → x.opened_at ≤ 2 ^ 62 → (b : Bool) → IfSome (cond b None (Some x.opened_at)) (λ m. m ≤ 2 ^ 62)
+    one : (x : Exchange) → x.admitted ≤ 2 ^ 62 → (b : Bool) → IfSome (cond b None (Some x.admitted)) (λ m. m ≤ 2 ^ 62)
     one x le true = tt
     one x le false = le
 

@@ -25,7 +25,7 @@ id_of x = id_in x.sending
 
 -- the moment of its admission, until its answer has come
 abbrev pub opening_of : Exchange → Option ℕ
-opening_of x = if is_done x then None else Some x.opened_at
+opening_of x = if is_done x then None else Some x.admitted
 
 abbrev pub end_in : Option Sending → Option ℕ
 end_in None = None
@@ -120,7 +120,7 @@ AreListed test key items pairs =
 -- when a queued exchange gets its turn: at its admission, if it isn't blocked
 abbrev pub turn_among : ℕ → List (Numbered Exchange) → Exchange → Option ℕ
 turn_among nstart exchanges x =
-    if is_queued x && not (is_blocked nstart exchanges x) then Some x.opened_at else None
+    if is_queued x && not (is_blocked nstart exchanges x) then Some x.admitted else None
 
 -- ---- changing the items one by one
 

@@ -51,13 +51,13 @@ pub record AreHeads (items : List (Numbered Exchange)) (heads : OrderedIndex) : 
 
 -- none was admitted after `latest`, and each was admitted no earlier than those with lower numbers
 pub record AreInOrder (items : List (Numbered Exchange)) (latest : ℕ) : Type 0 where
-  pub early : (n : ℕ) (x : Exchange) → item_at n items ≡ Some x → x.opened_at ≤ latest
+  pub early : (n : ℕ) (x : Exchange) → item_at n items ≡ Some x → x.admitted ≤ latest
   pub order :
       (n m : ℕ) (x y : Exchange)
       → item_at n items ≡ Some x
       → item_at m items ≡ Some y
       → n < m
-      → x.opened_at ≤ y.opened_at
+      → x.admitted ≤ y.admitted
 
 -- the state that decides whose turn it is
 pub record IsSendQueue (items : List (Numbered Exchange)) (send_queue : SendQueue) : Type 0 where

@@ -319,7 +319,7 @@ impl Exchanges {
         requires numbers { self.old.admitted < 2 ^ 64 - 1 }
         requires state { listed.state ≡ Queued }
         requires sending { listed.sending ≡ None }
-        requires now { listed.opened_at ≤ 2 ^ 62 }
+        requires now { listed.admitted ≤ 2 ^ 62 }
         requires room { length self.old.items < self.old.limit }
         requires client_room { count (is_opened_by listed.client) self.old.items
             < self.old.per_client }
@@ -328,7 +328,7 @@ impl Exchanges {
         ensures err { OnErr result (self.new ≡ self.old) }
     {
         let (opener, at) = (listed.client(), listed.origin());
-        let now = listed.exchange().opened_at;
+        let now = listed.exchange().admitted;
         self.table.laws();
         self.send_queue.heads.laws();
         self.endpoints.laws();

@@ -197,7 +197,7 @@ fn opening_of(exchange: &Exchange) -> Option<Moment>
     if exchange.answer().is_some() {
         None
     } else {
-        Some(exchange.opened_at)
+        Some(exchange.admitted)
     }
 }
 

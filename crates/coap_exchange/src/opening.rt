@@ -60,7 +60,7 @@ impl Opening<'_> {
             is_get,
             form,
             copy,
-            opened_at: now,
+            admitted: now,
             sending: None,
             tainted: false,
             state: ExchangeState::Queued,

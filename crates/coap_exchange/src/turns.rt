@@ -51,7 +51,7 @@ fn first_in_order(
     exchanges.laws();
     let number = send_queue.first(nstart)?;
     let exchange = exchanges.exchange(number)?;
-    Some((exchange.opened_at, number))
+    Some((exchange.admitted, number))
 }
 
 /// Which is to be sent first, in whatever order they were admitted. `queued` of them are waiting. A
@@ -103,7 +103,7 @@ impl Table<IndexedExchange> {
     {
         let exchange = listed.exchange();
         if exchange.is_queued() && counts_of(endpoints, listed.origin()).sent < nstart {
-            Some((exchange.opened_at, number))
+            Some((exchange.admitted, number))
         } else {
             None
         }

@@ -57,7 +57,7 @@ exchange_of x waiting = record {
   origin = x.key.target.at;
   id = id_of x.sending;
   sends = sends_of x.sending;
-  opened_at = x.opened_at;
+  admitted = x.admitted;
   waiting = waiting;
   silence = silence_of x.state;
   answer = answer_in x.state;
@@ -69,7 +69,7 @@ took_until None now = now
 took_until (Some a) now = a.got
 
 abbrev pub took : DueExchange → ℕ → ℕ
-took x now = took_until x.answer now - x.opened_at
+took x now = took_until x.answer now - x.admitted
 
 -- a client that was sent its answer
 abbrev pub client_in : Endpoint → WaiterState → Option DueClient

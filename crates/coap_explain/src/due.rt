@@ -35,7 +35,7 @@ pub(crate) struct DueExchange {
     /// How often its request was sent.
     pub(crate) sends: u8,
     /// When it was opened, in milliseconds.
-    pub(crate) opened_at: Moment,
+    pub(crate) admitted: Moment,
     /// How many clients wait for it.
     pub(crate) waiting: u64,
     /// Why there is no answer, if none comes any more.
@@ -98,7 +98,7 @@ impl DueExchange {
             origin: exchange.key.target.at,
             id,
             sends,
-            opened_at: exchange.opened_at,
+            admitted: exchange.admitted,
             waiting: waiting as u64,
             silence: silence_of(&exchange.state),
             answer: answer_of(&exchange.state),
@@ -113,7 +113,7 @@ impl DueExchange {
             Some(answer) => answer.got,
             None => now,
         };
-        until.saturating_sub(self.opened_at)
+        until.saturating_sub(self.admitted)
     }
 
     /// Adds its origin, how often its request was sent, and how long it took.

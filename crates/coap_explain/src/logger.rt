@@ -161,7 +161,7 @@ impl<W: Write> Logger<W> {
         let TickSubject::Exchange(exchange) = self.due else {
             return;
         };
-        self.silent.note(exchange.origin, exchange.opened_at);
+        self.silent.note(exchange.origin, exchange.admitted);
         if let Some(id) = exchange.id {
             self.causes.note(NotedCause {
                 origin: exchange.origin,
@@ -403,7 +403,7 @@ impl<W: Write> Logger<W> {
         let may_be_told = match self.due {
             TickSubject::Exchange(due) => match due.answer {
                 Some(answer) => is_logged(answer.code),
-                None => now > due.opened_at,
+                None => now > due.admitted,
             },
             TickSubject::Client(_) | TickSubject::Nothing => false,
         };

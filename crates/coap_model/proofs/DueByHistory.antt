@@ -97,7 +97,7 @@ exchange-due w history c x there f at due = go x.1.state refl f.state due
     ending : Never (Ends x.0) history → at ≡ last → IsExchangeDue w.setting history x.0 at
     ending unended e = to_end (record { opened = f.opened; unended = unended; at_is = e ∙ ap (λ (n : ℕ). n + w.setting.limits.exchange_ms) f.admitted })
 
-    turn : x.1.state ≡ Queued → Never (Ends x.0) history → (b : Bool) → blocked ≡ b → Some (cond b last x.1.opened_at) ≡ Some at → IsExchangeDue w.setting history x.0 at
+    turn : x.1.state ≡ Queued → Never (Ends x.0) history → (b : Bool) → blocked ≡ b → Some (cond b last x.1.admitted) ≡ Some at → IsExchangeDue w.setting history x.0 at
     turn is unended true t e = ending unended (sym (same_Some last at e))
     turn is unended false t e =
         let free = leb-false _ _ t in
@@ -108,7 +108,7 @@ exchange-due w history c x there f at due = go x.1.state refl f.state due
           verdict = f.verdict;
           stage = stage-is w history c x there ∙ ap (λ (s : ExchangeState). Some (stage_at x.1.key.target.at s)) is;
           free = omega (arith, free, as_many);
-          at_is = sym (same_Some x.1.opened_at at e) ∙ f.admitted;
+          at_is = sym (same_Some x.1.admitted at e) ∙ f.admitted;
         })
 
     go : (s : ExchangeState) → x.1.state ≡ s → IsState w.setting history x s → due_in s blocked w.setting.limits.exchange_ms x.1 ≡ Some at → IsExchangeDue w.setting history x.0 at
@@ -205,11 +205,11 @@ send-listed w history c x at d = go y.1.state refl
             go true e = let le = leb-true m n e in absurd (omega (arith, le, less))
             go false e = refl
 
-    moment : y.1.opened_at ≡ at
+    moment : y.1.admitted ≡ at
     moment = t.is.admitted ∙ ap (λ (p : Position). p.action.observation.now) (sym (one-opened t.number d.opened t.is.opened).0) ∙ sym d.at_is
 
     go : (s : ExchangeState) → y.1.state ≡ s → IsListed w (moves x) at
-    go Queued is = of_exchange y y.1.opened_at t.there (ap moves (sym t.number)) (ap (λ (s : ExchangeState). due_in s (is_blocked w.setting.limits.nstart w.exchanges y.1) w.setting.limits.exchange_ms y.1) is ∙ rw free refl) (let e = moment in omega (arith, e))
+    go Queued is = of_exchange y y.1.admitted t.there (ap moves (sym t.number)) (ap (λ (s : ExchangeState). due_in s (is_blocked w.setting.limits.nstart w.exchanges y.1) w.setting.limits.exchange_ms y.1) is ∙ rw free refl) (let e = moment in omega (arith, e))
     go Sent is = absurd (let e = ap (λ (s : ExchangeState). Some (stage_at y.1.key.target.at s)) (sym is) ∙ stage in cc)
     go Acked is = absurd (let e = ap (λ (s : ExchangeState). Some (stage_at y.1.key.target.at s)) (sym is) ∙ stage in cc)
     go (Done a) is = absurd (let e = ap (λ (s : ExchangeState). Some (stage_at y.1.key.target.at s)) (sym is) ∙ stage in cc)
@@ -254,7 +254,7 @@ end-listed w history c x at d = go y.1.state refl t.is.state
 
     blocked : y.1.state ≡ Queued → (b : Bool) → is_blocked w.setting.limits.nstart w.exchanges y.1 ≡ b → IsListed w (moves x) at
     blocked is true e = of_exchange y (deadline w.setting.limits.exchange_ms y.1) t.there (ap moves (sym t.number)) (ap (λ (s : ExchangeState). due_in s (is_blocked w.setting.limits.nstart w.exchanges y.1) w.setting.limits.exchange_ms y.1) is ∙ rw e refl) (let l = last in omega (arith, l))
-    blocked is false e = of_exchange y y.1.opened_at t.there (ap moves (sym t.number)) (ap (λ (s : ExchangeState). due_in s (is_blocked w.setting.limits.nstart w.exchanges y.1) w.setting.limits.exchange_ms y.1) is ∙ rw e refl) (let l = last in omega (arith, l))
+    blocked is false e = of_exchange y y.1.admitted t.there (ap moves (sym t.number)) (ap (λ (s : ExchangeState). due_in s (is_blocked w.setting.limits.nstart w.exchanges y.1) w.setting.limits.exchange_ms y.1) is ∙ rw e refl) (let l = last in omega (arith, l))
 
     go : (s : ExchangeState) → y.1.state ≡ s → IsState w.setting history y s → IsListed w (moves x) at
     go Queued is state = blocked is (is_blocked w.setting.limits.nstart w.exchanges y.1) refl

@@ -43,18 +43,18 @@ module _ (w : State) (history : List Action) (c : Bears history w) (now at numbe
   turn-in_time early m end =
       let f = turn-exchange in
       let position = (one-opened refl f.opened end.opened).0 in
-      let moment : x.opened_at ≡ end.opened.opening.action.observation.now = f.admitted ∙ ap (λ (p : Position). p.action.observation.now) position in
+      let moment : x.admitted ≡ end.opened.opening.action.observation.now = f.admitted ∙ ap (λ (p : Position). p.action.observation.now) position in
       let is = end.at_is in
       omega (arith, early, moment, is)
 
   module _ (is : x.state ≡ Queued) (early : now < deadline w.setting.limits.exchange_ms x) where
     -- one that is due to be sent isn't blocked
-    pub turn-free : (is_blocked w.setting.limits.nstart w.exchanges x ≡ false) × (x.opened_at ≡ at)
+    pub turn-free : (is_blocked w.setting.limits.nstart w.exchanges x ≡ false) × (x.admitted ≡ at)
     turn-free = go (is_blocked w.setting.limits.nstart w.exchanges x) refl (sym (ap (λ (s : ExchangeState). due_in s (is_blocked w.setting.limits.nstart w.exchanges x) w.setting.limits.exchange_ms x) is) ∙ turn-due.0)
       where
-        go : (b : Bool) → is_blocked w.setting.limits.nstart w.exchanges x ≡ b → Some (cond b (deadline w.setting.limits.exchange_ms x) x.opened_at) ≡ Some at → (is_blocked w.setting.limits.nstart w.exchanges x ≡ false) × (x.opened_at ≡ at)
+        go : (b : Bool) → is_blocked w.setting.limits.nstart w.exchanges x ≡ b → Some (cond b (deadline w.setting.limits.exchange_ms x) x.admitted) ≡ Some at → (is_blocked w.setting.limits.nstart w.exchanges x ≡ false) × (x.admitted ≡ at)
         go true t e = absurd (let come = turn-due.1 in let late = same_Some (deadline w.setting.limits.exchange_ms x) at e in omega (arith, early, come, late))
-        go false t e = (t, same_Some x.opened_at at e)
+        go false t e = (t, same_Some x.admitted at e)
 
     -- so its request may be sent
     pub turn-few : count (is_sent_to x.key.target.at) w.exchanges < w.setting.limits.nstart

@@ -210,7 +210,7 @@ pub record IsExchangeOf
     (setting : Setting) (history : List Action) (x : Numbered Exchange) : Type 0 where
   pub opened : WasOpened setting history x.0
   pub client_is : x.1.client ≡ opened.client
-  pub admitted : x.1.opened_at ≡ opened.opening.action.observation.now
+  pub admitted : x.1.admitted ≡ opened.opening.action.observation.now
   pub verdict : verdict_on setting opened.request ≡ may_ask x.1.key
   pub method : x.1.is_get ≡ is_get opened.request.code
   pub former : List Cached

@@ -14,7 +14,7 @@ use Rattle.coap_pending.proofs.Counts.{one_if, count-push, count-changed_at, cou
 
 -- its moment is no greater than moments are
 abbrev IsTimely : Exchange → Type 0
-IsTimely x = x.opened_at ≤ 2 ^ 62
+IsTimely x = x.admitted ≤ 2 ^ 62
 
 -- a change leaves the moment of admission
 keeps-timely : (ch : Transition) (x : Exchange) → IsTimely x → IsTimely (after_transition ch x)
@@ -79,7 +79,7 @@ exchanges-without n xs queued more t same is are fewer =
     record { queued = omega arith; timely = all-without IsTimely n xs are.timely; short = all-without HasShort n xs are.short }
 
 -- a queued one is taken in
-pub exchanges-push : (xs : List (Numbered Exchange)) (queued : ℕ) (x : Numbered Exchange) → is_queued x.1 ≡ true → x.1.opened_at ≤ 2 ^ 62 → x.1.sending ≡ None → AreExchanges xs queued → AreExchanges (xs ++ x ∷ []) (queued + 1)
+pub exchanges-push : (xs : List (Numbered Exchange)) (queued : ℕ) (x : Numbered Exchange) → is_queued x.1 ≡ true → x.1.admitted ≤ 2 ^ 62 → x.1.sending ≡ None → AreExchanges xs queued → AreExchanges (xs ++ x ∷ []) (queued + 1)
 exchanges-push xs queued x is timely unsent are =
     let counted = rw is at (count-push is_queued xs x) in
     let q = are.queued in

@@ -191,7 +191,7 @@ is_timely (transition.Answer a) = true
 -- ---- when it is due
 
 abbrev pub deadline : ℕ → Exchange → ℕ
-deadline exchange_ms x = x.opened_at + exchange_ms
+deadline exchange_ms x = x.admitted + exchange_ms
 
 -- the end of the current timeout, but no later than `last`
 abbrev pub timer_or : ℕ → Option Sending → ℕ
@@ -202,7 +202,7 @@ timer_or last (Some s) = min s.timer.due last
 -- its timeout; and at the latest at its deadline, unless its answer has come.
 abbrev pub due_in : ExchangeState → Bool → ℕ → Exchange → Option ℕ
 due_in Queued blocked exchange_ms x =
-    Some (if blocked then deadline exchange_ms x else x.opened_at)
+    Some (if blocked then deadline exchange_ms x else x.admitted)
 due_in Sent blocked exchange_ms x = Some (timer_or (deadline exchange_ms x) x.sending)
 due_in Acked blocked exchange_ms x = Some (deadline exchange_ms x)
 due_in (Done a) blocked exchange_ms x = None
@@ -260,7 +260,7 @@ CanUpdate (Some change) found =
 
 -- admission moments are at most 2^62
 abbrev pub AreTimely : List (Numbered Exchange) → Type 0
-AreTimely exchanges = AllByRecursion (λ x. x.1.opened_at ≤ 2 ^ 62) exchanges
+AreTimely exchanges = AllByRecursion (λ x. x.1.admitted ≤ 2 ^ 62) exchanges
 
 -- timeouts stay short
 abbrev pub IsSendingShort : Option Sending → Type 0

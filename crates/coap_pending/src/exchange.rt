@@ -66,7 +66,7 @@ pub struct Exchange {
     /// The stored response that the request asks to validate, if it does (RFC 7252, 5.6.2).
     pub copy: Option<Stored>,
     /// When the exchange was opened, in milliseconds.
-    pub opened_at: Moment,
+    pub admitted: Moment,
     /// How the request was sent, once it has been.
     pub sending: Option<Sending>,
     /// Whether its target has changed since the request was sent (RFC 7252, 5.9.1).
@@ -82,7 +82,7 @@ impl Drop for Exchange {
             is_get: _,
             form: _,
             copy: _,
-            opened_at: _,
+            admitted: _,
             sending: _,
             tainted: _,
             state: _,
