@@ -210,6 +210,6 @@ over-step w now number x found over = rw found (ap (on_request_timeout w now num
 
 -- ---- the tables after a request was sent
 
-pub sent-state : (w v : State) (now draw number : ℕ) (s : Sending) (x : Exchange) → item_at number w.exchanges ≡ Some x → v ≡ record w { ids = called now w.ids } → s ≡ record { asked_event = w.events; id = next_id w; timer = started now draw }
+pub sent-state : (w v : State) (now draw number : ℕ) (s : Sending) (x : Exchange) → item_at number w.exchanges ≡ Some x → v ≡ record w { ids = called now w.ids } → s ≡ record { asked = w.events; id = next_id w; timer = started now draw }
     → later (record v { exchanges = changed_at number (sent s) v.exchanges }) now ≡ (sends w now draw number x).state
 sent-state w v now draw number s x found vs ss = rw (vs, ss) refl

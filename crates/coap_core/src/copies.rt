@@ -17,8 +17,8 @@ pub(crate) fn copy_of_stored(stored: &Stored) -> Result<Stored, OutOfMemory>
 {
     Ok(Stored {
         response: copy_of_message(&stored.response)?,
-        asked_event: stored.asked_event,
-        got_event: stored.got_event,
+        asked: stored.asked,
+        got_no: stored.got_no,
         got: stored.got,
         marked: stored.marked,
     })

@@ -303,8 +303,8 @@ impl<S: Store + Drop> State<S> {
         let key = exchange.key.share()?;
         let stored = Stored {
             response: copy_of_message(&answer.message)?,
-            asked_event: exchange.asked_event(),
-            got_event: self.events,
+            asked: exchange.asked(),
+            got_no: self.events,
             got: now,
             marked: false,
         };

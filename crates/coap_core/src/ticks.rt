@@ -152,13 +152,9 @@ impl<S: Store + Drop> State<S> {
         requires can { CanDo (sending_at self.old timing due.number) timing.now self.old out.old }
         ensures { Does (sending_at self.old timing due.number) result out.old out.new self.new }
     {
-        let (asked_event, timer) = (self.events, Timer::start(timing.now, timing.draw));
+        let (asked, timer) = (self.events, Timer::start(timing.now, timing.draw));
         let id = self.take_id(timing.now);
-        let sending = Sending {
-            asked_event,
-            id,
-            timer,
-        };
+        let sending = Sending { asked, id, timer };
         self.under_way.send(due.number, sending);
         self.put_form(due.number, out);
         self.advance(timing.now);

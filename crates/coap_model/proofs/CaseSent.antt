@@ -95,7 +95,7 @@ keeps_forwarding w history c now draw at number x onward turn queued early =
     let form : x.form ≡ spelling (forwarded token x.key.target tag asked 0) = f.form_is ∙ ap (λ (o : Option Sending). spelling (forwarded token x.key.target tag asked (form_id o))) state.unsent in
     let bytes_are : with_id id x.form ≡ spelling request = ap (with_id id) form ∙ with_id-forwarded id token x.key.target tag asked in
     let spells : Spells (with_id id x.form) request = subst (λ (b : List ℕ). Spells b request) (sym bytes_are) (spelled request is) in
-    let sending : Sending = record { asked_event = w.events; id = id; timer = started now draw } in
+    let sending : Sending = record { asked = w.events; id = id; timer = started now draw } in
     let grown : sends_by (moves number) (e ∷ history) ≡ e.observation ∷ [] = sends-grow (moves number) history e (same_act-self number) refl ∙ ap (λ (es : List Observation). e.observation ∷ es) state.no_sends in
     let passes_queued : passes is_queued (item_at number w.exchanges) ≡ true = ap (passes is_queued) turn.found ∙ ap is_queued_state queued in
     let passes_sent : passes (λ a. is_queued (sent sending a)) (item_at number w.exchanges) ≡ false = ap (passes (λ a. is_queued (sent sending a))) turn.found in

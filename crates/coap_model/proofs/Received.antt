@@ -19,7 +19,7 @@ use Rattle.coap_model.specs.declared.report.Storing.TheVariants.{Kept, TooLarge,
 use Rattle.coap_model.specs.Keys.{key_sent}
 use Rattle.coap_model.specs.State.{State}
 use Rattle.coap_model.specs.Answers.{marked_all, entry_made, may_store, answer_for}
-use Rattle.coap_pending.specs.Exchanges.{asked_event_of}
+use Rattle.coap_pending.specs.Exchanges.{asked_of}
 use Rattle.coap_model.specs.History.{Action, Position, moves, accepts_answer, Brings, Matches, Gets}
 use Rattle.coap_model.specs.Changed.{key_asked, Unchanged, IsTold}
 use Rattle.coap_model.specs.Cached.{entry_of_cached, copied, answer_got, entry_got, leaves, WasCacheAt, IsStored, IsStoreOf}
@@ -61,8 +61,8 @@ module _ (w : State) (history : List Action) (c : Bears history w) (now : ℕ) (
     sym flight.asked.asked_key i,
     record {
       response = (result-is i).message;
-      asked_event = (ap asked_event_of flight.sending_is ∙ flight.asked.number) i;
-      got_event = c.clock.events i;
+      asked = (ap asked_of flight.sending_is ∙ flight.asked.number) i;
+      got_no = c.clock.events i;
       got = sym moment i;
       marked = false;
     },

@@ -8,7 +8,7 @@ use Rattle.coap_store.specs.Entries.{Entry, entry_key, entry_size, marked}
 use Rattle.coap_store.specs.Lists.{of_key, others, put}
 use Rattle.coap_store.specs.declared.answer.Answer.{Answer}
 use Rattle.coap_pending.specs.declared.exchange.Exchange.{Exchange}
-use Rattle.coap_pending.specs.Exchanges.{answered, tainted_by, asked_event_of}
+use Rattle.coap_pending.specs.Exchanges.{answered, tainted_by, asked_of}
 use Rattle.coap_pending.specs.Table.{Numbered, all_changed, changed_at}
 use Rattle.coap_model.specs.declared.report.Outcome.TheVariants.{Answered}
 use Rattle.coap_model.specs.declared.report.Storing.{Storing}
@@ -52,8 +52,8 @@ entry_made w now x a = (
   x.key,
   record {
     response = a.message;
-    asked_event = asked_event_of x.sending;
-    got_event = w.events;
+    asked = asked_of x.sending;
+    got_no = w.events;
     got = now;
     marked = false;
   },

@@ -167,4 +167,4 @@ second_entry =
 -- the entry of a store for the first
 abbrev pub first_stored : Stored
 first_stored =
-    record { response = content_for 1 1; asked_event = 1; got_event = 2; got = 5; marked = false }
+    record { response = content_for 1 1; asked = 1; got_no = 2; got = 5; marked = false }

@@ -80,8 +80,8 @@ entry_marked marked c = (
   c.key,
   record {
     response = c.response;
-    asked_event = index c.asking;
-    got_event = index c.getting;
+    asked = index c.asking;
+    got_no = index c.getting;
     got = c.getting.action.observation.now;
     marked = marked;
   },

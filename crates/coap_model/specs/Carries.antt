@@ -139,7 +139,7 @@ pub record WasAsked
   pub asked_key : key_sent asks.sends.to asks.sends.message ≡ key
   pub to : asks.sends.to ≡ key.target.at
   pub id_is : s.id ≡ asks.sends.message.id
-  pub number : s.asked_event ≡ index asking
+  pub number : s.asked ≡ index asking
   pub timer : IsTimer s.timer (sends_by (moves x) history)
   pub bytes : AreOfBytes key.target.at form (sends_by (moves x) history)
 

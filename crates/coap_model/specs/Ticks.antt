@@ -73,7 +73,7 @@ sends w now draw number x =
       state = record (later w now) {
         exchanges =
             changed_at number
-            (sent (record { asked_event = w.events; id = next_id w; timer = started now draw }))
+            (sent (record { asked = w.events; id = next_id w; timer = started now draw }))
             w.exchanges;
         ids = called now w.ids;
       };

@@ -37,7 +37,7 @@ opened key now state sending =
 -- one whose request was sent at this moment, with the id 9
 abbrev pub sent_at : CacheKey → ℕ → ℕ → Exchange
 sent_at key admitted now =
-    opened key admitted Sent (Some (record { asked_event = 1; id = 9; timer = started now 0 }))
+    opened key admitted Sent (Some (record { asked = 1; id = 9; timer = started now 0 }))
 
 abbrev pub queued : CacheKey → ℕ → Exchange
 queued key now = opened key now Queued None

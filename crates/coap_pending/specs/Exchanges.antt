@@ -109,9 +109,9 @@ was_sent_with id None = false
 was_sent_with id (Some s) = s.id == id
 
 -- the number of the event in which its request was sent; 0 before that
-abbrev pub asked_event_of : Option Sending → ℕ
-asked_event_of None = 0
-asked_event_of (Some s) = s.asked_event
+abbrev pub asked_of : Option Sending → ℕ
+asked_of None = 0
+asked_of (Some s) = s.asked
 
 -- its request was sent to this endpoint with this id, less than 247,000 ms ago (RFC 7252, 4.4)
 abbrev pub was_sent_as : Endpoint → ℕ → ℕ → Exchange → Bool

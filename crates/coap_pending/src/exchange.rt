@@ -1,7 +1,7 @@
 //! Exchanges: requests on their way to an origin.
 ghost use Rattle.std.specs.Prelude.{◌≡◌, ◌≤◌, ◌^◌};
 ghost use Rattle.std.specs.Option.{option_copied};
-ghost use Rattle.coap_pending.specs.Exchanges.{answer_at, after_transition, fire_of_sending, fired_exchange, is_meant_by, is_acked, is_changed_with, is_joinable, is_queued, is_sent, tainted_by, was_sent_as, CanChange, CanFire, is_queued_to, is_sent_after, asked_event_of, is_in_flight, was_sent_with};
+ghost use Rattle.coap_pending.specs.Exchanges.{answer_at, after_transition, fire_of_sending, fired_exchange, is_meant_by, is_acked, is_changed_with, is_joinable, is_queued, is_sent, tainted_by, was_sent_as, CanChange, CanFire, is_queued_to, is_sent_after, asked_of, is_in_flight, was_sent_with};
 
 use crate::timer::{Fire, Timer};
 use coap_endpoint::{Endpoint, Target};
@@ -15,7 +15,7 @@ pub type ExchangeNumber = u64;
 #[derive(Clone, Copy)]
 pub struct Sending {
     /// The number of the event in which the request was first sent.
-    pub asked_event: EventNumber,
+    pub asked: EventNumber,
     /// The Message ID of the request.
     pub id: u16,
     pub timer: Timer,
@@ -166,11 +166,11 @@ impl Exchange {
 
     /// The number of the event in which the request was first sent; 0 before that, when nobody asks
     /// for it.
-    pub fn asked_event(&self) -> EventNumber
-        ensures exact { result ≡ asked_event_of self.now.sending }
+    pub fn asked(&self) -> EventNumber
+        ensures exact { result ≡ asked_of self.now.sending }
     {
         match &self.sending {
-            Some(sending) => sending.asked_event,
+            Some(sending) => sending.asked,
             None => 0,
         }
     }

@@ -12,11 +12,10 @@ pub type EventNumber = u64;
 pub struct Stored {
     /// The response. Its type, Message ID and token are ignored.
     pub response: Message,
-    /// The number of the event in which its request was first sent. Only definitions read this one
-    /// and the next: they say to which positions of the history the response belongs.
-    pub asked_event: EventNumber,
+    /// The number of the event in which its request was first sent.
+    pub asked: EventNumber,
     /// The number of the event in which it came.
-    pub got_event: EventNumber,
+    pub got_no: EventNumber,
     /// When it came, in milliseconds.
     pub got: Moment,
     /// Whether a change of its target has passed through the proxy since its request was sent (RFC
@@ -28,8 +27,8 @@ impl Drop for Stored {
     fn drop(self) {
         let Stored {
             response: _,
-            asked_event: _,
-            got_event: _,
+            asked: _,
+            got_no: _,
             got: _,
             marked: _,
         } = self;

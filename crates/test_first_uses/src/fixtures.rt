@@ -45,8 +45,8 @@ pub(crate) fn key(alloc: Global) -> Result<SharedKey, OutOfMemory> {
 pub(crate) fn stored(alloc: Global) -> Result<Stored, DecodeError> {
     Ok(Stored {
         response: decode(alloc, b"\x60\x45\x00\x01\x41\xAB\xA1\x0A\xFF21")?,
-        asked_event: 1,
-        got_event: 2,
+        asked: 1,
+        got_no: 2,
         got: 0,
         marked: false,
     })

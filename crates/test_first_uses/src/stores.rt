@@ -14,8 +14,8 @@ fn coap_store(rt: HostRuntime) -> Result<(), Fail> {
     // it came at moment 0, in event 2; the request was sent in event 1
     let stored = Stored {
         response,
-        asked_event: 1,
-        got_event: 2,
+        asked: 1,
+        got_no: 2,
         got: 0,
         marked: false,
     };

@@ -75,7 +75,7 @@ fn coap_exchange(rt: HostRuntime) -> Result<(), Fail> {
     let number = exchanges.admit(opening)?;
     assert!(rt; exchanges.due(1, 93_000) == Some((0, number))); // it is its turn
     let sending = Sending {
-        asked_event: 0,
+        asked: 0,
         id: 7,
         timer: Timer::start(0, 250),
     };

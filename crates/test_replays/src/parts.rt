@@ -134,8 +134,8 @@ const OTHER: &[u8] = b"\x68\x43\x00\x03\x00\x00\x00\x00\x00\x00\x00\x02\x41\xAC\
 fn stored(alloc: Global) -> Result<Stored, Fail> {
     Ok(Stored {
         response: decode(alloc, STORED)?,
-        asked_event: 1,
-        got_event: 2,
+        asked: 1,
+        got_no: 2,
         got: 0,
         marked: false,
     })

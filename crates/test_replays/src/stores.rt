@@ -52,8 +52,8 @@ fn stored(alloc: Global, bytes: usize) -> Result<Stored, OutOfMemory> {
     };
     Ok(Stored {
         response,
-        asked_event: 0,
-        got_event: 0,
+        asked: 0,
+        got_no: 0,
         got: 0,
         marked: false,
     })

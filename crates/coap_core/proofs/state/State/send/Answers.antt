@@ -23,7 +23,7 @@ pub put_form-requires-clause-there : goal.put_form-requires-clause-there
 put_form-requires-clause-there g c =
     let w = c.args.self.now in
     let items : c.self-2.inside.under_way.exchanges.items ≡ w.exchanges = ap (λ (v : State). v.exchanges) (c.self-2.view_is ∙ c.take_id-id.ensures.given) in
-    let s : Sending = record { asked_event = c.self.inside.events; id = c.take_id-id.result; timer = c.start-timer.result } in
+    let s : Sending = record { asked = c.self.inside.events; id = c.take_id-id.result; timer = c.start-timer.result } in
     rw (c.send.ensures.sent, items, changed-found c.args.due.number (sent s) w.exchanges c.requires.queued.item c.requires.queued.found) refl
 
 pub put_form-requires-clause-fits : goal.put_form-requires-clause-fits
@@ -32,7 +32,7 @@ put_form-requires-clause-fits g c =
     let w = c.args.self.now in
     let found = c.requires.queued.found in
     let items : c.self-2.inside.under_way.exchanges.items ≡ w.exchanges = ap (λ (v : State). v.exchanges) (c.self-2.view_is ∙ c.take_id-id.ensures.given) in
-    let s : Sending = record { asked_event = c.self.inside.events; id = c.take_id-id.result; timer = c.start-timer.result } in
+    let s : Sending = record { asked = c.self.inside.events; id = c.take_id-id.result; timer = c.start-timer.result } in
     let form : form_at c.args.due.number (changed_at c.args.due.number (sent s) w.exchanges) ≡ (sending_at w c.args.timing c.args.due.number).bytes = sent-form w c.args.timing c.args.due.number s x found c.take_id-id.ensures.id in
     rw (c.send.ensures.sent, items) (subst (λ (b : List ℕ). length b ≤ c.args.out.now.room) (sym form) c.requires.can.fits)
 
@@ -43,9 +43,9 @@ returns g c =
     let v = c.take_id-id.new.self in
     let found = c.requires.queued.found in
     let items : c.self-2.inside.under_way.exchanges.items ≡ w.exchanges = ap (λ (v : State). v.exchanges) (c.self-2.view_is ∙ c.take_id-id.ensures.given) in
-    let s : Sending = record { asked_event = c.self.inside.events; id = c.take_id-id.result; timer = c.start-timer.result } in
+    let s : Sending = record { asked = c.self.inside.events; id = c.take_id-id.result; timer = c.start-timer.result } in
     let asked : c.self.inside.events ≡ w.events = ap (λ (v : State). v.events) c.self.view_is in
-    let is : s ≡ record { asked_event = w.events; id = next_id w; timer = started c.args.timing.now c.args.timing.draw } = λ i. record { asked_event = asked i; id = c.take_id-id.ensures.id i; timer = c.start-timer.ensures.exact i } in
+    let is : s ≡ record { asked = w.events; id = next_id w; timer = started c.args.timing.now c.args.timing.draw } = λ i. record { asked = asked i; id = c.take_id-id.ensures.id i; timer = c.start-timer.ensures.exact i } in
     let form : form_at c.args.due.number (changed_at c.args.due.number (sent s) w.exchanges) ≡ (sending_at w c.args.timing c.args.due.number).bytes = sent-form w c.args.timing c.args.due.number s x found c.take_id-id.ensures.id in
     let put : c.put_form.new.out ≡ holding c.args.out.now (form_at c.args.due.number (changed_at c.args.due.number (sent s) w.exchanges)) = rw (c.send.ensures.sent, items) at c.put_form.ensures in
     let after : c.advance.new.self ≡ later (record v { exchanges = changed_at c.args.due.number (sent s) v.exchanges }) c.args.timing.now = rw (← c.self-2.view_is) (rw c.send.ensures.sent at c.advance.ensures) in
