@@ -8,7 +8,7 @@ ghost use Rattle.coap_message.specs.Spelling.{options_spelling, spelling};
 ghost use Rattle.coap_option.specs.declared.numbers.TheConstants.{ETAG, MAX_AGE};
 ghost use Rattle.coap_store.specs.Renewing.{max_age_option, with_max_age};
 ghost use Rattle.coap_store.specs.Envelopes.{enclosed, shown_to};
-ghost use Rattle.coap_store.specs.Showing.{addressed, aged, shown, shows_max_age, aged_or_valid};
+ghost use Rattle.coap_store.specs.Showing.{addressed, aged, shown, is_cacheable, aged_or_valid};
 ghost use Rattle.coap_store.specs.Writing.{floor_of, is_in, side_of};
 
 use crate::envelope::Envelope;
