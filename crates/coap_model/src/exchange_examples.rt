@@ -296,7 +296,7 @@ pub fn confirmable_clients()
     ensures due_again { next_due (after proxy confirmable.told_turns) ≡ Some 2020 }
     ensures held_while_told { held (after proxy confirmable.told_turns) ≡ 88 }
     ensures waits_for_it { service_of 1 (history_of confirmable.waits_acting) ≡ Some (waits 1) }
-    ensures is_told { service_of 1 (history_of confirmable.told_acting) ≡ Some told }
+    ensures is_told { service_of 1 (history_of confirmable.told_acting) ≡ Some delivering }
     ensures is_closed { service_of 1 (history_of confirmable.closed_acting) ≡ None }
     ensures one_waits { waiting_in (history_of confirmable.waits_acting) ≡ 1 }
     ensures none_waits { waiting_in (history_of confirmable.told_acting) ≡ 0 }
