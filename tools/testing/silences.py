@@ -1,0 +1,184 @@
+"""What the program logs of much that happens at one moment, and after long silences: its clock is set ahead."""
+
+import contextlib
+import tempfile
+
+from testing.coap import CON, CONTENT, EMPTY, GATEWAY_TIMEOUT, GET, NON, NOT_FOUND, PROXY_URI, RST, URI_PATH, message
+from testing.hosts import paced
+from testing.leaps import Clock
+from testing.logs import Log, authority
+from testing.network import PATIENCE, Stage, case_list, expect, expect_between
+from testing.steps import T, TEMP, max_age, path
+
+CASES, case = case_list()
+NAMES = "names = ['proxy.test']\n"
+# How many silent origins are known, and how many Message IDs are given within 247 seconds.
+KNOWN, IDS = 256, 32_768
+
+
+class Leaping(Log):
+    """A log of a proxy whose clock is set ahead."""
+
+    def __init__(self, stage, clock, *how):
+        super().__init__(stage, *how)
+        self.clock, self.pinging = clock, stage.peer(to=self.address)
+
+    def settle(self):
+        """Has all be handled that was sent before: a ping is rejected."""
+        self.pinging.send(message(CON, EMPTY, self.pinging.new_id()))
+        expect("what a ping is answered", RST, self.pinging.receive("a Reset").message.kind)
+
+    def leap(self, seconds, ends=()):
+        """Sets the clock ahead, until some clients were sent that no answer came, each so many times."""
+        self.settle()
+        self.clock.leap(seconds)
+        self.settle()
+        for client, count in ends:
+            for _ in range(count):
+                expect("what a client is sent", GATEWAY_TIMEOUT, client.receive("an answer").message.code)
+
+    def ask(self, uri):
+        """Asks for what an origin has under a URI."""
+        self.client.request(GET, [(PROXY_URI, uri.encode())], kind=NON)
+
+    def serve(self, origin, name):
+        """Has an origin be asked for something else than before, and answer."""
+        self.ask(f"coap://{origin.authority}/{name}")
+        wanted = [(URI_PATH, name.encode())]
+        while (asked := origin.receive("a request")).message.options != wanted:
+            pass
+        origin.answer(asked, CONTENT, [max_age(0)], b"21")
+        expect("what the client is sent", CONTENT, self.client.receive("an answer").message.code)
+
+
+@contextlib.contextmanager
+def leaping(program, *how):
+    """A log of a proxy whose clock is set ahead."""
+    with tempfile.TemporaryDirectory(prefix="coap-proxyd-test-") as folder:
+        clock = Clock(folder)
+        with Stage(paced(program, 1, f"CLOCK_AHEAD={clock.path}")) as stage:
+            yield Leaping(stage, clock, *how)
+
+
+@case("CauseIsReset", "ClientIsTheFirst")
+def each_exchange_that_is_given_up_at_one_moment_has_its_own_cause(program):
+    with leaping(program, "nstart = 2\nexchange_ms = 60000", NAMES) as log:
+        first, second, origin, another = log.client, log.stage.peer(to=log.address), log.origin, log.stage.peer()
+        first.request(GET, [T, *path("a")], kind=NON)
+        origin.acknowledge(origin.expect_request(GET, [TEMP, *path("a")]))
+        second.request(GET, [T, *path("a")], kind=NON)
+        first.request(GET, [T, *path("b")], kind=NON)
+        asked = origin.expect_request(GET, [TEMP, *path("b")])
+        log.leap(4)
+        expect("what is sent again", asked.data, origin.receive("the request again").data)
+        # Two requests that it hasn't acknowledged may be outstanding, so that the last one has to wait.
+        for name in ("c", "d"):
+            first.request(GET, [T, *path(name)], kind=NON)
+        origin.expect_request(GET, [TEMP, *path("c")])
+        log.ask(f"coap://{authority(another)}/e")
+        another.receive("a request")
+        log.leap(61, [(first, 5), (second, 1)])
+        # Of each target the cause, the origin, and how often its request was sent.
+        ends = (("a", "unanswered", "1"), ("b", "unacknowledged", "2"), ("c", "unacknowledged", "1"), ("d", "unsent", "0"))
+        wanted = {f"{log.target}/{name}": (cause, authority(origin), sent) for name, cause, sent in ends}
+        wanted[f"coap://{authority(another)}/e"] = ("unacknowledged", authority(another), "1")
+        gave_up, failed = log.await_lines("gave_up", 5), log.await_lines("failed", 6)
+        told = {it["target"]: (it["cause"], it["origin"], it["sent"]) for it in gave_up}
+        expect("what was given up", wanted, told)
+        clients = {it: "2" if it == f"{log.target}/a" else "1" for it in wanted}
+        expect("how many clients waited", clients, {it["target"]: it["clients"] for it in gave_up})
+        told = sorted((it["client"], it["target"], it["cause"], it["origin"], it["sent"]) for it in failed)
+        clients = [(authority(first), it) for it in wanted] + [(authority(second), f"{log.target}/a")]
+        expect("what clients were sent", sorted((it, target, *wanted[target]) for it, target in clients), told)
+        for line in gave_up + failed:
+            expect_between("how long it took, in milliseconds", 60_000, 65_000 + 1000 * PATIENCE, int(line["ms"]))
+
+
+@case("LinesTwice", "CauseIsReset")
+def each_origin_that_was_silent_answers_again_once(program):
+    with leaping(program, "exchange_ms = 60000", NAMES) as log:
+        first, second = log.stage.peer(), log.stage.peer()
+        for name in ("a", "b"):
+            for origin in (first, second):
+                log.ask(f"coap://{authority(origin)}/{name}")
+            log.leap(61, [(log.client, 2)])
+        log.await_lines("gave_up", 4)
+        for origin in (first, first, second):
+            log.serve(origin, f"{origin.port}-{len(log.lines())}")
+        told = [(it["origin"], int(it["silent_ms"])) for it in log.await_lines("answers_again", 2)]
+        expect("which answer again", [authority(first), authority(second)], [origin for origin, _ in told])
+        for _, silent in told:
+            # Since the first request that they didn't answer.
+            expect_between("how long it was silent, in milliseconds", 122_000, 122_000 + 1000 * PATIENCE, silent)
+        expect("the causes", {"unacknowledged"}, {it["cause"] for it in log.await_lines("gave_up", 4)})
+
+
+@case("LinesTwice")
+def the_silent_origins_that_are_known_are_the_last_ones(program):
+    limits = "".join(f"{key} = 512\nclient_{key} = 512\n" for key in ("exchanges", "waiters", "non_records"))
+    with leaping(program, f"exchange_ms = 60000\n{limits}", NAMES) as log:
+        first, last = log.stage.peer(), log.stage.peer()
+        others = [f"127.250.{number // 250}.{number % 250}:9" for number in range(KNOWN - 1)]
+        for some in ([authority(first)], others, [authority(last)]):
+            for at in some:
+                log.ask(f"coap://{at}/a")
+                log.settle()
+            log.leap(61, [(log.client, len(some))])
+        for origin in (first, last):
+            log.serve(origin, "b")
+        expect("which answers again", [authority(last)], [it["origin"] for it in log.await_lines("answers_again")])
+
+
+@case("LinesTwice", "PortsUncounted")
+def a_full_table_is_told_again_after_a_minute(program):
+    with leaping(program, "non_records = 1\nclient_non_records = 1") as log:
+        about = {"table": "non_records", "count": "1/1", "address": log.client.host, "has": 1, "ports": 1}
+        for number, (seconds, count) in enumerate(((0, 0), (0, 1), (58, 1), (3, 2))):
+            log.leap(seconds)
+            log.client.request(GET, [], kind=NON)
+            log.settle()
+            if count:
+                log.await_lines("dropped", number)
+                log.expect_line("full", count, **about)
+
+
+@case("LimitIsExchanges", "PortsUncounted")
+def the_table_that_is_told_is_the_first_that_is_full(program):
+    for limits, table in (
+        ("exchanges = 1\nclient_exchanges = 1\nwaiters = 1\nclient_waiters = 1", "exchanges"),
+        ("exchanges = 2\nwaiters = 1\nclient_waiters = 1", "waiters"),
+    ):
+        with Stage(program) as stage:
+            log = Log(stage, limits)
+            for name in (b"a", b"b"):
+                log.client.request(GET, [T, (URI_PATH, name)], kind=NON)
+            [told] = log.await_lines("failed")
+            wanted = sorted(it.split(" ")[0] for it in limits.split("\n") if it.endswith(" = 1"))
+            expect("what was lacking", wanted, sorted(it for it in told if told[it] == "1/1"))
+            log.expect_line("full", 1, table=table, count="1/1", address=log.client.host, has=1, ports=1)
+
+
+@case("ClientIsTheFirst", "LimitIsExchanges")
+def a_message_is_dropped_for_which_no_id_is_left(program):
+    with Stage(program) as stage:
+        log = Log(stage, "non_records = 65536\nclient_non_records = 65536")
+        # Each of them is refused in a message of its own.
+        sent, came = 0, 0
+        while came < IDS:
+            while sent < min(IDS, came + 32):
+                log.client.request(GET, [], kind=NON)
+                sent += 1
+            expect("what it is answered", NOT_FOUND, log.client.receive("a refusal").message.code)
+            came += 1
+        log.client.request(GET, [], kind=NON)
+        log.expect_line("dropped", 1, client=authority(log.client), ids=f"{IDS}/{IDS}")
+
+
+@case("LogChanged")
+def each_limit_of_a_client_makes_version_2(program):
+    keys = ("con_records", "non_records", "exchanges", "waiters")
+    for own in (*keys, None):
+        limits = "\n".join(f"{key} = 8\nclient_{key} = {4 if key == own else 8}" for key in keys)
+        with Stage(program) as stage:
+            [told] = Log(stage, limits).await_lines("listening")
+            expect(f"the version with a limit of {own} for a client", "2" if own else "1", told["limits"])
