@@ -9,6 +9,7 @@ import tempfile
 import time
 from concurrent.futures import ThreadPoolExecutor
 
+from testing import programs
 from testing.coap import CON, EMPTY, message
 from testing.network import PATIENCE, Failed, case_list, expect, free_port
 
@@ -18,12 +19,13 @@ STARTS, AT_ONCE = 64, 8
 HEAD = re.compile(r"# coap-proxyd \S+ --replay (?:.* )?--id ([0-9]+) --salt ([0-9]+)(?: .*)?\n")
 
 
-def recorded(program, turns):
-    """The lines of the recording of a run of so many turns."""
+def recorded(program, turns, settings=()):
+    """The lines of the recording of a run of so many turns, with settings of the environment."""
     with tempfile.TemporaryDirectory(prefix="coap-proxyd-test-") as folder, socket.socket(type=socket.SOCK_DGRAM) as peer:
         path, port = os.path.join(folder, "run.events"), free_port()
         words = ["-A", "127.0.0.1", "-p", str(port), "--turns", str(turns), "--record", path]
-        process, until = subprocess.Popen([*program, *words], stderr=subprocess.DEVNULL), time.monotonic() + PATIENCE
+        how = {"stderr": subprocess.DEVNULL, "env": {**os.environ, **dict(it.split("=", 1) for it in settings)}}
+        process, until = subprocess.Popen([*program, *words], **how), time.monotonic() + PATIENCE
         while process.poll() is None and time.monotonic() < until:
             peer.sendto(message(CON, EMPTY, 1), ("127.0.0.1", port))
             time.sleep(0.01)
@@ -66,3 +68,26 @@ def draws_differ_from_run_to_run(program):
     runs = [[line.split()[1] for line in recorded(program, 8) if not line.startswith("#")] for _ in range(2)]
     expect("how many draws there are", [8, 8], [len(draws) for draws in runs])
     expect("whether both runs have the same", False, runs[0] == runs[1])
+
+
+@case("DrawsRepeat")
+def each_bit_of_the_seed_makes_other_draws(program):
+    settings, shimmed = programs.shimmed(program[-1], programs.DRAWING)
+
+    def draws(bit, *more):
+        """Those of three turns of a program to which the system gives no random bit but this one."""
+        lines = recorded([*program[:-1], shimmed], 3, (*settings, f"DRAWN_BIT={bit}", *more))
+        return tuple(line.split()[1] for line in lines if not line.startswith("#"))
+
+    with tempfile.NamedTemporaryFile("r", prefix="coap-proxyd-test-") as notes:
+        none = draws(-1, f"DRAWN_TO={notes.name}")
+        firsts, end = [], 0
+        for count in notes.read().split():
+            firsts.append(end)
+            end += 8 * int(count)
+    with ThreadPoolExecutor(AT_ONCE) as pool:
+        # Of the bytes that it asks for, those of one call are its seed.
+        seeds = [first for first, these in zip(firsts, pool.map(draws, firsts)) if these != none]
+        expect("of how many calls the first bit makes other draws", 1, len(seeds))
+        some = list(pool.map(draws, range(seeds[0], seeds[0] + 64)))
+    expect("how many seeds make draws of their own", 65, len({none, *some}))

@@ -467,6 +467,22 @@ def what_is_wrong_with_a_configuration(program):
             expect(f"whether {cause!r} is in {said!r}", True, cause in said[len(first) :] and said.count("\n") == 2)
 
 
+@case("CauseUnsaid")
+def what_is_wrong_with_a_map_beside_a_configuration(program):
+    with tempfile.NamedTemporaryFile("w", prefix="coap-proxyd-test-", suffix=".toml") as file:
+        file.write("version = 1\n[hosts]\n'h' = '10.0.0.1'\n[[map]]\nprefix = '/a'\norigin = 'coap://h/'\n")
+        file.flush()
+        for host, said in (
+            ("nowhere", "the origin's host is no address, and isn't among the hosts"),
+            ("h:x", "the origin is no URI that can be carried"),
+        ):
+            origin = f"coap://{host}/"
+            expect_fault(
+                program, ["--config", file.name, "--map", f"/b={origin}"], "coap-proxyd: map option\n",
+                f'cause: map 2, "/b" to "{origin}": {said}\n',
+            )
+
+
 @case("ListeningUnsaid")
 def somebody_at_a_terminal_is_told_that_it_listens(program):
     port = free_port()

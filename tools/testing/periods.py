@@ -5,6 +5,8 @@ import os
 import time
 
 from testing.coap import CON, EMPTY, GET, NON, PROXY_URI, message
+from testing.hosts import await_uptime, paced
+from testing.leaps import Clock
 from testing.network import PATIENCE, Failed, case_list, expect, expect_between
 from testing.statistics import await_metric, metrics
 
@@ -43,6 +45,22 @@ def counts_are_written_once_in_a_period(stage):
     most = int(time.monotonic() - started) + 1
     expect_between("how often the file was written", 4, most, len(writes))
     expect_between("how many lines were written", 3, most, read_bytes(said).count(b"\n"))
+
+
+@case("NotCounted")
+def counts_of_periods_that_passed_at_once_are_written_once(stage):
+    clock = Clock(stage.folder)
+    stage.program = paced(stage.program, 1, f"CLOCK_AHEAD={clock.path}")
+    client, path, said = counting(stage)
+    await_metric(path, LOST, 0)
+    clock.leap(3600)
+    started, before = time.monotonic(), read_bytes(said).count(b"\n")
+    for _ in range(60):
+        client.send(message(CON, EMPTY, client.new_id()))
+        client.receive("a Reset")
+    await_uptime(path, 3600)
+    most = 2 + int(time.monotonic() - started)
+    expect_between("how many lines were written", 1, most, read_bytes(said).count(b"\n") - before)
 
 
 @case("NotCounted")

@@ -7,6 +7,7 @@ import shlex
 import subprocess
 import tempfile
 import time
+from datetime import datetime, timedelta
 
 from testing.coap import CON, CONTENT, GET, NON, NOT_SUPPORTED, PROXY_URI, message
 from testing.network import FAULT, PATIENCE, Life, case_list, expect, free_port
@@ -194,8 +195,28 @@ def an_account_has_the_time_of_day(program):
     expect("the status after a bad event", 2, done.returncode)
 
 
+def an_account_of_a_recording_has_its_time_of_day(program):
+    with tempfile.TemporaryDirectory(prefix="coap-proxyd-test-") as folder:
+        path, config = os.path.join(folder, "run.events"), os.path.join(folder, "proxy.toml")
+        with open(config, "w", encoding="ascii") as file:
+            file.write("version = 1\n\n[limits]\nnstart = 1\n")
+        expect("the run", (0, b""), run_a_turn(program, path, "--config", config), *FAULT)
+        with open(path, encoding="utf-8") as file:
+            text = file.read()
+        first, *_, event = text.splitlines()
+        began = datetime.fromisoformat(re.search(SINCE, text).group(1).replace("Z", "+00:00"))
+        shown = began + timedelta(milliseconds=int(event.split(" ")[0]))
+        run = [*program, *words_of(first), "--explain"]
+        done = subprocess.run(run, input=text, stdout=subprocess.PIPE, text=True, timeout=20)
+        told = f"# 1 {event.split(' ')[0]} {shown.isoformat(timespec='milliseconds').replace('+00:00', 'Z')} tick idle\n"
+        expect("what is said", (0, told), (done.returncode, done.stdout), "the status", "the output")
+        done = subprocess.run(run, input=text + "night\n", stdout=subprocess.PIPE, stderr=subprocess.PIPE, text=True, timeout=20)
+        expect("after a bad event", (2, told), (done.returncode, done.stdout), "the status", "the output")
+
+
 ENDS = (
     a_file_that_is_there_stays_as_it_is, a_line_that_is_too_long_for_a_recording_is_a_fault,
     a_full_disk_ends_the_recording_alone, a_recording_ends_before_it_is_too_long, a_size_is_that_of_a_recording,
     a_recording_in_a_folder_is_named_by_its_moment, an_account_has_the_time_of_day,
+    an_account_of_a_recording_has_its_time_of_day,
 )

@@ -225,6 +225,25 @@ def an_answer_takes_since_its_request_was_sent(stage):
 
 
 @case("NotCounted")
+def an_origin_that_never_answered_is_silent_since_no_answer(stage):
+    origin, path = stage.peer(), os.path.join(stage.folder, "counts.prom")
+    words = ("--map", f"/t=coap://{origin.authority}/temp", "--stats", "1", "--stats-file", path)
+    client = stage.peer(to=stage.proxy(*words))
+    since, sent = ("coap_proxyd_origin_seconds_since_answer{", "coap_proxyd_origin_requests_total{")
+    client.request(GET, [T], kind=NON)
+    asked = origin.receive("a request")
+    numbers = await_metric(path, 'coap_proxyd_requests_total{outcome="opened"}', 1)
+    expect("how often it was asked", 1, sum(count for name, count in numbers.items() if name.startswith(sent)))
+    expect("since when it is silent", [], [name for name in numbers if name.startswith(since)])
+    origin.answer(asked, CONTENT)
+    client.receive("an answer")
+    numbers = await_metric(path, 'coap_proxyd_answers_total{storing="kept"}', 1)
+    silent = [count for name, count in numbers.items() if name.startswith(since)]
+    expect("of how many it is known by then", 1, len(silent))
+    expect_between("full seconds since its answer", 0, 1, silent[0])
+
+
+@case("NotCounted")
 def an_answer_that_is_too_large_counts_as_that(stage):
     origin, path = stage.peer(), os.path.join(stage.folder, "counts.prom")
     words = ("--map", f"/t=coap://{origin.authority}/temp", "--stats", "1", "--stats-file", path)
@@ -275,7 +294,17 @@ def a_map_of_all_paths_has_a_label(program):
         expect("where requests go", {"/", "forward", "next", "none"}, ways)
 
 
+def a_map_has_its_path_as_a_label(program):
+    """What stands for itself in a path (RFC 3986, 2.3) does so, and of all else each byte is written as %XX."""
+    with tempfile.TemporaryDirectory(prefix="coap-proxyd-test-") as folder:
+        path, prefix = os.path.join(folder, "counts.prom"), "/aZ09-._~/%20%22%2F%5C%7F%C3%A9"
+        run_a_turn(program, "--stats-file", path, "--map", f"{prefix}=coap://192.0.2.7/")
+        expect("the files", ["counts.prom"], os.listdir(folder))
+        ways = {it for name in metrics(path) for it in re.findall('map="([^"]*)"', name)}
+        expect("where requests go", {prefix, "forward", "next", "none"}, ways)
+
+
 ENDS = (
     a_line_is_written_at_the_end_of_the_turns, what_cannot_be_written_is_said_once, a_file_alone_brings_no_lines,
-    a_map_of_all_paths_has_a_label,
+    a_map_of_all_paths_has_a_label, a_map_has_its_path_as_a_label,
 )
