@@ -421,6 +421,8 @@ WORDS = (
      'map 1, "/t" to "coap://10.0.0.1:x/": the origin is no URI that can be carried'),
     (["--map", "/t#a=coap://10.0.0.1/"], "map option",
      'map 1, "/t#a" to "coap://10.0.0.1/": the prefix doesn\'t begin with a slash, or has a ? or a #'),
+    (["--map", "/t?a=coap://10.0.0.1/"], "map option",
+     'map 1, "/t?a" to "coap://10.0.0.1/": the prefix doesn\'t begin with a slash, or has a ? or a #'),
     (["--explain"], "arguments", "--explain is for a replay, and --replay isn't given"),
     (["--record-bytes", "1000"], "arguments", "--record-bytes is for a recording, and --record isn't given"),
     (["--explain", "--record-bytes", "1000"], "arguments", "--explain is for a replay, and --replay isn't given"),
@@ -436,12 +438,16 @@ CONFIGURATIONS = (
     ("version = 1\n[hosts]\n'h' = '10.0.0'\n", "config: routes", 'host "h" at "10.0.0": no address'),
     ("version = 1\n[hosts]\n'10.0.0.1' = '10.0.0.2'\n", "config: routes",
      'host "10.0.0.1" at "10.0.0.2": no name of a host'),
+    ("version = 1\n[hosts]\n'b,c' = '10.0.0.2'\n", "config: routes", 'host "b,c" at "10.0.0.2": no name of a host'),
     ("version = 1\n[hosts]\n'a' = '10.0.0.1'\n'A' = '10.0.0.2'\n", "config: routes", ": the name stands twice"),
     ("version = 1\n" + "".join(f"[[map]]\nprefix = '/{it}'\norigin = '{it}://10.0.0.1'\n" for it in ("coap", "coaps")),
      "config: routes", 'map 2, "/coaps" to "coaps://10.0.0.1": the origin has a scheme other than coap'),
     ("version = 1\n[[map]]\nprefix = '/a'\norigin = 'coap://10.0.0.1?q'\n", "config: routes",
      'map 1, "/a" to "coap://10.0.0.1?q": the origin has a query'),
     ("version = 1\n" + "[[map]]\nprefix = '/a'\norigin = 'coap://10.0.0.1'\n" * 65, "config: routes", "65 maps of 64"),
+    (f"version = 1\nnames = {[f'n{it}' for it in range(65)]}\n", "config: routes", "65 names of 64"),
+    ("version = 1\n[hosts]\n" + "".join(f"'h{it}' = '10.0.0.1'\n" for it in range(257)), "config: routes",
+     "257 hosts of 256"),
 )
 
 

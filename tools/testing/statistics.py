@@ -172,6 +172,10 @@ def each_number_stands_behind_its_name(stage):
     for key, (_, more) in TRAFFIC.items():
         expect(key, before[names[key]] + more, numbers[names[key]])
         expect(f"{key} of the line", str(numbers[names[key]]), line[key])
+    # A stand-in has origins at other ports.
+    for name in ("requests", "retransmissions", "given_up"):
+        of_origins = [count for it, count in numbers.items() if it.startswith(f"coap_proxyd_origin_{name}_total{{")]
+        expect(f"{name} of the origin", 1, sum(of_origins))
     held = {**held, "exchanges": 0, "waiters": 0}
     for key, limit in LIMITS.values():
         expect(f"{key} of the line", f"{held[key]}/{limit}", line[key])
