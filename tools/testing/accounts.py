@@ -370,10 +370,32 @@ def ids_that_run_out(program):
     check(program, script, "version = 1\n[limits]\nnon_records = 65536\n")
 
 
+def ids_that_are_reserved(program):
+    script = [
+        (0, (client(1), message(NON, GET, 1, b"a", [T])), f"NON GET {HERE} opened"),
+        (0, None, f"sent GET to {THERE}"),
+        (0, (THERE, message(ACK, CONTENT, 1, token(1), [AGE], b"21")), "ACK 2.05 answered 2.05 kept"),
+        (0, None, f"delivered 2.05 Max-Age 60 {served(1)}"),
+    ]
+    # With these three Message IDs are left.
+    for number in range(32_763):
+        hit = message(NON, GET, number, b"", [T])
+        script.append((0, (client(2), hit), f"NON GET {HERE} hit 2.05 Max-Age 60"))
+    first, other = ([T, (URI_PATH, name)] for name in (b"x", b"y"))
+    script += [
+        # It is to be sent with one of them, and its client answered with another.
+        (0, (client(3), message(NON, GET, 1, b"", first)), f"NON GET {HERE}/x opened"),
+        (0, (client(4), message(NON, GET, 1, b"", other)), f"NON GET {HERE}/y overloaded 5.03 ids 32767/32768"),
+        (0, (client(4), message(NON, GET, 2, b"", [T])), f"NON GET {HERE} no id"),
+        (0, (client(4), message(CON, GET, 3, b"", other)), f"CON GET {HERE}/y overloaded 5.03 ids 32768/32768"),
+    ]
+    check(program, script, "version = 1\n[limits]\nnon_records = 65536\n")
+
+
 CASES = (
     an_exchange_and_hits, the_first_answer, a_configuration_that_is_read_once, an_answer_that_is_delivered_later,
     refusals, other_refusals, targets, targets_behind_a_next_proxy, answers_that_are_validated, validations_at_the_limit,
     great_numbers, a_confirmable_client, answers_that_are_not_kept, a_silent_origin, a_client_that_acknowledges_nothing,
     full_tables, full_tables_of_waiters_and_records, a_join_that_has_no_room, an_answer_that_is_too_large,
-    ids_that_run_out,
+    ids_that_run_out, ids_that_are_reserved,
 )
