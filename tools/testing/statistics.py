@@ -229,6 +229,20 @@ def an_answer_takes_since_its_request_was_sent(stage):
 
 
 @case("NotCounted")
+def an_entry_that_makes_room_was_fresh_or_not(stage):
+    origin, path = stage.peer(), os.path.join(stage.folder, "counts.prom")
+    words = ("--map", f"/t=coap://{origin.authority}/temp", "--stats", "1", "--stats-file", path)
+    client = stage.peer(to=stage.proxy(*words, config="[limits]\ncache_entries = 1\n"))
+    for name, seconds in ((b"a", 1), (b"b", 60), (b"c", 60)):
+        more = [(URI_PATH, name)]
+        fetch(client, origin, here=(T, *more), there=(TEMP, *more), seconds=seconds)
+        time.sleep(2.1 if seconds == 1 else 0)
+    numbers = await_metric(path, 'coap_proxyd_answers_total{storing="kept"}', 3)
+    counted = [numbers[f"coap_proxyd_evicted_{which}entries_total"] for which in ("", "fresh_")]
+    expect("how many entries made room, and how many of them were fresh", [2, 1], counted)
+
+
+@case("NotCounted")
 def an_origin_that_never_answered_is_silent_since_no_answer(stage):
     origin, path = stage.peer(), os.path.join(stage.folder, "counts.prom")
     words = ("--map", f"/t=coap://{origin.authority}/temp", "--stats", "1", "--stats-file", path)
