@@ -25,7 +25,7 @@ def recorded(program, turns, settings=()):
         path, port = os.path.join(folder, "run.events"), free_port()
         words = ["-A", "127.0.0.1", "-p", str(port), "--turns", str(turns), "--record", path]
         how = {"stderr": subprocess.DEVNULL, "env": {**os.environ, **dict(it.split("=", 1) for it in settings)}}
-        process, until = subprocess.Popen([*program, *words], **how), time.monotonic() + PATIENCE
+        process, until = subprocess.Popen([*program, *words], **how), time.monotonic() + 3 * PATIENCE
         while process.poll() is None and time.monotonic() < until:
             peer.sendto(message(CON, EMPTY, 1), ("127.0.0.1", port))
             time.sleep(0.01)
