@@ -210,7 +210,8 @@ def an_account_of_a_recording_has_its_time_of_day(program):
         done = subprocess.run(run, input=text, stdout=subprocess.PIPE, text=True, timeout=20)
         told = f"# 1 {event.split(' ')[0]} {shown.isoformat(timespec='milliseconds').replace('+00:00', 'Z')} tick idle\n"
         expect("what is said", (0, told), (done.returncode, done.stdout), "the status", "the output")
-        done = subprocess.run(run, input=text + "night\n", stdout=subprocess.PIPE, stderr=subprocess.PIPE, text=True, timeout=20)
+        pipe = subprocess.PIPE
+        done = subprocess.run(run, input=text + "night\n", stdout=pipe, stderr=pipe, text=True, timeout=20)
         expect("after a bad event", (2, told), (done.returncode, done.stdout), "the status", "the output")
 
 

@@ -239,7 +239,7 @@ def an_entry_that_makes_room_was_fresh_or_not(stage):
         time.sleep(2.1 if seconds == 1 else 0)
     numbers = await_metric(path, 'coap_proxyd_answers_total{storing="kept"}', 3)
     counted = [numbers[f"coap_proxyd_evicted_{which}entries_total"] for which in ("", "fresh_")]
-    expect("how many entries made room, and how many of them were fresh", [2, 1], counted)
+    expect("what made room", [2, 1], counted, "entries", "fresh ones")
 
 
 @case("NotCounted")
