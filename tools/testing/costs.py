@@ -112,6 +112,30 @@ def a_longer_request_takes_no_more_memory(program):
         expect("how many requests for memory longer requests make", short, long)
 
 
+def coming_and_going(room):
+    """A replay of 27 requests that aren't answered, and of four hundred more, one after the other, that are. There is room
+    for so many."""
+    script = Script()
+    for n in range(27):
+        script.come(0, endpoint(n), message(NON, GET, n, b"", [(PROXY_URI, f"coap://{endpoint(n)}/{n}".encode())]))
+        script.ask(0, endpoint(n), script.new_exchange(), GET, path(f"{n}"))
+    for n in range(400):
+        script.fetch(0, path("t", f"{n}"), [TEMP, *path(f"{n}")], ([max_age(0)], b"21"), n)
+    return script.run("coming_and_going", f"exchanges = {room}\nwaiters = {room}", "names = ['proxy.test']\n")
+
+
+@case("ExplainsAll")
+def exchanges_that_come_and_go_take_no_memory_for_their_tables(program):
+    made = []
+    for room in (28, 1000):
+        run = coming_and_going(room)
+        with tempfile.TemporaryDirectory(prefix="coap-proxyd-test-") as folder:
+            start = memory.requests_of_start(memory.Refusals(folder, program), run)
+        made.append(requests_of(program, run) - start)
+    expect("how many requests for memory they make in tables that are almost full, and in others", made[1], made[0])
+    expect_between("how many requests for memory they make", 0, 6 * 427, made[0])
+
+
 # Address space
 
 
