@@ -307,6 +307,28 @@ def a_log_that_nobody_reads_keeps_nobody_waiting(program):
             os.close(writing)
 
 
+@case("WaitsForReaders")
+def counts_that_nobody_reads_keep_nobody_waiting(program):
+    with Stage(program) as stage:
+        reading, writing = os.pipe()
+        try:
+            fcntl.fcntl(writing, F_SETPIPE_SZ, 4096)
+            full = b"no room\n" * 512
+            os.write(writing, full)
+            client, until = stage.peer(to=stage.proxy("--stats", "1", output=writing)), time.monotonic() + 3
+            while time.monotonic() < until:
+                client.send(message(CON, EMPTY, client.new_id()))
+                client.receive("a Reset")
+                time.sleep(0.05)
+            expect("what was there before", full, os.read(reading, 4096))
+            time.sleep(1.5)
+            os.set_blocking(reading, False)
+            expect_form("the first line after that", "seconds=[0-9]+ .*", os.read(reading, 4096).decode().split("\n")[0])
+        finally:
+            os.close(reading)
+            os.close(writing)
+
+
 @case("EndUnsaid")
 def a_recording_that_ends(program):
     with tempfile.TemporaryDirectory(prefix="coap-proxyd-test-") as folder:

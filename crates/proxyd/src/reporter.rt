@@ -4,7 +4,7 @@ ghost use Rattle.coap_stats.specs.Clock.{period_of};
 
 use coap_core::{Core, Counts, Endpoint, LimitValues};
 use coap_message::{LAST_MOMENT, Moment, OutOfMemory};
-use coap_proxyd::{Fault, Plan, Watch, WatchedTurn};
+use coap_proxyd::{Fault, Journal, Plan, Watch, WatchedTurn};
 use coap_stats::{
     StandingClock, Statistics, metrics_room, period_end, period_of, put_line, put_metrics,
     socket_of,
@@ -12,6 +12,11 @@ use coap_stats::{
 use coap_store::Store;
 use std::io::Write;
 use std::{fs, io};
+
+/// What is said once of a file of counts that can't be written, and of a clock that stands still.
+const UNWRITTEN: &[u8] = b"coap-proxyd: the counts can't be written to their file\n";
+
+const STANDING: &[u8] = b"coap-proxyd: the clock stands still\n";
 
 /// A file that is written beside its name, and then takes it, so that it is never read in part.
 #[derive(Drop)]
@@ -23,10 +28,12 @@ struct StatsFile {
 }
 
 /// Writes counts once in a period: a line to standard error, and a file. What can't be written
-/// doesn't stop the program; it is said once.
+/// doesn't stop the program; it is said once. A line that would keep the program waiting, because
+/// nobody reads, is left out.
 #[derive(Drop)]
 pub(crate) struct Reporter<'a> {
     rt: &'a HostRuntime,
+    journal: Journal<'a>,
     limits: LimitValues,
     statistics: Statistics,
     clock: StandingClock,
@@ -86,9 +93,13 @@ impl<'a> Reporter<'a> {
         let Ok((statistics, text)) = counters(rt, plan) else {
             return Err(Fault::OutOfMemory);
         };
+        let Ok(journal) = Journal::new(rt) else {
+            return Err(Fault::Socket);
+        };
         let period = period_of(plan.stats);
         Ok(Some(Reporter {
             rt,
+            journal,
             limits: *plan.limits.values(),
             statistics,
             clock: StandingClock::new(),
@@ -109,7 +120,7 @@ impl<'a> Reporter<'a> {
         if put_line(&mut self.text, &self.statistics, counts, &self.limits).is_err() {
             return Err(io::Error::from(io::ErrorKind::OutOfMemory));
         }
-        self.rt.stderr().write_all(&self.text)
+        self.journal.write_all(&self.text)
     }
 
     /// Writes the file of counts, if there is one.
@@ -146,7 +157,7 @@ impl<'a> Reporter<'a> {
         }
         if self.write_file(counts).is_err() && !self.said {
             self.said = true;
-            let _ = eprintln!(self.rt; "coap-proxyd: the counts can't be written to their file");
+            let _ = self.journal.write_all(UNWRITTEN);
         }
     }
 
@@ -155,7 +166,7 @@ impl<'a> Reporter<'a> {
         ensures { self.new.statistics ≡ self.old.statistics }
     {
         if self.clock.stops(now) {
-            let _ = eprintln!(self.rt; "coap-proxyd: the clock stands still");
+            let _ = self.journal.write_all(STANDING);
         }
     }
 }
