@@ -107,11 +107,14 @@ fn insert_downward(items: &mut Vec<(u64, u64)>, start: usize, place: usize, pair
     ensures capacity { vec_capacity items.new ≡ vec_capacity items.old }
 {
     items[start] = pair;
-    items[start..start + place + 1].rotate_left(1);
+    if place > 0 {
+        items[start..start + place + 1].rotate_left(1);
+    }
 }
 
-/// Inserts a pair at a place: the pairs from there on move up by one. There is room for that. It
-/// pushes and then rotates, because a rotation moves memory in one go and `Vec::insert` doesn't.
+/// Inserts a pair at a place: the pairs from there on, if there are any, move up by one. There is
+/// room for that. It pushes and then rotates, because a rotation moves memory in one go and
+/// `Vec::insert` doesn't.
 fn insert_upward(items: &mut Vec<(u64, u64)>, place: usize, pair: (u64, u64))
     requires place { place ≤ length items.old.items }
     requires room { vec_len items.old < vec_capacity items.old }
@@ -119,8 +122,11 @@ fn insert_upward(items: &mut Vec<(u64, u64)>, place: usize, pair: (u64, u64))
     ensures len { vec_len items.new ≡ vec_len items.old + 1 }
     ensures capacity { vec_capacity items.new ≡ vec_capacity items.old }
 {
+    let len = items.len();
     items.push_reserved(pair);
-    items[place..].rotate_right(1);
+    if place < len {
+        items[place..].rotate_right(1);
+    }
 }
 
 /// Removes the pair at a place, counted from `start`: the pairs before it move up by one.
@@ -130,7 +136,9 @@ fn remove_upward(items: &mut Vec<(u64, u64)>, start: usize, place: usize)
     ensures len { vec_len items.new ≡ vec_len items.old }
     ensures capacity { vec_capacity items.new ≡ vec_capacity items.old }
 {
-    items[start..start + place + 1].rotate_right(1);
+    if place > 0 {
+        items[start..start + place + 1].rotate_right(1);
+    }
 }
 
 /// Makes room for a pair after those from `start` on, unless there already is, by moving them to
