@@ -302,15 +302,71 @@ fn place_for(pairs: &[(u64, u64)], pair: (u64, u64)) -> usize
     len
 }
 
-/// The place of the first pair after this one.
+/// The place of the first pair after this one. Most that are looked for are the first ones, or
+/// among the last: these are found at once, however many there are.
 fn place_after(pairs: &[(u64, u64)], pair: (u64, u64)) -> usize
     requires { AreRising pairs.now }
     ensures within { result ≤ length pairs.now }
     ensures below { AllByRecursion (λ p. is_before pair p ≡ false) (take result pairs.now) }
     ensures above { AllByRecursion (λ p. is_before pair p ≡ true) (drop result pairs.now) }
 {
-    let mut low = 0;
+    if are_after(pairs, pair, 0) {
+        return 0;
+    }
+    if are_after(pairs, pair, 1) {
+        return 1;
+    }
+    place_between(pairs, pair, places_from_end(pairs, pair))
+}
+
+/// Whether the pairs from this place on, if there are any, are after this one.
+#[inline(always)]
+fn are_after(pairs: &[(u64, u64)], pair: (u64, u64), place: usize) -> bool
+    requires rising { AreRising pairs.now }
+    requires place { place ≤ length pairs.now }
+    ensures above { result ≡ true
+        → AllByRecursion (λ p. is_before pair p ≡ true) (drop place pairs.now) }
+    ensures below { result ≡ false
+        → AllByRecursion (λ p. is_before pair p ≡ false) (take (place + 1) pairs.now) }
+    ensures more { result ≡ false → place < length pairs.now }
+{
+    place == pairs.len() || is_before(pair, pairs[place])
+}
+
+/// Two places between which that of the first pair after this one is: the nearer to the end, the
+/// closer they are.
+fn places_from_end(pairs: &[(u64, u64)], pair: (u64, u64)) -> (usize, usize)
+    requires { AreRising pairs.now }
+    ensures order { result.0 ≤ result.1 }
+    ensures within { result.1 ≤ length pairs.now }
+    ensures below { AllByRecursion (λ p. is_before pair p ≡ false) (take result.0 pairs.now) }
+    ensures above { AllByRecursion (λ p. is_before pair p ≡ true) (drop result.1 pairs.now) }
+{
     let mut high = pairs.len();
+    let mut step = 1;
+    while step < high {
+        let place = high - step;
+        if !is_before(pair, pairs[place]) {
+            return (place + 1, high);
+        }
+        high = place;
+        step = step.saturating_mul(2);
+    }
+    (0, high)
+}
+
+/// The place of the first pair after this one, which is between these two.
+fn place_between(pairs: &[(u64, u64)], pair: (u64, u64), places: (usize, usize)) -> usize
+    requires rising { AreRising pairs.now }
+    requires order { places.0 ≤ places.1 }
+    requires room { places.1 ≤ length pairs.now }
+    requires left { AllByRecursion (λ p. is_before pair p ≡ false) (take places.0 pairs.now) }
+    requires right { AllByRecursion (λ p. is_before pair p ≡ true) (drop places.1 pairs.now) }
+    ensures within { result ≤ length pairs.now }
+    ensures below { AllByRecursion (λ p. is_before pair p ≡ false) (take result pairs.now) }
+    ensures above { AllByRecursion (λ p. is_before pair p ≡ true) (drop result pairs.now) }
+{
+    let (mut low, mut high) = places;
     while low < high {
         let middle = low + (high - low) / 2;
         if is_before(pair, pairs[middle]) {

@@ -1,6 +1,6 @@
 use Rattle.std.proofs.Common.{◌≤◌, ◌-◌, length, take, drop}
 use Rattle.ordered_index.proofs.Ordering.{AllAfter, NoneAfter}
-use Rattle.ordered_index.proofs.ordered.place_after.Given as goal
+use Rattle.ordered_index.proofs.ordered.place_between.Given as goal
 
 abbrev pub invariant-loop-low : goal.invariant-loop-low
 invariant-loop-low l = record {
