@@ -1,5 +1,5 @@
 -- HashedIndex: how many pairs among the rest belong to each bucket.
-use Rattle.std.proofs.Common.{◌≡◌, ℕ, ◌+◌, ◌-◌, ◌<◌, ◌≤◌, ◌∙◌, ◌||◌, Bool, cond, eqb, List, [], ◌∷◌, true, false, ap, refl, sym, subst, length, get_or, set, length-set, arith}
+use Rattle.std.proofs.Common.{◌≡◌, ℕ, zero, suc, ◌+◌, ◌-◌, ◌<◌, ◌≤◌, ◌∙◌, ◌||◌, Bool, cond, eqb, List, [], ◌∷◌, true, false, ap, refl, sym, subst, length, get_or, set, length-set, arith}
 use Rattle.std.specs.Prelude.{count_by, replicate}
 use Rattle.std.proofs.lemmas.Bool.Decides.{nat_tests}
 use Rattle.std.proofs.lemmas.List.{get_or-set_same, get_or-set_other, get_or-replicate, length-replicate}
@@ -76,6 +76,10 @@ counts-less place counts pairs less q b v are e is lt one =
     (omega (arith, are b lt, e (λ p. eqb (place p.0) b), for-own place q b is))
     (λ i other. omega (arith, e (λ p. eqb (place p.0) i), for-other place q b i is other))
 
--- a pair that leaves was counted
-pub counted-some : (place : ℕ → ℕ) (counts : List ℕ) (pairs less : List Pair) (q : Pair) (b : ℕ) → AreCounts place counts pairs → ((f : Pair → Bool) → count_by f less + one_if (f q) ≡ count_by f pairs) → place q.0 ≡ b → b < length counts → 0 < get_or counts b 0
-counted-some place counts pairs less q b are e is lt = omega (arith, are b lt, e (λ p. eqb (place p.0) b), for-own place q b is)
+-- a pair that is there is counted
+pub counted-some : (place : ℕ → ℕ) (counts : List ℕ) (pairs : List Pair) (q : Pair) (b : ℕ) → AreCounts place counts pairs → is_in q pairs ≡ true → place q.0 ≡ b → b < length counts → 0 < get_or counts b 0
+counted-some place counts pairs q b are there is lt = go (get_or counts b 0) refl
+  where
+    go : (n : ℕ) → get_or counts b 0 ≡ n → 0 < n
+    go zero none = absurd (let out = none-outside place counts pairs q.0 q.1 b are lt none is in cc)
+    go (suc n) some = omega arith

@@ -3,7 +3,7 @@ use Rattle.std.proofs.Common.{◌≡◌, ℕ, zero, suc, ◌+◌, ◌<◌, ◌�
 use Rattle.std.proofs.lemmas.Bool.Decides.{nat_tests}
 use Rattle.std.specs.Prelude.{not}
 use Rattle.std.specs.List.{AllByRecursion}
-use Rattle.ordered_index.specs.Hashed.{bucket_of, lower, pairs_of, AreApart, AreBuckets, IsBucket}
+use Rattle.ordered_index.specs.Hashed.{lower, pairs_of, AreApart, AreBuckets, IsBucket}
 use Rattle.ordered_index.specs.Ordered.{Pair, OrderedIndex, is_in, is_pair, IsNextOf}
 use Rattle.ordered_index.proofs.Ordering.{pair_only}
 
@@ -15,7 +15,7 @@ or_assoc true b c = refl
 or_assoc false b c = refl
 
 -- either way round
-or_back : (a b : Bool) → (a || b) ≡ (b || a)
+pub or_back : (a b : Bool) → (a || b) ≡ (b || a)
 or_back true true = refl
 or_back true false = refl
 or_back false true = refl
@@ -52,10 +52,6 @@ in-own place number (bucket ∷ buckets) p (suc i) d are lt e =
     ∙ ap (λ (b : Bool). b || is_in p (pairs_of buckets)) (not-here place number bucket p are.0 (λ f. omega arith))
     ∙ in-own place (suc number) buckets p i d are.1 (omega arith) (omega arith)
 
--- the number of a key's bucket, computed with the number of buckets
-pub own-place : (factor many len key bucket : ℕ) → len ≡ many → bucket ≡ bucket_of factor len key → bucket_of factor many key ≡ 0 + bucket
-own-place factor many len key bucket same is = omega (arith, is ∙ ap (λ n. bucket_of factor n key) same)
-
 -- each bucket is one
 pub bucket-at : (place : ℕ → ℕ) (number : ℕ) (buckets : List OrderedIndex) (i : ℕ) (d : OrderedIndex) → AreBuckets place number buckets → i < length buckets → IsBucket place (number + i) (get_or buckets i d)
 bucket-at place number [] i d are lt = absurd (omega arith)
@@ -70,12 +66,6 @@ buckets-set place number [] i new are is = tt
 buckets-set place number (bucket ∷ buckets) zero new are is = let e : number + 0 ≡ number = omega arith in (rw e at is, are.1)
 buckets-set place number (bucket ∷ buckets) (suc i) new are is = let e : number + suc i ≡ suc number + i = omega arith in (are.0, buckets-set place (suc number) buckets i new are.1 (rw e at is))
 
--- a bucket has no more pairs than all have
-pub length-one : (buckets : List OrderedIndex) (i : ℕ) (d : OrderedIndex) → i < length buckets → length (get_or buckets i d).pairs ≤ length (pairs_of buckets)
-length-one [] i d lt = absurd (omega arith)
-length-one (bucket ∷ buckets) zero d lt = omega (arith, length-append bucket.pairs (pairs_of buckets))
-length-one (bucket ∷ buckets) (suc i) d lt = omega (arith, length-append bucket.pairs (pairs_of buckets), length-one buckets i d (omega arith))
-
 -- all have as place more as the one has
 pub length-set-one : (buckets : List OrderedIndex) (i : ℕ) (d new : OrderedIndex) → i < length buckets → length (pairs_of (set buckets i new)) + length (get_or buckets i d).pairs ≡ length (pairs_of buckets) + length new.pairs
 length-set-one [] i d new lt = absurd (omega arith)
@@ -83,7 +73,7 @@ length-set-one (bucket ∷ buckets) zero d new lt = omega (arith, length-append 
 length-set-one (bucket ∷ buckets) (suc i) d new lt = omega (arith, length-append bucket.pairs (pairs_of buckets), length-append bucket.pairs (pairs_of (set buckets i new)), length-set-one buckets i d new (omega arith))
 
 -- a choice moves past another
-or_past : (a b c : Bool) → (a || (b || c)) ≡ (b || (a || c))
+pub or_past : (a b c : Bool) → (a || (b || c)) ≡ (b || (a || c))
 or_past true true c = refl
 or_past true false c = refl
 or_past false b c = refl
@@ -159,11 +149,6 @@ pub empty-buckets : (place : ℕ → ℕ) (number : ℕ) (buckets : List Ordered
 empty-buckets place number [] all = tt
 empty-buckets place number (bucket ∷ buckets) all = (λ p there. absurd (let none : is_in p [] ≡ true = subst (λ (l : List Pair). is_in p l ≡ true) all.0 there in cc), empty-buckets place (suc number) buckets all.1)
 
--- one more at the end is as all are
-pub all-more : (buckets : List OrderedIndex) (bucket : OrderedIndex) → AllByRecursion (λ b. b.pairs ≡ []) buckets → bucket.pairs ≡ [] → AllByRecursion (λ b. b.pairs ≡ []) (buckets ++ (bucket ∷ []))
-all-more [] bucket all one = (one, tt)
-all-more (b ∷ bs) bucket all one = (all.0, all-more bs bucket all.1 one)
-
 -- ---- the buckets and the rest
 
 -- what comes into the first part comes into both
@@ -201,11 +186,6 @@ neither p xs ys e = go (is_in p xs) (is_in p ys) refl refl (sym (in-append p xs 
     go false true f g h = absurd cc
     go false false f g h = (f, g)
 
--- where a pair is, there is one
-pub some-there : (p : Pair) (xs : List Pair) → is_in p xs ≡ true → 0 < length xs
-some-there p [] there = absurd cc
-some-there p (x ∷ xs) there = omega arith
-
 -- what isn't in the first part is in the second
 pub in-second : (p : Pair) (xs ys : List Pair) → is_in p (xs ++ ys) ≡ true → is_in p xs ≡ false → is_in p ys ≡ true
 in-second p xs ys e f = sym (ap (λ (b : Bool). b || is_in p ys) f) ∙ sym (in-append p xs ys) ∙ e
@@ -221,10 +201,6 @@ not-second p xs ys apart there = go (is_in p ys) refl
     go : (b : Bool) → is_in p ys ≡ b → b ≡ false
     go false e = refl
     go true e = absurd (let out = apart p e in cc)
-
--- nothing is apart from nothing
-pub apart-empty : (xs ys : List Pair) → ys ≡ [] → AreApart xs ys
-apart-empty xs ys e = λ p there. absurd (let none : is_in p [] ≡ true = subst (λ (l : List Pair). is_in p l ≡ true) e there in cc)
 
 -- what is left was there
 pub in-more : (p q : Pair) (ys less : List Pair) → is_in p less ≡ (not (is_pair p q) && is_in p ys) → is_in p less ≡ true → is_in p ys ≡ true
@@ -287,8 +263,3 @@ next-both key after xs ys (Some m) (Some k) e f = (omega arith, least-in (leb m 
 -- and that of the first alone where the key has none in the second
 pub next-first : (key after : ℕ) (xs ys : List Pair) (a : Option ℕ) → IsNextOf key after xs a → ((n : ℕ) → is_in (key, n) ys ≡ false) → IsNextOf key after (xs ++ ys) a
 next-first key after xs ys a e none = next-alike key after (xs ++ ys) xs a (λ n. in-append (key, n) xs ys ∙ ap (λ (b : Bool). is_in (key, n) xs || b) (none n) ∙ or_back (is_in (key, n) xs) false) e
-
--- the next of a key in its own bucket is its next in all
-pub next-own : (place : ℕ → ℕ) (buckets : List OrderedIndex) (key after i : ℕ) (own : OrderedIndex) (next : Option ℕ) → AreBuckets place 0 buckets → i < length buckets → place key ≡ 0 + i → own ≡ get_or buckets i own → IsNextOf key after own.pairs next → IsNextOf key after (pairs_of buckets) next
-next-own place buckets key after i own next are lt at is e =
-    next-alike key after (pairs_of buckets) own.pairs next (λ n. in-own place 0 buckets (key, n) i own are lt at ∙ ap (λ (r : OrderedIndex). is_in (key, n) r.pairs) (sym is)) e

@@ -1,4 +1,5 @@
 pub mod Ordering
 pub mod Buffering
 pub mod Hashing
+pub mod Chaining
 pub mod Counting

@@ -1,11 +1,8 @@
 -- Pairs in rising order: where one stands, and what is there once it is put in or taken out.
-use Rattle.std.proofs.Common.{◌≡◌, ℕ, zero, suc, ◌+◌, ◌-◌, ◌<◌, ◌≤◌, ◌&&◌, ◌||◌, List, [], ◌∷◌, length, take, drop, get_or, slice_get, eqb, ltb, Bool, true, false, Some, None, refl, sym, ap, ◌∙◌, subst, arith}
+use Rattle.std.proofs.Common.{◌≡◌, ℕ, zero, suc, ◌+◌, ◌-◌, ◌<◌, ◌≤◌, ◌&&◌, ◌||◌, List, [], ◌∷◌, length, take, drop, get_or, eqb, ltb, Bool, true, false, Some, None, refl, sym, ap, ◌∙◌, subst, arith}
 use Rattle.std.specs.Prelude.{not}
 use Rattle.std.specs.List.{AllByRecursion, insert, remove}
-use Rattle.std.proofs.Common.{length-take-le}
 use Rattle.std.proofs.lemmas.Bool.Decides.{nat_tests}
-use Rattle.std.proofs.lemmas.List.{get_or-take}
-use Rattle.std.proofs.lemmas.Option.{slice_get-get_or}
 use Rattle.ordered_index.specs.Ordered.{Pair, is_before, is_left, is_pair, is_in, many_of, one_if, AreRising, IsFirstAfter, IsLeast, IsNextOf}
 
 -- the order is transitive
@@ -209,30 +206,6 @@ not-there p i xs d r le below above other = go (is_in p xs) refl
     go : (b : Bool) → is_in p xs ≡ b → b ≡ false
     go false e = refl
     go true e = absurd (let at = stands-before p i xs d r le below above e in other at.0 at.1)
-
--- where all are after it, it isn't there
-pub not-at-front : (p : Pair) (i : ℕ) (xs : List Pair) → i ≡ 0 → AreRising xs → NoneAfter p (take i xs) → AllAfter p (drop i xs) → is_in p xs ≡ false
-not-at-front p i xs e r below above = not-there p i xs p r (omega arith) below above (λ some at. omega arith)
-
--- nor where the last that isn't after it is before it
-pub not-last : (p : Pair) (i : ℕ) (xs : List Pair) (d : Pair) → AreRising xs → i ≤ length xs → NoneAfter p (take i xs) → AllAfter p (drop i xs) → is_before (get_or xs (i - 1) d) p ≡ true → is_in p xs ≡ false
-not-last p i xs d r le below above e = not-there p i xs d r le below above (λ some at. let f : is_before p p ≡ true = subst (λ (q : Pair). is_before q p ≡ true) at e in let g = not_itself p in absurd cc)
-
--- and where it isn't before it, that is the pair
-pub is-last : (p : Pair) (i : ℕ) (xs : List Pair) (d : Pair) → i ≤ length xs → (i ≡ 0 → ⊥) → NoneAfter p (take i xs) → is_before (get_or xs (i - 1) d) p ≡ false → slice_get xs (i - 1) ≡ Some p
-is-last p i xs d le some below e =
-    let lt : i - 1 < length (take i xs) = omega (arith, length-take-le i xs le) in
-    let at : get_or (take i xs) (i - 1) d ≡ get_or xs (i - 1) d = get_or-take i xs (i - 1) d (omega arith) in
-    let none : is_before p (get_or xs (i - 1) d) ≡ false = subst (λ (q : Pair). is_before p q ≡ false) at (all-get (λ q. is_before p q ≡ false) (i - 1) (take i xs) d below lt) in
-    slice_get-get_or xs (i - 1) d (omega arith) ∙ ap (λ (q : Pair). Some q) (same_parts (get_or xs (i - 1) d) p (grind (arith, nat_tests)) (grind (arith, nat_tests)))
-
--- what stands at a place is there
-pub at-place : (p : Pair) (i : ℕ) (xs : List Pair) → slice_get xs i ≡ Some p → (i < length xs) × (get_or xs i p ≡ p) × (is_in p xs ≡ true)
-at-place p i [] e = absurd cc
-at-place p zero (x ∷ xs) e = let same : x ≡ p = cc in (omega arith, same, subst (λ (y : Pair). (is_pair p y || is_in p xs) ≡ true) (sym same) (rw (pair_itself p) refl))
-at-place p (suc i) (x ∷ xs) e =
-    let rest = at-place p i xs e in
-    (omega (arith, rest.0), rest.1, rw rest.2 (or_true (is_pair p x)))
 
 -- ---- the first, and the next
 

@@ -1,4 +1,4 @@
--- Indexes that are split: buckets, each with the pairs of some keys, and the rest.
+-- Indexes by key: buckets, each with the pairs of the keys of one place, and the rest.
 use Rattle.std.specs.Prelude.{◌≡◌, ℕ, suc, ◌*◌, ◌/◌, ◌%◌, ◌^◌, ◌==◌, ◌<◌, min, true, false, count_by, length, slice_index, List, [], ◌∷◌, ◌++◌, Option, Some, None}
 use Rattle.ordered_index.specs.Ordered.{Pair, OrderedIndex, is_in}
 
@@ -7,10 +7,10 @@ abbrev pub pairs_of : List OrderedIndex → List Pair
 pairs_of [] = []
 pairs_of (bucket ∷ buckets) = bucket.pairs ++ pairs_of buckets
 
--- the number of the bucket, of `many`, to which a key belongs: a factor spreads the keys over 64
--- bits, of which each bucket has an equal part
-abbrev pub bucket_of : ℕ → ℕ → ℕ → ℕ
-bucket_of factor many key = (key * factor % 2 ^ 64) * many / 2 ^ 64
+-- the place of a key, of `many`: a factor spreads the keys over 64 bits, of which each place has an
+-- equal part
+abbrev pub place_of : ℕ → ℕ → ℕ → ℕ
+place_of factor many key = (key * factor % 2 ^ 64) * many / 2 ^ 64
 
 -- the pairs of the bucket of this number belong there
 abbrev pub IsBucket : (ℕ → ℕ) → ℕ → OrderedIndex → Type 0
@@ -22,15 +22,20 @@ AreBuckets place number [] = Unit {0}
 AreBuckets place number (bucket ∷ buckets) =
     IsBucket place number bucket × AreBuckets place (suc number) buckets
 
+-- no pair is there twice
+abbrev pub AreDistinct : List Pair → Type 0
+AreDistinct [] = Unit {0}
+AreDistinct (p ∷ ps) = (is_in p ps ≡ false) × AreDistinct ps
+
 -- no pair is in both
 abbrev pub AreApart : List Pair → List Pair → Type 0
 AreApart xs ys = (p : Pair) → is_in p ys ≡ true → is_in p xs ≡ false
 
--- the number of these pairs that belong to the bucket of this number
+-- the number of these pairs whose keys have this place
 abbrev pub many_for : (ℕ → ℕ) → ℕ → List Pair → ℕ
 many_for place number pairs = count_by (λ p. place p.0 == number) pairs
 
--- these are, for each bucket, the number of these pairs that belong to it
+-- these are, for each place, the number of these pairs whose keys have it
 abbrev pub AreCounts : (ℕ → ℕ) → List ℕ → List Pair → Type 0
 AreCounts place counts pairs =
     (i : ℕ) → i < length counts → slice_index counts i ≡ many_for place i pairs

@@ -1,33 +1,29 @@
-//! Indexes that are split by key, which nobody asks for their first pair.
-ghost use Rattle.std.specs.Prelude.{◌≡◌, ◌+◌, ◌<◌, ◌≤◌, ◌||◌, ◌&&◌, [], length, if◌then◌else◌, true, false, not, None, IfOk};
-ghost use Rattle.std.specs.List.{AllByRecursion};
-ghost use Rattle.ordered_index.specs.Hashed.{bucket_of, lower, pairs_of, AreBuckets};
+//! Indexes by key, which nobody asks for their first pair.
+ghost use Rattle.std.specs.Prelude.{◌≡◌, ◌+◌, ◌<◌, ◌≤◌, ◌||◌, ◌&&◌, ◌++◌, List, [], length, if◌then◌else◌, true, false, not, None, IfOk};
 ghost use Rattle.ordered_index.specs.Ordered.{empty_index, is_in, is_pair, one_of, IsNextOf, IsKeyIn, IsRekeyed, Pair};
 
 use crate::ordered::OrderedIndex;
+use crate::place::{factor_of, place_of};
+use crate::table::{Table, lower};
 use std::alloc::{AllocError, Global};
-use std::hash::{DefaultHasher, Hasher};
 use std::marker::Model;
 
-/// The average number of pairs in a bucket when there are as many as there may be.
-const PAIRS_A_BUCKET: usize = 32;
+/// For so many pairs of the limit there is one count of pairs among the rest.
+const PAIRS_A_COUNT: usize = 64;
 
-/// The most pairs in a bucket.
-const BUCKET_ROOM: usize = 36;
-
-/// An index that is split, so that a change moves few pairs: the pairs of a key are in the bucket
-/// that the key belongs to, or, where that had no room, among the rest. Few are there, unless most
-/// pairs have the same few keys; and they are searched only for a key whose bucket has pairs there.
-/// Only `new` allocates. A contract sees all pairs: those of the buckets, one after the other, and
-/// then the rest.
+/// An index by key, in which a pair costs the same however many others there are. A key mostly has
+/// few pairs, which are in the table. Those for which it has no room are among the rest: where a key
+/// has more than a chain holds, they cost what they cost in an `OrderedIndex`. The rest is searched
+/// only for keys that share a count with such a key. Only `new` allocates. A contract sees all
+/// pairs: those of the table, and then the rest.
 pub struct HashedIndex {
-    /// What spreads the keys over the buckets. It is odd, so that different keys stay different.
+    /// What spreads the keys.
     factor: u64,
     /// The number of pairs.
     len: usize,
-    buckets: Vec<OrderedIndex>,
+    table: Table,
     rest: OrderedIndex,
-    /// For each bucket, the number of pairs among the rest that belong to it.
+    /// For each of a few places, the number of pairs among the rest whose keys have it.
     outside: Vec<usize>,
 }
 
@@ -36,7 +32,7 @@ impl Drop for HashedIndex {
         let HashedIndex {
             factor: _,
             len: _,
-            buckets: _,
+            table: _,
             rest: _,
             outside: _,
         } = self;
@@ -45,25 +41,22 @@ impl Drop for HashedIndex {
 
 impl Model for HashedIndex {
     ghost use Rattle.std.specs.Prelude.{◌≡◌, ◌<◌, ◌++◌, length};
-    ghost use Rattle.ordered_index.specs.Hashed.{bucket_of, pairs_of, AreApart, AreBuckets, AreCounts};
+    ghost use Rattle.ordered_index.specs.Hashed.{place_of, AreApart, AreCounts};
     ghost use Rattle.ordered_index.specs.Ordered.{OrderedIndex};
 
     ghost Value = { OrderedIndex };
 
-    ghost view = { λ h.
-        record { pairs = pairs_of h.buckets.items ++ h.rest.pairs; limit = h.rest.limit } };
+    ghost view = { λ h. record { pairs = h.table ++ h.rest.pairs; limit = h.rest.limit } };
 
     ghost invariant = { λ h.
-        (h.len ≡ length (pairs_of h.buckets.items ++ h.rest.pairs))
-        × (0 < length h.buckets.items)
-        × AreBuckets (bucket_of h.factor (length h.buckets.items)) 0 h.buckets.items
-        × AreApart (pairs_of h.buckets.items) h.rest.pairs
-        × (length h.outside.items ≡ length h.buckets.items)
-        × AreCounts (bucket_of h.factor (length h.buckets.items)) h.outside.items h.rest.pairs };
+        (h.len ≡ length (h.table ++ h.rest.pairs))
+        × AreApart h.table h.rest.pairs
+        × (0 < length h.outside.items)
+        × AreCounts (place_of h.factor (length h.outside.items)) h.outside.items h.rest.pairs };
 }
 
 impl HashedIndex {
-    /// An empty index with room for `limit` pairs. To which bucket a key belongs depends on `seed`,
+    /// An empty index with room for `limit` pairs. To which chain a key belongs depends on `seed`,
     /// so that whoever doesn't know it can't choose keys that meet in one.
     ///
     /// # Errors
@@ -71,15 +64,14 @@ impl HashedIndex {
     pub fn new(alloc: Global, limit: usize, seed: u64) -> Result<HashedIndex, AllocError>
         ensures empty { IfOk result (λ index. index ≡ empty_index limit) }
     {
-        let many = limit / PAIRS_A_BUCKET + 1;
-        let buckets = empty_buckets(alloc, many)?;
-        let rest = OrderedIndex::new(alloc, limit)?;
-        let outside = vec![in alloc; 0; many]?;
         let factor = factor_of(seed);
+        let table = Table::new(alloc, limit, factor)?;
+        let rest = OrderedIndex::new(alloc, limit)?;
+        let outside = vec![in alloc; 0; limit / PAIRS_A_COUNT + 1]?;
         Ok(HashedIndex {
             factor,
             len: 0,
-            buckets,
+            table,
             rest,
             outside,
         })
@@ -92,13 +84,14 @@ impl HashedIndex {
         if self.len == 0 {
             return None;
         }
-        let bucket = bucket_of(self.factor, self.buckets.len(), key);
-        let own = self.buckets[bucket].next_of(key, after);
-        if self.outside[bucket] == 0 {
-            return own;
+        if self.rest.is_empty() {
+            return self.table.next_of(key, after);
         }
-        let other = self.rest.next_of(key, after);
-        lower(own, other)
+        let place = place_of(self.factor, self.outside.len(), key);
+        if self.outside[place] == 0 {
+            return self.table.next_of(key, after);
+        }
+        next_of_both(&self.table, &self.rest, key, after)
     }
 
     /// Moves the number from the key `was` to the key `is`: either may be absent. There is room for
@@ -154,10 +147,10 @@ impl HashedIndex {
     {
         let _laws = self.rest.limit();
         self.len += 1;
-        if !put_in(&mut self.buckets, self.factor, key, number) {
-            let bucket = bucket_of(self.factor, self.outside.len(), key);
+        if !self.table.put_if_room(key, number) {
+            let place = place_of(self.factor, self.outside.len(), key);
+            self.outside[place] += 1;
             self.rest.put(key, number);
-            self.outside[bucket] += 1;
         }
     }
 
@@ -172,90 +165,19 @@ impl HashedIndex {
             ≡ (not (is_pair p (key, number)) && is_in p self.old.pairs) }
     {
         self.len -= 1;
-        if !take_from(&mut self.buckets, self.factor, key, number) {
-            let bucket = bucket_of(self.factor, self.outside.len(), key);
+        if !self.table.take_if_there(key, number) {
+            let place = place_of(self.factor, self.outside.len(), key);
+            self.outside[place] -= 1;
             self.rest.take(key, number);
-            self.outside[bucket] -= 1;
         }
     }
 }
 
-/// Adds the pair of this key and number, which isn't there, to its bucket, unless that is full.
-/// Returns whether it did.
-fn put_in(buckets: &mut Vec<OrderedIndex>, factor: u64, key: u64, number: u64) -> bool
-    requires some { 0 < length buckets.old.items }
-    requires are { AreBuckets (bucket_of factor (length buckets.old.items)) 0 buckets.old.items }
-    requires absent { is_in (key, number) (pairs_of buckets.old.items) ≡ false }
-    ensures len { length buckets.new.items ≡ length buckets.old.items }
-    ensures are { AreBuckets (bucket_of factor (length buckets.new.items)) 0 buckets.new.items }
-    ensures length { length (pairs_of buckets.new.items)
-        ≡ length (pairs_of buckets.old.items) + (if result then 1 else 0) }
-    ensures more { (p : Pair)
-        → is_in p (pairs_of buckets.new.items)
-        ≡ ((result && is_pair p (key, number)) || is_in p (pairs_of buckets.old.items)) }
+/// The least number of this key that is greater than `after`, in the table or among the rest.
+#[inline(never)] // mostly there is no rest
+fn next_of_both(table: &Table, rest: &OrderedIndex, key: u64, after: u64) -> Option<u64>
+    ensures exact { IsNextOf key after (table.now ++ rest.now.pairs) result }
 {
-    let bucket = bucket_of(factor, buckets.len(), key);
-    if buckets[bucket].is_full() {
-        return false;
-    }
-    buckets[bucket].put(key, number);
-    true
-}
-
-/// Removes the pair of this key and number from its bucket, if it is there. Returns whether it was.
-fn take_from(buckets: &mut Vec<OrderedIndex>, factor: u64, key: u64, number: u64) -> bool
-    requires some { 0 < length buckets.old.items }
-    requires are { AreBuckets (bucket_of factor (length buckets.old.items)) 0 buckets.old.items }
-    ensures exact { result ≡ is_in (key, number) (pairs_of buckets.old.items) }
-    ensures len { length buckets.new.items ≡ length buckets.old.items }
-    ensures are { AreBuckets (bucket_of factor (length buckets.new.items)) 0 buckets.new.items }
-    ensures length { length (pairs_of buckets.new.items) + (if result then 1 else 0)
-        ≡ length (pairs_of buckets.old.items) }
-    ensures less { (p : Pair)
-        → is_in p (pairs_of buckets.new.items)
-        ≡ (not (is_pair p (key, number)) && is_in p (pairs_of buckets.old.items)) }
-{
-    let bucket = bucket_of(factor, buckets.len(), key);
-    buckets[bucket].take_if_there(key, number)
-}
-
-/// The lower of two numbers, if there is one.
-fn lower(a: Option<u64>, b: Option<u64>) -> Option<u64>
-    ensures exact { result ≡ lower a b }
-{
-    match (a, b) {
-        (Some(first), Some(second)) => Some(first.min(second)),
-        (Some(_), None) => a,
-        (None, _) => b,
-    }
-}
-
-/// The number of the bucket, of `many`, that has the pairs of a key.
-fn bucket_of(factor: u64, many: usize, key: u64) -> usize
-    requires { 0 < many }
-    ensures exact { result ≡ bucket_of factor many key }
-    ensures within { result < many }
-{
-    let spread = key.wrapping_mul(factor);
-    (u128::from(spread) * many as u128 / (1 << 64)) as usize
-}
-
-/// What spreads the keys of an index that is made with this seed.
-fn factor_of(seed: u64) -> u64 {
-    let mut hasher = DefaultHasher::new();
-    hasher.write_u64(seed);
-    hasher.finish() | 1
-}
-
-/// `many` empty buckets.
-fn empty_buckets(alloc: Global, many: usize) -> Result<Vec<OrderedIndex>, AllocError>
-    ensures many { IfOk result (λ buckets. length buckets.items ≡ many) }
-    ensures empty { IfOk result
-        (λ buckets. AllByRecursion (λ bucket. bucket.pairs ≡ []) buckets.items) }
-{
-    let mut buckets = Vec::with_capacity(alloc, many)?;
-    for _ in 0..many {
-        buckets.push(OrderedIndex::small(alloc, BUCKET_ROOM)?)?;
-    }
-    Ok(buckets)
+    let own = table.next_of(key, after);
+    lower(own, rest.next_of(key, after))
 }

@@ -16,6 +16,8 @@ mod hashed;
 mod order;
 mod ordered;
 mod pair_buffer;
+mod place;
+mod table;
 
 pub use hashed::HashedIndex;
 pub use order::is_before;

@@ -1,6 +1,6 @@
 //! Indexes: which key has which numbers. The first pair, and the numbers of one key, are found
 //! without a scan.
-ghost use Rattle.std.specs.Prelude.{◌≡◌, ◌+◌, ◌==◌, ◌<◌, ◌≤◌, ◌||◌, ◌&&◌, ℕ, Bool, count_by, length, nat_le, if◌then◌else◌, take, drop, true, false, not, None, Some, IfOk, IfNone, IfSome};
+ghost use Rattle.std.specs.Prelude.{◌≡◌, ◌+◌, ◌==◌, ◌<◌, ◌≤◌, ◌||◌, ◌&&◌, ℕ, Bool, count_by, length, nat_le, if◌then◌else◌, take, drop, true, false, not, None, Some, [], ◌↔◌, IsTrue, IfOk, IfNone, IfSome};
 ghost use Rattle.std.specs.List.{slice_get, AllByRecursion};
 ghost use Rattle.ordered_index.specs.Ordered.{empty_index, is_before, is_in, is_key, is_left, is_pair, many_of, one_if, one_of, AreRising, IsFirstAfter, IsLeast, IsNextOf, IsKeyIn, IsRekeyed, IsReplaced, Pair};
 
@@ -46,19 +46,6 @@ impl OrderedIndex {
         })
     }
 
-    /// An empty index with room for `limit` pairs, which are so few that moving all of them costs
-    /// little.
-    ///
-    /// # Errors
-    /// If allocation fails.
-    pub(crate) fn small(alloc: Global, limit: usize) -> Result<OrderedIndex, AllocError>
-        ensures empty { IfOk result (λ index. index ≡ empty_index limit) }
-    {
-        Ok(OrderedIndex {
-            buffer: PairBuffer::new(alloc, limit, 0)?,
-        })
-    }
-
     /// The most pairs that it can hold.
     pub(crate) fn limit(&self) -> usize
         ensures exact { result ≡ self.now.limit }
@@ -66,11 +53,11 @@ impl OrderedIndex {
         self.buffer.limit()
     }
 
-    /// Whether there is no room for another pair.
-    pub(crate) fn is_full(&self) -> bool
-        ensures exact { result ≡ nat_le self.now.limit (length self.now.pairs) }
+    /// Whether it has no pairs.
+    pub(crate) fn is_empty(&self) -> bool
+        ensures exact { IsTrue result ↔ self.now.pairs ≡ [] }
     {
-        self.buffer.is_full()
+        self.buffer.pairs().is_empty()
     }
 
     /// The first pair: the least key, and the least of its numbers.
@@ -207,23 +194,6 @@ impl OrderedIndex {
         self.buffer.insert(place, (key, number));
     }
 
-    /// Removes the pair of this key and number, if it is there, and returns whether it was.
-    pub(crate) fn take_if_there(&mut self, key: u64, number: u64) -> bool
-        ensures exact { result ≡ is_in (key, number) self.old.pairs }
-        ensures limit { self.new.limit ≡ self.old.limit }
-        ensures length { length self.new.pairs + (if result then 1 else 0)
-            ≡ length self.old.pairs }
-        ensures less { (p : Pair)
-            → is_in p self.new.pairs
-            ≡ (not (is_pair p (key, number)) && is_in p self.old.pairs) }
-    {
-        let Some(place) = place_of(self.buffer.pairs(), (key, number)) else {
-            return false;
-        };
-        self.buffer.remove(place);
-        true
-    }
-
     /// Removes the pair of this key and number, which is there.
     #[inline(never)]
     pub fn take(&mut self, key: u64, number: u64)
@@ -269,22 +239,6 @@ fn is_left(past: bool, key: u64, pair: (u64, u64)) -> bool
     ensures exact { result ≡ is_left past key pair }
 {
     pair.0 < key || (past && pair.0 == key)
-}
-
-/// The place of this pair, if it is there.
-fn place_of(pairs: &[(u64, u64)], pair: (u64, u64)) -> Option<usize>
-    requires { AreRising pairs.now }
-    ensures some { IfSome result (λ place. slice_get pairs.now place ≡ Some pair) }
-    ensures none { IfNone result (is_in pair pairs.now ≡ false) }
-{
-    let after = place_after(pairs, pair);
-    if after == 0 {
-        return None;
-    }
-    if is_before(pairs[after - 1], pair) {
-        return None;
-    }
-    Some(after - 1)
 }
 
 /// The place of the first pair after this one, which is found at once if there is none: moments and

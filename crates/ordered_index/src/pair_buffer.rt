@@ -60,13 +60,6 @@ impl PairBuffer {
         self.limit
     }
 
-    /// Whether there is no room for another pair.
-    pub(crate) fn is_full(&self) -> bool
-        ensures { result ≡ nat_le self.now.limit (length self.now.pairs) }
-    {
-        self.limit <= self.items.len() - self.start
-    }
-
     /// Inserts a pair at a place.
     pub(crate) fn insert(&mut self, place: usize, pair: (u64, u64))
         requires place { place ≤ length self.old.pairs }

@@ -1,4 +1,4 @@
-use Rattle.std.proofs.Common.{◌≡◌, ◌+◌, ◌-◌, ◌<◌, suc, ℕ, sym, length, take, subst, arith}
+use Rattle.std.proofs.Common.{◌≡◌, ◌-◌, suc, ℕ, sym, length, take, subst, arith}
 use Rattle.ordered_index.proofs.Ordering.{below-at, NoneAfter}
 use Rattle.ordered_index.proofs.ordered.place_for.Goals as goal
 

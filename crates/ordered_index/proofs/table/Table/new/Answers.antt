@@ -1,0 +1,27 @@
+use Rattle.std.proofs.Common.{◌≡◌, ◌∙◌, ℕ, arith, ap, get_or, length, rules, vec_len}
+use Rattle.std.proofs.lemmas.List.{get_or-replicate, length-replicate}
+use Rattle.ordered_index.specs.Hashed.{place_of}
+use Rattle.ordered_index.proofs.Chaining.{new-table}
+use Rattle.ordered_index.proofs.table.Table.new.Goals as goal
+
+pub invariant_of-result : goal.invariant_of-result
+invariant_of-result c =
+    let zeros = c.in_ok-heads.ensures.items_if_clones_equal (λ y same. same) in
+    let many = ap length zeros ∙ length-replicate {A = ℕ} _ 0 in
+    let pairs : vec_len c.in_ok-pairs.pairs ≡ length c.in_ok-pairs.pairs.items = search rules in
+    let both : length c.in_ok-pairs.pairs.items ≡ length c.in_ok-nexts.nexts.items = omega (arith, pairs, c.in_ok-pairs.ensures.len, c.in_ok-nexts.ensures.0) in
+    let all : c.min-room.result ≡ length c.in_ok-nexts.nexts.items = omega (arith, c.in_ok-nexts.ensures.0) in (
+      omega (arith, many),
+      (new-table (place_of c.args.factor (length c.in_ok-heads.heads.items)) c.in_ok-pairs.pairs.items c.in_ok-nexts.nexts.items c.in_ok-heads.heads.items c.min-room.result both all c.in_ok-nexts.ensures.1 (λ h lt. ap (λ l. get_or l h 0) zeros ∙ get_or-replicate _ h 0 0 (omega (arith, lt, many)))).0,
+    )
+
+pub returns : goal.returns
+returns c =
+    let zeros = c.in_ok-heads.ensures.items_if_clones_equal (λ y same. same) in
+    let many = ap length zeros ∙ length-replicate {A = ℕ} _ 0 in
+    let pairs : vec_len c.in_ok-pairs.pairs ≡ length c.in_ok-pairs.pairs.items = search rules in
+    let both : length c.in_ok-pairs.pairs.items ≡ length c.in_ok-nexts.nexts.items = omega (arith, pairs, c.in_ok-pairs.ensures.len, c.in_ok-nexts.ensures.0) in
+    let all : c.min-room.result ≡ length c.in_ok-nexts.nexts.items = omega (arith, c.in_ok-nexts.ensures.0) in
+    record {
+      empty = (new-table (λ key. key) c.in_ok-pairs.pairs.items c.in_ok-nexts.nexts.items c.in_ok-heads.heads.items c.min-room.result both all c.in_ok-nexts.ensures.1 (λ h lt. ap (λ l. get_or l h 0) zeros ∙ get_or-replicate _ h 0 0 (omega (arith, lt, many)))).1;
+    }
