@@ -27,6 +27,7 @@ impl Exchanges {
     /// Changes the exchange numbered `number`, or removes it if there is no change. Nothing happens
     /// if there is no such exchange. What is counted of it, what it is looked up by, and whose turn
     /// it is follow.
+    #[inline(always)] // which change it is, each caller knows
     pub(crate) fn update(&mut self, number: ExchangeNumber, change: Option<Transition>)
         requires { CanUpdate change (item_at number self.old.items) }
         ensures { self.new
@@ -51,6 +52,7 @@ impl Exchanges {
 impl Table<IndexedExchange> {
     /// Changes the exchange numbered `number`, or removes it if there is no change, and returns
     /// what it is looked up by then. Digests are made with this secret.
+    #[inline(always)]
     fn update(
         &mut self,
         number: ExchangeNumber,
@@ -74,6 +76,7 @@ impl Table<IndexedExchange> {
 
     /// Changes the exchange numbered `number`, if there is one, and returns what it is looked up by
     /// then.
+    #[inline(always)]
     fn change(&mut self, number: ExchangeNumber, change: Transition, secret: u64) -> ExchangeKeys
         requires { IfSome (item_at number self.old.items) (CanChange change) }
         ensures changed { self.new
@@ -94,6 +97,7 @@ impl Table<IndexedExchange> {
     }
 }
 
+#[inline(always)]
 fn change_under(
     exchanges: &mut Items<IndexedExchange>,
     place: usize,
@@ -205,6 +209,7 @@ fn queued_without(
 /// Counts the exchange numbered `number` for its endpoint as it is after a change, in which it no
 /// longer waits for its turn, or no longer counts it if it is removed. Returns how many were and
 /// are sent to that endpoint.
+#[inline(always)]
 fn recount(
     endpoints: &mut EndpointMap,
     exchanges: &Table<IndexedExchange>,

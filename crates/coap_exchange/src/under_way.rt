@@ -389,6 +389,7 @@ impl UnderWay {
     }
 
     /// `Waiters::update`. Which waiter of its exchange is to be served first follows.
+    #[inline(always)] // which change it is, each caller knows
     fn update_waiter(&mut self, number: WaiterNumber, change: Option<WaiterTransition>)
         requires { waiters.CanUpdate change (item_at number self.old.waiters.items) }
         ensures { self.new

@@ -19,6 +19,7 @@ use std::alloc::Global;
 impl Waiters {
     /// Changes the waiter numbered `number`, or removes it if there is no change. Nothing happens
     /// if there is no such waiter. What is counted of it and what it is looked up by follow.
+    #[inline(always)] // which change it is, each caller knows
     pub(crate) fn update(&mut self, number: WaiterNumber, change: Option<WaiterTransition>)
         requires { CanUpdate change (item_at number self.old.items) }
         ensures { self.new
@@ -37,6 +38,7 @@ impl Waiters {
 impl Table<Waiter> {
     /// Changes the waiter numbered `number`, or removes it if there is no change, and returns what
     /// it is looked up by then.
+    #[inline(always)]
     fn update(
         &mut self,
         number: WaiterNumber,
@@ -60,6 +62,7 @@ impl Table<Waiter> {
 
     /// Changes the waiter numbered `number`, if there is one, and returns what it is looked up by
     /// then.
+    #[inline(always)]
     fn change(
         &mut self,
         number: WaiterNumber,
@@ -76,6 +79,7 @@ impl Table<Waiter> {
     }
 }
 
+#[inline(always)]
 fn change_under(
     waiters: &mut Items<Waiter>,
     place: usize,

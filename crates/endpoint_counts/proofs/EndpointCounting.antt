@@ -1,5 +1,5 @@
 -- What is counted for each endpoint, as what is counted for one of them changes.
-use Rattle.std.proofs.Common.{◌≡◌, ℕ, ◌+◌, ◌-◌, ◌<◌, ◌≤◌, ◌&&◌, [], ◌∷◌, ◌++◌, Bool, true, false, cond, Option, None, refl, ap, ◌∙◌, arith}
+use Rattle.std.proofs.Common.{◌≡◌, ℕ, ◌+◌, ◌-◌, ◌<◌, ◌&&◌, Bool, true, false, cond, Option, None, refl, ap, ◌∙◌, arith}
 use Rattle.coap_endpoint.specs.declared.endpoint.Endpoint.{Endpoint}
 use Rattle.endpoint_counts.specs.declared.endpoints.EndpointCounts.{EndpointCounts}
 use Rattle.endpoint_counts.specs.Endpoints.{is_one, open_of, one_if_at}

@@ -1,5 +1,5 @@
 -- An index next to a table: it pairs the number of each item with the key of that item.
-use Rattle.std.specs.Prelude.{◌≡◌, ℕ, ◌+◌, ◌≤◌, ◌&&◌, ◌||◌, if◌then◌else◌, List, length, Option, Some, None}
+use Rattle.std.specs.Prelude.{◌≡◌, ℕ, ◌+◌, ◌≤◌, List, length, Option, Some, None}
 use Rattle.std.specs.Option.{is_some}
 use Rattle.ordered_index.specs.Ordered.{OrderedIndex, is_in, is_key, one_of, IsKeyIn, IsRekeyed}
 use Rattle.coap_pending.specs.Table.{Numbered, count, item_at}

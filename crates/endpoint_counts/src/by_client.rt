@@ -29,17 +29,28 @@ pub fn enter(clients: &mut EndpointMap, client: DigestedEndpoint)
 }
 
 /// Counts one item less of a client, if there is one.
+#[inline(always)] // mostly there is none
 pub fn depart(clients: &mut EndpointMap, client: Option<DigestedEndpoint>)
     ensures limit { clients.new.limit ≡ clients.old.limit }
     ensures exact { (e : Endpoint)
         → count_of clients.new e ≡ count_of clients.old e - one_of client e }
 {
     if let Some(client) = client {
-        let place = clients.place_of(client);
-        match counts_at(clients, client, place).all {
-            0 | 1 => clients.remove(client, place),
-            count => clients.set(client, place, items(count - 1)),
-        }
+        leave(clients, client);
+    }
+}
+
+/// Counts one item less of a client.
+#[inline(never)]
+fn leave(clients: &mut EndpointMap, client: DigestedEndpoint)
+    ensures limit { clients.new.limit ≡ clients.old.limit }
+    ensures exact { (e : Endpoint)
+        → count_of clients.new e ≡ count_of clients.old e - one_if_at true client e }
+{
+    let place = clients.place_of(client);
+    match counts_at(clients, client, place).all {
+        0 | 1 => clients.remove(client, place),
+        count => clients.set(client, place, items(count - 1)),
     }
 }
 

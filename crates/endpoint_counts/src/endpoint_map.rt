@@ -148,6 +148,7 @@ impl EndpointMap {
     }
 
     /// The number of the place of an endpoint, if it has one.
+    #[inline(always)] // mostly it is the last one
     pub fn place_of(&self, at: DigestedEndpoint) -> Option<u64>
         ensures exact { result ≡ first_that (is_entry_of at) self.now.items }
     {
@@ -158,6 +159,7 @@ impl EndpointMap {
     }
 
     /// The number of the place of an endpoint, found by its digest.
+    #[inline(never)]
     fn place_by_digest(&self, at: DigestedEndpoint) -> Option<u64>
         ensures exact { result ≡ first_that (is_entry_of at) self.now.items }
     {
