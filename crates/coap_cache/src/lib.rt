@@ -16,7 +16,8 @@
 #![tactic(auto)]
 
 pub use coap_store::{
-    CacheKey, Put, RenewError, SharedKey, Store, Stored, bytes_of, renewed, show_into, shown,
+    CacheKey, Put, RenewError, SharedKey, SharedMessage, Store, Stored, bytes_of, renewed,
+    show_into, shown,
 };
 pub use coap_store_list::ListStore;
 pub use coap_store_lru::LruStore;

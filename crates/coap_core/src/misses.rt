@@ -187,7 +187,7 @@ impl<S: Store + Drop> State<S> {
         let Some(stored) = self.store.peek(&query.key) else {
             unreachable!()
         };
-        let Some(tag) = validating_tag(request, &stored.response) else {
+        let Some(tag) = validating_tag(request, stored.response.message()) else {
             return Ok(None);
         };
         if self.put_request(request, query, Some(tag), out).is_ok() {

@@ -15,7 +15,6 @@ ghost use Rattle.coap_core.specs.Done.{Does, IsDoneBy, wants_memory};
 ghost use Rattle.coap_core.specs.Needs.{CanDo, CanGoOn, CanRemember, IsNew, IsOpenAt};
 
 use crate::arrival::Arrival;
-use crate::copies::copy_of_message;
 use crate::known::put_acceptance;
 use crate::state::State;
 use coap_endpoint::{Endpoint, Target};
@@ -287,7 +286,8 @@ impl<S: Store + Drop> State<S> {
         answer_of(self.alloc, most, request, now, response)
     }
 
-    /// The entry to be stored for the answer of an exchange, if it may be stored.
+    /// The entry to be stored for the answer of an exchange, if it may be stored: it shares the
+    /// exchange's key, and the answer's message.
     fn entry_made(
         &self,
         now: Moment,
@@ -302,7 +302,7 @@ impl<S: Store + Drop> State<S> {
         }
         let key = exchange.key.share()?;
         let stored = Stored {
-            response: copy_of_message(&answer.message)?,
+            response: answer.message.share()?,
             asked: exchange.asked(),
             got_no: self.events,
             got: now,

@@ -11,7 +11,9 @@ use coap_message::{
     Code, Kind, Message, MessageRef, Moment, OptionList, Options, OutOfMemory, Seq, Token,
 };
 use coap_option::{max_age, numbers, screen_response_ref};
-use coap_store::{Answer, RenewError, Stored, aged_fits, is_cacheable, left_at, renewed};
+use coap_store::{
+    Answer, RenewError, SharedMessage, Stored, aged_fits, is_cacheable, left_at, renewed,
+};
 use std::alloc::Global;
 
 /// The greatest Max-Age, in seconds: it takes four bytes (RFC 7252, 5.10.5).
@@ -93,14 +95,14 @@ fn own_answer(alloc: Global, now: Moment, code: Code) -> Answer
         (record { kind = Non; code = code; id = 0; token = []; options = []; payload = [] }) }
 {
     Answer {
-        message: Message {
+        message: SharedMessage::alone(Message {
             kind: Kind::Non,
             code,
             id: 0,
             token: Token::empty(),
             options: OptionList::new(alloc),
             payload: Seq::new(alloc),
-        },
+        }),
         got: now,
         own: true,
     }
@@ -123,7 +125,7 @@ pub fn gateway_timeout(alloc: Global, now: Moment) -> Answer
 }
 
 /// An origin's response, as an answer.
-fn origin_answer(now: Moment, message: Message) -> Answer
+fn origin_answer(now: Moment, message: SharedMessage) -> Answer
     ensures { result ≡ origin_answer now message }
 {
     Answer {
@@ -133,15 +135,20 @@ fn origin_answer(now: Moment, message: Message) -> Answer
     }
 }
 
-/// An origin's response, as an answer, if it fits a datagram, and 5.02 otherwise.
-fn answer_if_fits(alloc: Global, most: usize, now: Moment, message: Message) -> Answer
-    ensures { result ≡ answer_if_fits most now message }
+/// An origin's response to a GET, as an answer that is to be shared with a store, if it fits a
+/// datagram, and 5.02 otherwise.
+fn answer_if_fits(
+    alloc: Global,
+    most: usize,
+    now: Moment,
+    message: Message,
+) -> Result<Answer, OutOfMemory>
+    ensures { IfOk result (λ answer. answer ≡ answer_if_fits most now message) }
 {
-    if fits(&message, most) {
-        origin_answer(now, message)
-    } else {
-        bad_gateway(alloc, now)
+    if !fits(&message, most) {
+        return Ok(bad_gateway(alloc, now));
     }
+    Ok(origin_answer(now, SharedMessage::new(alloc, message)?))
 }
 
 /// The answer for a 2.03: the stored response, renewed, if it is the one being validated (RFC 7252,
@@ -161,7 +168,7 @@ fn validated(
         return Ok(bad_gateway(alloc, now));
     };
     match renewed(alloc, stored, valid) {
-        Ok(message) => Ok(answer_if_fits(alloc, most, now, message)),
+        Ok(message) => answer_if_fits(alloc, most, now, message),
         Err(RenewError::WrongTag) => Ok(bad_gateway(alloc, now)),
         Err(RenewError::OutOfMemory) => Err(OutOfMemory),
     }
@@ -208,17 +215,21 @@ pub fn answer_of(
         return Ok(bad_gateway(alloc, now));
     }
     if valid {
-        validated(alloc, most, now, request.copy, &message)
-    } else {
-        Ok(origin_answer(now, message))
+        return validated(alloc, most, now, request.copy, &message);
     }
+    let message = if request.is_get {
+        SharedMessage::new(alloc, message)?
+    } else {
+        SharedMessage::alone(message)
+    };
+    Ok(origin_answer(now, message))
 }
 
 /// For how many seconds an answer stays fresh (RFC 7252, 5.7.1).
 fn left_of(now: Moment, answer: &Answer) -> u32
     ensures { result ≡ left_of now answer.now }
 {
-    left_at(&answer.message, now.saturating_sub(answer.got))
+    left_at(answer.message.message(), now.saturating_sub(answer.got))
 }
 
 /// For how many seconds an origin's answer to a GET stays fresh, which a client is shown; `None`
@@ -238,5 +249,6 @@ pub(crate) fn left_to_show(to_get: bool, now: Moment, answer: &Answer) -> Option
 pub fn is_storable(answer: &Answer) -> bool
     ensures { result ≡ is_storable answer.now }
 {
-    !answer.own && is_cacheable(answer.message.code) && max_age(&answer.message) > 0
+    let message = answer.message.message();
+    !answer.own && is_cacheable(message.code) && max_age(message) > 0
 }

@@ -72,7 +72,7 @@ pub fn put_shown(
 {
     let left = left_to_show(to_get, now, answer);
     let room = out.room();
-    if put_response(&answer.message, envelope, left, out, room).is_err() {
+    if put_response(answer.message.message(), envelope, left, out, room).is_err() {
         unreachable!();
     }
 }
@@ -86,7 +86,7 @@ pub fn put_stored(now: Moment, stored: &Stored, envelope: Envelope<'_>, out: &mu
 {
     let left = Some(stored.left(now));
     let room = out.room();
-    if put_response(&stored.response, envelope, left, out, room).is_err() {
+    if put_response(stored.response.message(), envelope, left, out, room).is_err() {
         unreachable!();
     }
 }

@@ -4,6 +4,7 @@ pub mod Digests
 pub mod Digested
 pub mod DigestedAlike
 pub mod Freshness
+pub mod Shared
 pub mod Sizes
 pub mod Lists
 pub mod Entries

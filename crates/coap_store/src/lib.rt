@@ -9,7 +9,7 @@
 //! let response = decode(alloc, b"\x60\x45\x00\x01\x41\xAB\xA1\x0A\xFF21")?;
 //! // it came at moment 0, in event 2; the request was sent in event 1
 //! let stored = Stored {
-//!     response,
+//!     response: SharedMessage::alone(response),
 //!     asked: 1,
 //!     got_no: 2,
 //!     got: 0,
@@ -36,6 +36,7 @@ mod measure;
 mod renew;
 mod renew_error;
 mod shared_key;
+mod shared_message;
 mod show;
 mod showing;
 mod size;
@@ -54,6 +55,7 @@ pub use measure::aged_fits;
 pub use renew::renewed;
 pub use renew_error::RenewError;
 pub use shared_key::{KeySource, SharedKey};
+pub use shared_message::SharedMessage;
 pub use show::{is_cacheable, put_max_age, put_response, show_into};
 pub use showing::shown;
 pub use size::bytes_of;

@@ -23,10 +23,10 @@ pub fn renewed(alloc: Global, stored: &Stored, valid: &Message) -> Result<Messag
     ensures wrong_tag { (result ≡ Err RenewError.WrongTag)
         ↔ (is_validated stored.now.response valid.now ≡ false) }
 {
-    if !is_validated(&stored.response, valid) {
+    if !is_validated(stored.response.message(), valid) {
         return Err(RenewError::WrongTag);
     }
-    match renew(alloc, &stored.response, valid) {
+    match renew(alloc, stored.response.message(), valid) {
         Ok(message) => Ok(message),
         Err(_) => Err(RenewError::OutOfMemory),
     }

@@ -15,7 +15,8 @@ use coap_message::{OptionList, Pieces};
 pub fn bytes_of(key: &CacheKey, stored: &Stored) -> u64
     ensures { result ≡ min (size_of key.now stored.now) u64.MAX }
 {
-    let bytes = (stored.response.payload.len() as u64).saturating_add(64);
+    let response = stored.response.message();
+    let bytes = (response.payload.len() as u64).saturating_add(64);
     let bytes = match &key.target.host {
         Some(host) => with_value(bytes, host.as_slice()),
         None => bytes,
@@ -23,7 +24,7 @@ pub fn bytes_of(key: &CacheKey, stored: &Stored) -> u64
     let bytes = with_values(bytes, &key.target.path);
     let bytes = with_values(bytes, &key.target.query);
     let bytes = with_options(bytes, &key.options);
-    with_options(bytes, &stored.response.options)
+    with_options(bytes, &response.options)
 }
 
 /// Adds a value to the count.

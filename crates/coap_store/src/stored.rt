@@ -2,6 +2,7 @@
 ghost use Rattle.std.specs.Prelude.{◌≡◌};
 ghost use Rattle.coap_store.specs.Freshness.{left_at};
 
+use crate::shared_message::SharedMessage;
 use coap_message::{Message, Moment};
 use coap_option::max_age;
 
@@ -11,7 +12,7 @@ pub type EventNumber = u64;
 /// A response in the store.
 pub struct Stored {
     /// The response. Its type, Message ID and token are ignored.
-    pub response: Message,
+    pub response: SharedMessage,
     /// The number of the event in which its request was first sent.
     pub asked: EventNumber,
     /// The number of the event in which it came.
@@ -50,7 +51,7 @@ impl Stored {
     pub fn is_fresh(&self, now: Moment) -> bool
         ensures { result ≡ is_fresh now self.now }
     {
-        self.age(now) <= 1000 * u64::from(max_age(&self.response))
+        self.age(now) <= 1000 * u64::from(max_age(self.response.message()))
     }
 
     /// For how many whole seconds it stays fresh: its Max-Age less its age, where a second that has
@@ -59,7 +60,7 @@ impl Stored {
     pub fn left(&self, now: Moment) -> u32
         ensures { result ≡ left_of now self.now }
     {
-        left_at(&self.response, self.age(now))
+        left_at(self.response.message(), self.age(now))
     }
 
     /// Whether it may answer a request at this moment, in milliseconds: it is fresh and not marked.

@@ -1,6 +1,6 @@
 //! `coap_store`, `coap_store_list`, `coap_store_lru`, `coap_cache`.
 use crate::fixtures;
-use coap_cache::{ListStore, LruStore, Put, Store, Stored, renewed, shown};
+use coap_cache::{ListStore, LruStore, Put, SharedMessage, Store, Stored, renewed, shown};
 use coap_message::{Pieces, decode};
 use coap_option::max_age;
 use std::hash::RandomState;
@@ -13,7 +13,7 @@ fn coap_store(rt: HostRuntime) -> Result<(), Fail> {
     let response = decode(alloc, b"\x60\x45\x00\x01\x41\xAB\xA1\x0A\xFF21")?;
     // it came at moment 0, in event 2; the request was sent in event 1
     let stored = Stored {
-        response,
+        response: SharedMessage::alone(response),
         asked: 1,
         got_no: 2,
         got: 0,

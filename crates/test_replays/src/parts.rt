@@ -1,7 +1,7 @@
 //! Functions that allocate and aren't called in the worked runs, with ample memory: owned messages,
 //! the options copied from a request, the bytes of a number, a renewed response, and what a client
 //! is sent for it.
-use coap_cache::{RenewError, Stored, renewed, shown};
+use coap_cache::{RenewError, SharedMessage, Stored, renewed, shown};
 use coap_message::{
     Code, Datagram, DecodeError, Kind, Message, MessageRef, OutOfMemory, Pieces, decode,
     encode_into, uint_bytes,
@@ -133,7 +133,7 @@ const OTHER: &[u8] = b"\x68\x43\x00\x03\x00\x00\x00\x00\x00\x00\x00\x02\x41\xAC\
 /// The stored response, as it came.
 fn stored(alloc: Global) -> Result<Stored, Fail> {
     Ok(Stored {
-        response: decode(alloc, STORED)?,
+        response: SharedMessage::alone(decode(alloc, STORED)?),
         asked: 1,
         got_no: 2,
         got: 0,

@@ -1,5 +1,7 @@
 //! Both stores, called directly: what they keep within their limits, and what they return.
-use coap_cache::{CacheKey, ListStore, LruStore, Put, SharedKey, Store, Stored, bytes_of};
+use coap_cache::{
+    CacheKey, ListStore, LruStore, Put, SharedKey, SharedMessage, Store, Stored, bytes_of,
+};
 use coap_message::{Code, Kind, Message, OptionList, OutOfMemory, Pieces, Seq, Token};
 use coap_option::numbers;
 use coap_target::{Endpoint, Ip, Target};
@@ -51,7 +53,7 @@ fn stored(alloc: Global, bytes: usize) -> Result<Stored, OutOfMemory> {
         payload,
     };
     Ok(Stored {
-        response,
+        response: SharedMessage::alone(response),
         asked: 0,
         got_no: 0,
         got: 0,
@@ -209,5 +211,18 @@ fn a_change_marks_all_that_is_stored_of_its_resource(rt: HostRuntime) -> Result<
     let alloc = rt.alloc();
     check_marks_of_new::<ListStore>(&rt, alloc, ())?;
     check_marks_of_new::<LruStore<RandomState>>(&rt, alloc, RandomState::new(&rt)?)?;
+    Ok(())
+}
+
+#[test]
+fn digests_are_made_with_their_secret(rt: HostRuntime) -> Result<(), Fail> {
+    // what Rust's `DefaultHasher` gives for the same bytes
+    let key = key(rt.alloc(), b"temp", b"\x28")?;
+    let digests = key.digests(1);
+    assert_eq!(rt; digests.target, 259_818_306_230_810_964);
+    assert_eq!(rt; digests.key, 4_776_173_504_558_366_331);
+    let others = key.digests(0);
+    assert_eq!(rt; others.target, 4_738_415_108_282_001_183);
+    assert_eq!(rt; others.key, 6_571_169_565_487_700_985);
     Ok(())
 }
