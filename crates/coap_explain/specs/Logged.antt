@@ -1,5 +1,5 @@
 -- The lines of `--log`: which fields stand in each, in order.
-use Rattle.std.specs.Prelude.{◌≡◌, ℕ, ◌-◌, Bool, List, [], ◌∷◌, ◌++◌, codes, Option, None, Some, if◌then◌else◌}
+use Rattle.std.specs.Prelude.{◌≡◌, ℕ, ◌-◌, ◌==◌, Bool, false, List, [], ◌∷◌, ◌++◌, codes, take, Option, None, Some, if◌then◌else◌}
 use Rattle.std.specs.Fmt.{decimal}
 use Rattle.std.specs.List.{flat_map}
 use Rattle.coap_message.specs.Codes.{code_of}
@@ -23,6 +23,12 @@ use Rattle.coap_explain.specs.Words.{code_text, gateway_word, need_key, silence_
 -- a line goes on with these fields
 abbrev pub Adds : Datagram → Datagram → List Field → Type 0
 Adds old new fields = new ≡ holding old (old.bytes ++ fields_text fields)
+
+-- a line as it is written: behind a line feed of its own if the output took only a part of the last
+-- one
+abbrev pub written : Bool → Datagram → List ℕ
+written torn line =
+    (if torn then codes "\n" else []) ++ take line.room (line.bytes ++ codes "\n")
 
 -- ---- fields
 
@@ -108,6 +114,25 @@ full h =
     (codes "table", table_name h.table) ∷ ratio (codes "count") h.count h.limit
     ∷ (codes "address", ip_text h.ip) ∷ number (codes "has") h.held
     ∷ number (codes "ports") h.ports ∷ []
+
+-- how many lines were left out, in the place of what a line holds; nothing if none were
+abbrev pub left_out_line : Datagram → ℕ → Datagram
+left_out_line line n =
+    holding line
+    (take line.room (codes "left_out") ++ fields_text (number (codes "lines") n ∷ []))
+
+abbrev pub left_out_text : Bool → Datagram → ℕ → List ℕ
+left_out_text torn line n = if n == 0 then [] else written torn (left_out_line line n)
+
+-- behind that nothing is torn
+abbrev pub torn_behind : Bool → ℕ → Bool
+torn_behind torn n = if n == 0 then torn else false
+
+-- a line, behind how many were left out
+abbrev pub told : Bool → Datagram → ℕ → List ℕ → List Field → List ℕ
+told torn line n word fields =
+    left_out_text torn line n
+    ++ written (torn_behind torn n) (holding line (take line.room word ++ fields_text fields))
 
 -- an origin that answers again
 abbrev pub heard : Endpoint → ℕ → ℕ → List Field

@@ -1,6 +1,8 @@
 //! A watcher that logs what goes wrong.
 
-ghost use Rattle.std.specs.Prelude.{◌≡◌, ◌∷◌, [], codes, OnOk};
+ghost use Rattle.std.specs.Prelude.{◌≡◌, ◌<◌, ◌∷◌, [], codes, false, take, IsFalse, IsOk, IsTrue, OnOk};
+ghost use Rattle.std.specs.Io.KnownBytes.{Appends};
+ghost use Rattle.coap_message.specs.Datagram.{holding};
 ghost use Rattle.coap_explain.specs.Logged as spec;
 
 use crate::causes::{BadGateway, Silence, joins, overload_of};
@@ -101,7 +103,15 @@ impl<W: Write + Drop> Logger<W> {
 
 impl<W: Write> Logger<W> {
     /// Ends the line and writes it. Returns whether the output took all of it.
-    fn write_line(&mut self) -> bool {
+    fn write_line(&mut self) -> bool
+        ensures written { IsTrue result
+            → Appends (W.contents self.old.output) (W.contents self.new.output)
+            (spec.written self.old.torn self.old.line) }
+        ensures whole { IsTrue result → self.new.torn ≡ false }
+        ensures count { self.new.left_out ≡ self.old.left_out }
+        ensures room { self.new.line.room ≡ self.old.line.room }
+        ensures target { self.new.target ≡ self.old.target }
+    {
         self.line.end();
         if self.torn && !matches!(self.output.write(b"\n"), Ok(1)) {
             return false;
@@ -117,7 +127,16 @@ impl<W: Write> Logger<W> {
     }
 
     /// Says how many lines were left out, if any were. Returns whether the output took that.
-    fn tell_left_out(&mut self) -> bool {
+    fn tell_left_out(&mut self) -> bool
+        ensures written { IsTrue result
+            → Appends (W.contents self.old.output) (W.contents self.new.output)
+            (spec.left_out_text self.old.torn self.old.line self.old.left_out) }
+        ensures none { IsTrue result → self.new.left_out ≡ 0 }
+        ensures torn { IsTrue result
+            → self.new.torn ≡ spec.torn_behind self.old.torn self.old.left_out }
+        ensures room { IsTrue result → self.new.line.room ≡ self.old.line.room }
+        ensures target { IsTrue result → self.new.target ≡ self.old.target }
+    {
         if self.left_out == 0 {
             return true;
         }
@@ -132,7 +151,18 @@ impl<W: Write> Logger<W> {
 
     /// Begins a line, if one may be written now and the output takes what is to be said before it.
     /// Otherwise one more line is left out.
-    fn begin(&mut self, now: Moment, word: &str) -> bool {
+    fn begin(&mut self, now: Moment, word: &str) -> bool
+        ensures begun { IsTrue result → self.new.line
+            ≡ holding self.old.line (take self.old.line.room word.now) }
+        ensures written { IsTrue result
+            → Appends (W.contents self.old.output) (W.contents self.new.output)
+            (spec.left_out_text self.old.torn self.old.line self.old.left_out) }
+        ensures none { IsTrue result → self.new.left_out ≡ 0 }
+        ensures torn { IsTrue result
+            → self.new.torn ≡ spec.torn_behind self.old.torn self.old.left_out }
+        ensures target { IsTrue result → self.new.target ≡ self.old.target }
+        ensures counted { IsFalse result → 0 < self.new.left_out }
+    {
         if self.limiter.allows(now.min(LAST_MOMENT)) && self.tell_left_out() {
             self.line.begin(word);
             return true;
@@ -142,14 +172,26 @@ impl<W: Write> Logger<W> {
     }
 
     /// Writes the line that was begun, if all of it was put there.
-    fn finish(&mut self, put: io::Result<()>) {
+    fn finish(&mut self, put: io::Result<()>)
+        // Unless one more line is left out, that which was begun is written.
+        ensures all { self.new.left_out ≡ 0 → IsOk put }
+        ensures written { self.new.left_out ≡ 0
+            → Appends (W.contents self.old.output) (W.contents self.new.output)
+            (spec.written self.old.torn self.old.line) }
+    {
         if put.is_err() || !self.write_line() {
             self.left_out = self.left_out.saturating_add(1);
         }
     }
 
     /// Logs that an exchange was given up.
-    fn tell_given_up(&mut self, exchange: &DueExchange, now: Moment) {
+    fn tell_given_up(&mut self, exchange: &DueExchange, now: Moment)
+        // Unless one more line is left out, this one is written.
+        ensures { self.new.left_out ≡ 0
+            → Appends (W.contents self.old.output) (W.contents self.new.output)
+            (spec.told self.old.torn self.old.line self.old.left_out (codes "gave_up")
+            (spec.given_up (spec.target self.old.target) exchange.now now)) }
+    {
         if self.begin(now, "gave_up") {
             let put = self.put_given_up(exchange, now);
             self.finish(put);
@@ -158,8 +200,9 @@ impl<W: Write> Logger<W> {
 
     /// Adds what was given up.
     fn put_given_up(&mut self, exchange: &DueExchange, now: Moment) -> io::Result<()>
-        ensures { OnOk result (spec.Adds self.old.line self.new.line
+        ensures put { OnOk result (spec.Adds self.old.line self.new.line
             (spec.given_up (spec.target self.old.target) exchange.now now)) }
+        ensures rest { self.new ≡ record self.old { line = self.new.line } }
     {
         self.line.put_target(&self.target)?;
         self.line.put_cause(Cause::Silence(exchange.silence))?;
@@ -295,7 +338,13 @@ impl<W: Write> Logger<W> {
     }
 
     /// Logs that a message was dropped for want of this.
-    fn on_dropped(&mut self, from: Endpoint, lacks: &Lacks, now: Moment) {
+    fn on_dropped(&mut self, from: Endpoint, lacks: &Lacks, now: Moment)
+        // Unless one more line is left out, this one is written.
+        ensures { self.new.left_out ≡ 0
+            → Appends (W.contents self.old.output) (W.contents self.new.output)
+            (spec.told self.old.torn self.old.line self.old.left_out (codes "dropped")
+            (spec.dropped from lacks.now)) }
+    {
         if self.begin(now, "dropped") {
             let put = self.put_dropped(from, lacks);
             self.finish(put);
@@ -304,15 +353,22 @@ impl<W: Write> Logger<W> {
 
     /// Adds whose message was dropped, and what was lacking.
     fn put_dropped(&mut self, client: Endpoint, lacks: &Lacks) -> io::Result<()>
-        ensures { OnOk result (spec.Adds self.old.line self.new.line
+        ensures put { OnOk result (spec.Adds self.old.line self.new.line
             (spec.dropped client lacks.now)) }
+        ensures rest { self.new ≡ record self.old { line = self.new.line } }
     {
         self.line.put_peer("client", client)?;
         self.line.put_lacks(lacks)
     }
 
     /// Logs who has most of a table that is full.
-    fn on_full(&mut self, holder: Holder, now: Moment) {
+    fn on_full(&mut self, holder: Holder, now: Moment)
+        // Unless one more line is left out, this one is written.
+        ensures { self.new.left_out ≡ 0
+            → Appends (W.contents self.old.output) (W.contents self.new.output)
+            (spec.told self.old.torn self.old.line self.old.left_out (codes "full")
+            (spec.full holder)) }
+    {
         if self.begin(now, "full") {
             let put = self.put_holder(&holder);
             self.finish(put);
@@ -321,7 +377,8 @@ impl<W: Write> Logger<W> {
 
     /// Adds which table is full, and who has most of it.
     fn put_holder(&mut self, holder: &Holder) -> io::Result<()>
-        ensures { OnOk result (spec.Adds self.old.line self.new.line (spec.full holder.now)) }
+        ensures put { OnOk result (spec.Adds self.old.line self.new.line (spec.full holder.now)) }
+        ensures rest { self.new ≡ record self.old { line = self.new.line } }
     {
         self.line.put_word("table", holder.table.name())?;
         self.line.put_ratio("count", holder.count, holder.limit)?;
@@ -332,9 +389,19 @@ impl<W: Write> Logger<W> {
 
     /// Logs that an origin answers again, if it was silent.
     fn on_heard(&mut self, from: Endpoint, now: Moment) {
-        let Some(since) = self.silent.hear(from) else {
-            return;
-        };
+        if let Some(since) = self.silent.hear(from) {
+            self.tell_heard(from, since, now);
+        }
+    }
+
+    /// Logs that an origin answers again, which was silent since this moment.
+    fn tell_heard(&mut self, from: Endpoint, since: Moment, now: Moment)
+        // Unless one more line is left out, this one is written.
+        ensures { self.new.left_out ≡ 0
+            → Appends (W.contents self.old.output) (W.contents self.new.output)
+            (spec.told self.old.torn self.old.line self.old.left_out (codes "answers_again")
+            (spec.heard from since now)) }
+    {
         if self.begin(now, "answers_again") {
             let put = self.put_heard(from, since, now);
             self.finish(put);
@@ -343,8 +410,9 @@ impl<W: Write> Logger<W> {
 
     /// Adds which origin answers, and how long it was silent.
     fn put_heard(&mut self, origin: Endpoint, since: Moment, now: Moment) -> io::Result<()>
-        ensures { OnOk result (spec.Adds self.old.line self.new.line
+        ensures put { OnOk result (spec.Adds self.old.line self.new.line
             (spec.heard origin since now)) }
+        ensures rest { self.new ≡ record self.old { line = self.new.line } }
     {
         self.line.put_peer("origin", origin)?;
         self.line.put_number("silent_ms", now.saturating_sub(since))
