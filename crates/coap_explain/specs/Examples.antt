@@ -1,5 +1,5 @@
 -- Runs of which an account is computed.
-use Rattle.std.specs.Prelude.{ℕ, true, false, List, [], ◌∷◌, codes, replicate, None, Some}
+use Rattle.std.specs.Prelude.{ℕ, true, false, List, [], ◌∷◌, codes, replicate, Option, None, Some}
 use Rattle.coap_endpoint.specs.declared.endpoint.Endpoint.{Endpoint}
 use Rattle.coap_endpoint.specs.declared.endpoint.Ip.{Ip}
 use Rattle.coap_endpoint.specs.declared.endpoint.Ip.TheVariants.{V4, V6}
@@ -11,8 +11,18 @@ use Rattle.coap_model.specs.declared.report.Outcome.TheVariants.{Idle}
 use Rattle.coap_model.specs.Runs.{Turn}
 use Rattle.coap_model.specs.State.{State, new_state}
 use Rattle.coap_core.specs.Told.{Told}
+use Rattle.coap_core.specs.declared.holders.Holder.{Holder}
+use Rattle.coap_core.specs.declared.holders.SharedTable.TheVariants.{Waiters}
+use Rattle.coap_message.specs.Codes.{code_of}
 use Rattle.coap_explain.specs.declared.answering.Answering.TheVariants.{Passed}
+use Rattle.coap_explain.specs.declared.causes.BadGateway.TheVariants as gateways
+use Rattle.coap_explain.specs.declared.causes.Silence.TheVariants.{NotAcknowledged}
+use Rattle.coap_explain.specs.declared.due.DueExchange.{DueExchange}
 use Rattle.coap_explain.specs.declared.due.TickSubject.TheVariants.{Nothing}
+use Rattle.coap_explain.specs.declared.lacks.Lack.{Lack}
+use Rattle.coap_explain.specs.declared.lacks.Need.TheVariants.{Exchanges, ClientWaiters}
+use Rattle.coap_explain.specs.declared.log_fields.Cause.TheVariants.{BadGateway}
+use Rattle.coap_explain.specs.declared.logger.Failed.{Failed}
 use Rattle.coap_explain.specs.Account.{Noted}
 
 -- a proxy with these limits
@@ -145,3 +155,43 @@ bracketed = record {
   path = codes "x" ∷ [];
   query = [];
 }
+
+-- ---- lines of a log
+
+-- an exchange with 192.0.2.7, of which the request was sent four times
+abbrev pub exchange : DueExchange
+exchange = record {
+  origin = at (ipv4 7) 5684;
+  id = Some 9;
+  sends = 4;
+  admitted = 1000;
+  waiting = 2;
+  silence = NotAcknowledged;
+  answer = None;
+}
+
+abbrev pub refused : Failed
+refused = record {
+  client = client_at 1;
+  code = code_of 5 2;
+  cause = Some (BadGateway (gateways.Option 65001));
+}
+
+abbrev pub passed : Failed
+passed = record { client = client_at 1; code = code_of 5 3; cause = None }
+
+abbrev pub holder : Holder
+holder = record {
+  table = Waiters;
+  count = 81;
+  limit = 82;
+  ip = ipv6;
+  held = 83;
+  ports = 84;
+  found = 0;
+}
+
+abbrev pub short : List (Option Lack)
+short =
+    Some (record { need = Exchanges; count = 256; limit = 255 }) ∷ None
+    ∷ Some (record { need = ClientWaiters; count = 65; limit = 64 }) ∷ []

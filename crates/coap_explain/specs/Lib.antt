@@ -3,6 +3,7 @@ pub mod Causes
 pub mod Details
 pub mod Examples
 pub mod Known
+pub mod Logged
 pub mod Lacks
 pub mod Noted
 pub mod Runs

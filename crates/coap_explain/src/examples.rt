@@ -1,5 +1,5 @@
 //! Examples, computed on the definitions.
-ghost use Rattle.std.specs.Prelude.{◌≡◌, ◌∷◌, ◌++◌, [], codes, None, Some};
+ghost use Rattle.std.specs.Prelude.{◌≡◌, ◌∷◌, ◌++◌, [], codes, false, true, None, Some};
 ghost use Rattle.coap_message.specs.Codes.{code_of};
 ghost use Rattle.coap_endpoint.specs.declared.endpoint.Ip.TheVariants.{V4};
 ghost use Rattle.coap_model.specs.declared.report.Outcome.TheVariants as outcomes;
@@ -13,6 +13,8 @@ ghost use Rattle.coap_explain.specs.Causes.{refusal_of, unprocessed_of};
 ghost use Rattle.coap_model.specs.Examples as runs;
 ghost use Rattle.coap_explain.specs.Account.{line_of, line_text};
 ghost use Rattle.coap_explain.specs.Examples as own;
+ghost use Rattle.coap_log.specs.Line.{line_text as logged};
+ghost use Rattle.coap_explain.specs.Logged as fields;
 ghost use Rattle.coap_explain.specs.Runs.{account};
 ghost use Rattle.coap_explain.specs.Targets as text;
 ghost use Rattle.coap_explain.specs.Words as spec;
@@ -187,4 +189,33 @@ pub fn targets_in_words()
     ensures named { text.target_text own.named
         ≡ codes "coap://a%0A%23%20b%3A1%40c&d:5684//%2F%3F%26?a=%2F&%25" }
     ensures bracketed { text.target_text own.bracketed ≡ codes "coap://[::1%5D:2]:81/x" }
+{}
+
+/// Lines of a log, with all fields in their order. Of a URI that is cut an end is left out, and of
+/// one that isn't none of its bytes ends a field.
+pub fn logged_lines()
+    ensures given_up { logged (codes "gave_up")
+        (fields.given_up (fields.uri (codes "coap://h/t?a=b") false) own.exchange 94000)
+        ≡ codes "gave_up target=coap://h/t?a%3Db cause=unacknowledged origin=192.0.2.7:5684 "
+        ++ codes "sent=4 ms=93000 clients=2\n" }
+    ensures refused { logged (codes "failed")
+        (fields.failed (fields.uri (codes "coap://h/t") true) own.refused own.exchange 1007)
+        ≡ codes "failed client=192.0.2.1:40001 code=5.02 target=coap://h/t... cause=option "
+        ++ codes "option=65001 origin=192.0.2.7:5684 sent=4 ms=7\n" }
+    ensures passed { logged (codes "failed")
+        (fields.failed (fields.uri (codes "coap://h/t") false) own.passed own.exchange 1007)
+        ≡ codes "failed client=192.0.2.1:40001 code=5.03 target=coap://h/t cause=origin "
+        ++ codes "origin=192.0.2.7:5684 sent=4 ms=7\n" }
+    ensures overloaded { logged (codes "failed")
+        (fields.overloaded (fields.uri (codes "coap://h/t") false) (own.client_at 1) own.short)
+        ≡ codes "failed client=192.0.2.1:40001 code=5.03 target=coap://h/t cause=room "
+        ++ codes "exchanges=256/255 client_waiters=65/64\n" }
+    ensures dropped { logged (codes "dropped") (fields.dropped (own.client_at 1) own.short)
+        ≡ codes "dropped client=192.0.2.1:40001 exchanges=256/255 client_waiters=65/64\n" }
+    ensures full { logged (codes "full") (fields.full own.holder)
+        ≡ codes "full table=waiters count=81/82 address=[2001:db8:0:0:0:0:10:ff0a] has=83 "
+        ++ codes "ports=84\n" }
+    ensures heard { logged (codes "answers_again")
+        (fields.heard (own.at (own.ipv4 7) 5684) 1000 1723)
+        ≡ codes "answers_again origin=192.0.2.7:5684 silent_ms=723\n" }
 {}

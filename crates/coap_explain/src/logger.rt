@@ -1,17 +1,19 @@
 //! A watcher that logs what goes wrong.
 
+ghost use Rattle.std.specs.Prelude.{◌≡◌, ◌<◌, ◌∷◌, [], codes, false, take, IsFalse, IsOk, IsTrue, OnOk};
+ghost use Rattle.std.specs.Io.KnownBytes.{Appends};
+ghost use Rattle.coap_message.specs.Datagram.{holding};
+ghost use Rattle.coap_explain.specs.Logged as spec;
+
 use crate::causes::{BadGateway, Silence, joins, overload_of};
 use crate::due::{DueAnswer, DueExchange, ResponseCause, TickSubject};
 use crate::lacks::{Lacks, Usage};
-use crate::log_fields::{
-    Cause, NotedCause, TargetText, put_cause, put_exchange, put_lacks, put_number, put_peer,
-};
-use crate::messages::{put_code, put_ip};
+use crate::log_fields::{Cause, Fields, NotedCause, TargetText};
 use crate::ring::Ring;
 use crate::silent::SilentOrigins;
 use coap_core::{Core, Event, Holder, Holders, LimitValues, Outcome, Report, Watch, WatchedTurn};
 use coap_endpoint::Endpoint;
-use coap_log::{Limiter, Line};
+use coap_log::Limiter;
 use coap_message::{Code, LAST_MOMENT, MessageRef, Moment, OutOfMemory};
 use coap_store::Store;
 use std::alloc::Global;
@@ -33,7 +35,7 @@ const CAUSES: usize = 4_096;
 /// All its memory is allocated when it is made.
 pub struct Logger<W: Write> {
     output: W,
-    line: Line,
+    line: Fields,
     target: TargetText,
     limiter: Limiter,
     left_out: u64,
@@ -64,6 +66,14 @@ impl<W: Write + Drop> Drop for Logger<W> {
     }
 }
 
+/// What a client was sent, and why, where that is of the proxy's own.
+#[derive(Clone, Copy)]
+struct Failed {
+    client: Endpoint,
+    code: Code,
+    cause: Option<Cause>,
+}
+
 /// Whether the code of an answer is one that is logged.
 fn is_logged(code: Code) -> bool {
     code == Code::BAD_GATEWAY || code == Code::SERVICE_UNAVAILABLE || code == Code::GATEWAY_TIMEOUT
@@ -77,7 +87,7 @@ impl<W: Write + Drop> Logger<W> {
     pub fn new(alloc: Global, output: W, limits: &LimitValues) -> Result<Logger<W>, OutOfMemory> {
         Ok(Logger {
             output,
-            line: Line::new(alloc, LINE_ROOM)?,
+            line: Fields::new(alloc, LINE_ROOM)?,
             target: TargetText::new(alloc)?,
             limiter: Limiter::new(),
             left_out: 0,
@@ -93,7 +103,15 @@ impl<W: Write + Drop> Logger<W> {
 
 impl<W: Write> Logger<W> {
     /// Ends the line and writes it. Returns whether the output took all of it.
-    fn write_line(&mut self) -> bool {
+    fn write_line(&mut self) -> bool
+        ensures written { IsTrue result
+            → Appends (W.contents self.old.output) (W.contents self.new.output)
+            (spec.written self.old.torn self.old.line) }
+        ensures whole { IsTrue result → self.new.torn ≡ false }
+        ensures count { self.new.left_out ≡ self.old.left_out }
+        ensures room { self.new.line.room ≡ self.old.line.room }
+        ensures target { self.new.target ≡ self.old.target }
+    {
         self.line.end();
         if self.torn && !matches!(self.output.write(b"\n"), Ok(1)) {
             return false;
@@ -109,12 +127,21 @@ impl<W: Write> Logger<W> {
     }
 
     /// Says how many lines were left out, if any were. Returns whether the output took that.
-    fn tell_left_out(&mut self) -> bool {
+    fn tell_left_out(&mut self) -> bool
+        ensures written { IsTrue result
+            → Appends (W.contents self.old.output) (W.contents self.new.output)
+            (spec.left_out_text self.old.torn self.old.line self.old.left_out) }
+        ensures none { IsTrue result → self.new.left_out ≡ 0 }
+        ensures torn { IsTrue result
+            → self.new.torn ≡ spec.torn_behind self.old.torn self.old.left_out }
+        ensures room { IsTrue result → self.new.line.room ≡ self.old.line.room }
+        ensures target { IsTrue result → self.new.target ≡ self.old.target }
+    {
         if self.left_out == 0 {
             return true;
         }
         self.line.begin("left_out");
-        let put = put_number(&mut self.line, "lines", self.left_out);
+        let put = self.line.put_number("lines", self.left_out);
         if put.is_err() || !self.write_line() {
             return false;
         }
@@ -124,7 +151,18 @@ impl<W: Write> Logger<W> {
 
     /// Begins a line, if one may be written now and the output takes what is to be said before it.
     /// Otherwise one more line is left out.
-    fn begin(&mut self, now: Moment, word: &str) -> bool {
+    fn begin(&mut self, now: Moment, word: &str) -> bool
+        ensures begun { IsTrue result → self.new.line
+            ≡ holding self.old.line (take self.old.line.room word.now) }
+        ensures written { IsTrue result
+            → Appends (W.contents self.old.output) (W.contents self.new.output)
+            (spec.left_out_text self.old.torn self.old.line self.old.left_out) }
+        ensures none { IsTrue result → self.new.left_out ≡ 0 }
+        ensures torn { IsTrue result
+            → self.new.torn ≡ spec.torn_behind self.old.torn self.old.left_out }
+        ensures target { IsTrue result → self.new.target ≡ self.old.target }
+        ensures counted { IsFalse result → 0 < self.new.left_out }
+    {
         if self.limiter.allows(now.min(LAST_MOMENT)) && self.tell_left_out() {
             self.line.begin(word);
             return true;
@@ -134,14 +172,26 @@ impl<W: Write> Logger<W> {
     }
 
     /// Writes the line that was begun, if all of it was put there.
-    fn finish(&mut self, put: io::Result<()>) {
+    fn finish(&mut self, put: io::Result<()>)
+        // Unless one more line is left out, that which was begun is written.
+        ensures all { self.new.left_out ≡ 0 → IsOk put }
+        ensures written { self.new.left_out ≡ 0
+            → Appends (W.contents self.old.output) (W.contents self.new.output)
+            (spec.written self.old.torn self.old.line) }
+    {
         if put.is_err() || !self.write_line() {
             self.left_out = self.left_out.saturating_add(1);
         }
     }
 
     /// Logs that an exchange was given up.
-    fn tell_given_up(&mut self, exchange: &DueExchange, now: Moment) {
+    fn tell_given_up(&mut self, exchange: &DueExchange, now: Moment)
+        // Unless one more line is left out, this one is written.
+        ensures { self.new.left_out ≡ 0
+            → Appends (W.contents self.old.output) (W.contents self.new.output)
+            (spec.told self.old.torn self.old.line self.old.left_out (codes "gave_up")
+            (spec.given_up (spec.target self.old.target) exchange.now now)) }
+    {
         if self.begin(now, "gave_up") {
             let put = self.put_given_up(exchange, now);
             self.finish(put);
@@ -149,11 +199,15 @@ impl<W: Write> Logger<W> {
     }
 
     /// Adds what was given up.
-    fn put_given_up(&mut self, exchange: &DueExchange, now: Moment) -> io::Result<()> {
-        self.target.put(&mut self.line)?;
-        put_cause(&mut self.line, Cause::Silence(exchange.silence))?;
-        put_exchange(&mut self.line, exchange, now)?;
-        put_number(&mut self.line, "clients", exchange.waiting)
+    fn put_given_up(&mut self, exchange: &DueExchange, now: Moment) -> io::Result<()>
+        ensures put { OnOk result (spec.Adds self.old.line self.new.line
+            (spec.given_up (spec.target self.old.target) exchange.now now)) }
+        ensures rest { self.new ≡ record self.old { line = self.new.line } }
+    {
+        self.line.put_target(&self.target)?;
+        self.line.put_cause(Cause::Silence(exchange.silence))?;
+        self.line.put_exchange(exchange, now)?;
+        self.line.put_number("clients", exchange.waiting)
     }
 
     /// Notes that an exchange was given up, and logs it.
@@ -206,13 +260,16 @@ impl<W: Write> Logger<W> {
         None
     }
 
-    /// Why a client is sent an answer of the proxy's own.
-    fn cause_of(&mut self, exchange: &DueExchange, answer: DueAnswer) -> Cause {
+    /// Why a client is sent an answer, if that is of the proxy's own.
+    fn cause_of(&mut self, exchange: &DueExchange, answer: DueAnswer) -> Option<Cause> {
+        if !answer.own {
+            return None;
+        }
         let Some(id) = exchange.id else {
-            return Cause::Silence(Silence::NotSent);
+            return Some(Cause::Silence(Silence::NotSent));
         };
-        self.noted_cause(exchange, id, answer.got)
-            .unwrap_or(Cause::BadGateway(BadGateway::TooLong))
+        let noted = self.noted_cause(exchange, id, answer.got);
+        Some(noted.unwrap_or(Cause::BadGateway(BadGateway::TooLong)))
     }
 
     /// Logs that a client was sent an answer that is logged.
@@ -224,31 +281,29 @@ impl<W: Write> Logger<W> {
             return;
         };
         if is_logged(answer.code) && self.begin(now, "failed") {
-            let put = self.put_delivered(client, &exchange, answer, now);
+            let failed = Failed {
+                client,
+                code: answer.code,
+                cause: self.cause_of(&exchange, answer),
+            };
+            let put = self.put_failed(failed, &exchange, now);
             self.finish(put);
         }
     }
 
     /// Adds what a client was sent, and why.
-    fn put_delivered(
-        &mut self,
-        client: Endpoint,
-        exchange: &DueExchange,
-        answer: DueAnswer,
-        now: Moment,
-    ) -> io::Result<()> {
-        put_peer(&mut self.line, "client", client)?;
-        self.line.key("code");
-        put_code(&mut self.line, answer.code)?;
-        self.target.put(&mut self.line)?;
-        if answer.own {
-            let cause = self.cause_of(exchange, answer);
-            put_cause(&mut self.line, cause)?;
-        } else {
-            self.line.key("cause");
-            self.line.write_all(b"origin")?;
+    fn put_failed(&mut self, failed: Failed, exchange: &DueExchange, now: Moment) -> io::Result<()>
+        ensures { OnOk result (spec.Adds self.old.line self.new.line
+            (spec.failed (spec.target self.old.target) failed exchange.now now)) }
+    {
+        self.line.put_peer("client", failed.client)?;
+        self.line.put_code(failed.code)?;
+        self.line.put_target(&self.target)?;
+        match failed.cause {
+            Some(cause) => self.line.put_cause(cause)?,
+            None => self.line.put_word("cause", "origin")?,
         }
-        put_exchange(&mut self.line, exchange, now)
+        self.line.put_exchange(exchange, now)
     }
 
     /// Logs that a request was turned away with 5.03.
@@ -271,29 +326,49 @@ impl<W: Write> Logger<W> {
     }
 
     /// Adds that a client was sent 5.03, and what was lacking.
-    fn put_overloaded(&mut self, client: Endpoint, lacks: &Lacks) -> io::Result<()> {
-        put_peer(&mut self.line, "client", client)?;
-        self.line.key("code");
-        put_code(&mut self.line, Code::SERVICE_UNAVAILABLE)?;
-        self.target.put(&mut self.line)?;
-        self.line.key("cause");
-        self.line.write_all(b"room")?;
-        put_lacks(&mut self.line, lacks)
+    fn put_overloaded(&mut self, client: Endpoint, lacks: &Lacks) -> io::Result<()>
+        ensures { OnOk result (spec.Adds self.old.line self.new.line
+            (spec.overloaded (spec.target self.old.target) client lacks.now)) }
+    {
+        self.line.put_peer("client", client)?;
+        self.line.put_code(Code::SERVICE_UNAVAILABLE)?;
+        self.line.put_target(&self.target)?;
+        self.line.put_word("cause", "room")?;
+        self.line.put_lacks(lacks)
     }
 
     /// Logs that a message was dropped for want of this.
-    fn on_dropped(&mut self, from: Endpoint, lacks: &Lacks, now: Moment) {
+    fn on_dropped(&mut self, from: Endpoint, lacks: &Lacks, now: Moment)
+        // Unless one more line is left out, this one is written.
+        ensures { self.new.left_out ≡ 0
+            → Appends (W.contents self.old.output) (W.contents self.new.output)
+            (spec.told self.old.torn self.old.line self.old.left_out (codes "dropped")
+            (spec.dropped from lacks.now)) }
+    {
         if self.begin(now, "dropped") {
-            let put = put_peer(&mut self.line, "client", from).and_then(|()| put_lacks(
-                &mut self.line,
-                lacks,
-            ));
+            let put = self.put_dropped(from, lacks);
             self.finish(put);
         }
     }
 
+    /// Adds whose message was dropped, and what was lacking.
+    fn put_dropped(&mut self, client: Endpoint, lacks: &Lacks) -> io::Result<()>
+        ensures put { OnOk result (spec.Adds self.old.line self.new.line
+            (spec.dropped client lacks.now)) }
+        ensures rest { self.new ≡ record self.old { line = self.new.line } }
+    {
+        self.line.put_peer("client", client)?;
+        self.line.put_lacks(lacks)
+    }
+
     /// Logs who has most of a table that is full.
-    fn on_full(&mut self, holder: Holder, now: Moment) {
+    fn on_full(&mut self, holder: Holder, now: Moment)
+        // Unless one more line is left out, this one is written.
+        ensures { self.new.left_out ≡ 0
+            → Appends (W.contents self.old.output) (W.contents self.new.output)
+            (spec.told self.old.torn self.old.line self.old.left_out (codes "full")
+            (spec.full holder)) }
+    {
         if self.begin(now, "full") {
             let put = self.put_holder(&holder);
             self.finish(put);
@@ -301,29 +376,46 @@ impl<W: Write> Logger<W> {
     }
 
     /// Adds which table is full, and who has most of it.
-    fn put_holder(&mut self, holder: &Holder) -> io::Result<()> {
-        let (count, limit) = (holder.count, holder.limit);
-        self.line.key("table");
-        self.line.write_all(holder.table.name().as_bytes())?;
-        self.line.key("count");
-        write!(self.line, "{count}/{limit}")?;
-        self.line.key("address");
-        put_ip(&mut self.line, holder.ip)?;
-        put_number(&mut self.line, "has", holder.held)?;
-        put_number(&mut self.line, "ports", holder.ports)
+    fn put_holder(&mut self, holder: &Holder) -> io::Result<()>
+        ensures put { OnOk result (spec.Adds self.old.line self.new.line (spec.full holder.now)) }
+        ensures rest { self.new ≡ record self.old { line = self.new.line } }
+    {
+        self.line.put_word("table", holder.table.name())?;
+        self.line.put_ratio("count", holder.count, holder.limit)?;
+        self.line.put_address("address", holder.ip)?;
+        self.line.put_number("has", holder.held)?;
+        self.line.put_number("ports", holder.ports)
     }
 
     /// Logs that an origin answers again, if it was silent.
     fn on_heard(&mut self, from: Endpoint, now: Moment) {
-        let Some(since) = self.silent.hear(from) else {
-            return;
-        };
+        if let Some(since) = self.silent.hear(from) {
+            self.tell_heard(from, since, now);
+        }
+    }
+
+    /// Logs that an origin answers again, which was silent since this moment.
+    fn tell_heard(&mut self, from: Endpoint, since: Moment, now: Moment)
+        // Unless one more line is left out, this one is written.
+        ensures { self.new.left_out ≡ 0
+            → Appends (W.contents self.old.output) (W.contents self.new.output)
+            (spec.told self.old.torn self.old.line self.old.left_out (codes "answers_again")
+            (spec.heard from since now)) }
+    {
         if self.begin(now, "answers_again") {
-            let put = put_peer(&mut self.line, "origin", from).and_then(|()| {
-                put_number(&mut self.line, "silent_ms", now.saturating_sub(since))
-            });
+            let put = self.put_heard(from, since, now);
             self.finish(put);
         }
+    }
+
+    /// Adds which origin answers, and how long it was silent.
+    fn put_heard(&mut self, origin: Endpoint, since: Moment, now: Moment) -> io::Result<()>
+        ensures put { OnOk result (spec.Adds self.old.line self.new.line
+            (spec.heard origin since now)) }
+        ensures rest { self.new ≡ record self.old { line = self.new.line } }
+    {
+        self.line.put_peer("origin", origin)?;
+        self.line.put_number("silent_ms", now.saturating_sub(since))
     }
 
     /// Logs what the step of a datagram did.

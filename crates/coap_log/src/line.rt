@@ -1,7 +1,8 @@
 //! The text of a line: a word, and keys with values.
 ghost use Rattle.std.specs.Prelude.{◌≡◌, ◌++◌, ◌∷◌, ◌+◌, ◌*◌, ◌<◌, ◌≤◌, [], IfOk, OnOk, OnErr, length, take};
 ghost use Rattle.std.specs.Io.{WritesAtMost};
-ghost use Rattle.std.specs.Io.KnownBytes.{Keeps, WriteAppends};
+ghost use Rattle.std.specs.Io.KnownBytes.{Appends, Keeps, WriteAppends};
+ghost use Rattle.coap_log.specs.Line.{field_text, key_text};
 ghost use Rattle.coap_log.specs.Values as spec;
 
 use coap_message::{Datagram, OutOfMemory};
@@ -49,6 +50,9 @@ fn hex_digit(number: u8) -> u8
 /// The places that one byte of a value takes at most.
 const ESCAPED: usize = 3;
 
+/// The places that the blank and the equals sign around a key take.
+const AROUND_KEY: usize = 2;
+
 impl Line {
     ghost use Rattle.coap_message.specs.Datagram.{holding};
 
@@ -88,10 +92,36 @@ impl Line {
     }
 
     /// Adds a key of the program's, whose value is what is written next.
-    pub fn key(&mut self, key: &str) {
+    pub fn key(&mut self, key: &str)
+        ensures { self.new
+            ≡ holding self.old (take self.old.room (self.old.bytes ++ key_text key.now)) }
+    {
         self.put(" ");
         self.put(key);
         self.put("=");
+    }
+
+    /// Adds a key of the program's, and a value, whoever chose that.
+    ///
+    /// # Errors
+    /// `WriteZero` if there is too little room, with three places for each byte of the value. Then
+    /// nothing is added.
+    pub fn field(&mut self, key: &str, value: &[u8]) -> io::Result<()>
+        ensures exact { OnOk result (self.new
+            ≡ holding self.old (self.old.bytes ++ field_text (key.now, value.now))) }
+        ensures err { OnErr result (self.new ≡ self.old) }
+    {
+        let left = self.text.room() - self.text.bytes().len();
+        if value.len() > left / ESCAPED {
+            return Err(io::Error::from(ErrorKind::WriteZero));
+        }
+        let left = left - value.len() * ESCAPED;
+        if left < AROUND_KEY || key.len() > left - AROUND_KEY {
+            return Err(io::Error::from(ErrorKind::WriteZero));
+        }
+        self.key(key);
+        self.put_value(value);
+        Ok(())
     }
 
     /// Ends the line.
@@ -146,6 +176,16 @@ impl Write for Line {
         }
         self.put_value(buf);
         Ok(buf.len())
+    }
+
+    fn write_all(&mut self, buf: &[u8]) -> io::Result<()>
+        ensures bytes { OnOk result (Appends None None buf.now) }
+        ensures exact { OnOk result (self.new
+            ≡ holding self.old (self.old.bytes ++ spec.escaped buf.now)) }
+        ensures err { OnErr result (self.new ≡ self.old) }
+    {
+        self.write(buf)?;
+        Ok(())
     }
 
     fn flush(&mut self) -> io::Result<()>

@@ -7,4 +7,6 @@ pub mod Examples
 pub mod Line
 pub use Rattle.coap_core.specs.Told
 pub use Rattle.coap_core.specs.Watched
+pub mod Labels
 pub mod Metrics
+pub mod Series

@@ -1,12 +1,14 @@
--- The counts as metrics, in the text format that Prometheus reads: what is written of the whole
--- proxy.
+-- The counts as metrics, in the text format that Prometheus reads: lines, and what is written of the
+-- whole proxy.
 use Rattle.std.specs.Prelude.{ℕ, ◌/◌, List, ◌++◌, codes}
 use Rattle.std.specs.Fmt.{decimal}
 use Rattle.std.specs.List.{flat_map}
 use Rattle.coap_store.specs.declared.evictions.Evictions.{Evictions}
 use Rattle.coap_counts.specs.declared.openings.OpeningCounts.{OpeningCounts}
+use Rattle.coap_counts.specs.declared.requests.RequestCounts.{RequestCounts}
 use Rattle.coap_stats.specs.declared.metrics.Metric as program
 use Rattle.coap_stats.specs.declared.tally.Tally.{Tally}
+use Rattle.coap_stats.specs.Labels.{Part, All, label_text, part_text}
 use Rattle.coap_stats.specs.Line.{Fill, Word, answer_words, opening_words, refusal_words, request_words}
 
 -- ---- metrics
@@ -114,14 +116,29 @@ abbrev pub metric_text : List ℕ → Metric → ℕ → List ℕ
 metric_text listen m number =
     head_text m ++ listen_text listen m.name ++ codes "} " ++ decimal number ++ codes "\n"
 
--- one of several numbers of a metric, told apart by a label
-abbrev pub sample_text : List ℕ → Metric → List ℕ → Word → List ℕ
-sample_text listen m label word =
-    listen_text listen m.name ++ codes "," ++ label ++ codes "=\"" ++ word.0 ++ codes "\"} "
+-- the only number of a metric that is about a part, and what stands before it
+abbrev pub name_text : List ℕ → List ℕ → Part → List ℕ
+name_text listen name part = listen_text listen name ++ part_text part ++ codes "} "
+
+abbrev pub number_text : List ℕ → List ℕ → Part → ℕ → List ℕ
+number_text listen name part number =
+    name_text listen name part ++ decimal number ++ codes "\n"
+
+-- one of several numbers of a metric that are about a part, told apart by a label
+abbrev pub sample_text : List ℕ → List ℕ → Part → List ℕ → Word → List ℕ
+sample_text listen name part label word =
+    listen_text listen name ++ part_text part ++ label_text label word.0 ++ codes "} "
     ++ decimal word.1 ++ codes "\n"
 
-abbrev pub samples_text : List ℕ → Metric → List ℕ → List Word → List ℕ
-samples_text listen m label words = flat_map (sample_text listen m label) words
+abbrev pub samples_text : List ℕ → List ℕ → Part → List ℕ → List Word → List ℕ
+samples_text listen name part label words =
+    flat_map (sample_text listen name part label) words
+
+-- what became of requests
+abbrev pub requests_text : List ℕ → List ℕ → Part → RequestCounts → List ℕ
+requests_text listen name part n =
+    samples_text listen name part (codes "outcome") (request_words n)
+    ++ samples_text listen name part (codes "outcome") (refusal_words n.refused)
 
 -- ---- what is written
 
@@ -136,22 +153,22 @@ traffic_text listen n =
 -- what became of messages, and what the cache did with answers
 abbrev pub outcomes_text : List ℕ → Tally → List ℕ
 outcomes_text listen n =
-    head_text requests ++ samples_text listen requests (codes "outcome") (request_words n.requests)
-    ++ samples_text listen requests (codes "outcome") (refusal_words n.requests.refused)
-    ++ head_text answers ++ samples_text listen answers (codes "storing") (answer_words n.answers)
+    head_text requests ++ requests_text listen requests.name All n.requests ++ head_text answers
+    ++ samples_text listen answers.name All (codes "storing") (answer_words n.answers)
 
 -- what the cache evicted, and why exchanges were opened
 abbrev pub cache_text : List ℕ → Evictions → OpeningCounts → List ℕ
 cache_text listen e o =
     metric_text listen evicted e.entries ++ metric_text listen evicted_fresh e.fresh
-    ++ head_text opened ++ samples_text listen opened (codes "stored") (opening_words o)
+    ++ head_text opened
+    ++ samples_text listen opened.name All (codes "stored") (opening_words o)
 
 -- how much the proxy holds of one kind, and how much it may hold
 abbrev pub count_text : List ℕ → Fill → List ℕ
-count_text listen s = sample_text listen held (codes "what") (s.key, s.count)
+count_text listen s = sample_text listen held.name All (codes "what") (s.key, s.count)
 
 abbrev pub limit_text : List ℕ → Fill → List ℕ
-limit_text listen s = sample_text listen limit (codes "what") (s.key, s.limit)
+limit_text listen s = sample_text listen limit.name All (codes "what") (s.key, s.limit)
 
 -- of each kind
 abbrev pub held_text : List ℕ → List Fill → List ℕ

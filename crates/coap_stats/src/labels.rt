@@ -1,6 +1,9 @@
 //! Labels of metrics: the part of a proxy that a number is about.
-ghost use Rattle.std.specs.Prelude.{◌≡◌, OnOk};
-ghost use Rattle.coap_stats.specs.declared.labels.Whose.TheVariants.{All};
+ghost use Rattle.std.specs.Prelude.{◌≡◌, ℕ, ◌++◌, codes, OnOk};
+ghost use Rattle.std.specs.List.{flat_map};
+ghost use Rattle.std.specs.Net.Text as net;
+ghost use Rattle.coap_core.specs.Holders.{table_name};
+ghost use Rattle.coap_stats.specs.Labels as spec;
 
 use crate::line::put;
 use coap_core::Holder;
@@ -31,7 +34,10 @@ pub(crate) enum Whose<'a> {
 const PLAIN: &[u8] = b"-._~";
 
 /// An address as the system's.
-fn address_of(ip: Ip) -> IpAddr {
+fn address_of(ip: Ip) -> IpAddr
+    ensures text { net.ip_text result ≡ spec.address_text ip }
+    ensures socket { (port : ℕ) → spec.with_port result port ≡ spec.socket_text ip port }
+{
     match ip {
         Ip::V4(octets) => IpAddr::V4(Ipv4Addr::from_octets(octets)),
         Ip::V6(octets) => IpAddr::V6(Ipv6Addr::from_octets(octets)),
@@ -39,12 +45,17 @@ fn address_of(ip: Ip) -> IpAddr {
 }
 
 /// An endpoint as the system's socket address, whose text has an IPv6 address in brackets.
-pub fn socket_of(at: Endpoint) -> SocketAddr {
+pub fn socket_of(at: Endpoint) -> SocketAddr
+    ensures { net.socket_text result ≡ spec.endpoint_text at }
+{
     SocketAddr::new(address_of(at.ip), at.port)
 }
 
 /// Adds a prefix as a path, with `%XX` for what can't stand for itself.
-fn put_path(out: &mut Vec<u8>, prefix: &Pieces) -> Result<(), OutOfMemory> {
+fn put_path(out: &mut Vec<u8>, prefix: &Pieces) -> Result<(), OutOfMemory>
+    ensures { OnOk result
+        (out.new.items ≡ out.old.items ++ spec.path_text prefix.now) }
+{
     if prefix.is_empty() {
         put(out, b"/")?;
     }
@@ -56,7 +67,10 @@ fn put_path(out: &mut Vec<u8>, prefix: &Pieces) -> Result<(), OutOfMemory> {
 }
 
 /// Adds a segment, with `%XX` for what can't stand for itself.
-fn put_segment(out: &mut Vec<u8>, segment: &[u8]) -> Result<(), OutOfMemory> {
+fn put_segment(out: &mut Vec<u8>, segment: &[u8]) -> Result<(), OutOfMemory>
+    ensures { OnOk result
+        (out.new.items ≡ out.old.items ++ flat_map spec.escape segment.now) }
+{
     for byte in segment {
         if byte.is_ascii_alphanumeric() || PLAIN.contains(byte) {
             put(out, &[*byte])?;
@@ -68,7 +82,10 @@ fn put_segment(out: &mut Vec<u8>, segment: &[u8]) -> Result<(), OutOfMemory> {
 }
 
 /// Adds an endpoint.
-fn put_endpoint(out: &mut Vec<u8>, at: Endpoint) -> Result<(), OutOfMemory> {
+fn put_endpoint(out: &mut Vec<u8>, at: Endpoint) -> Result<(), OutOfMemory>
+    ensures { OnOk result
+        (out.new.items ≡ out.old.items ++ spec.endpoint_text at) }
+{
     let socket = socket_of(at);
     if write!(out, "{socket}").is_err() {
         return Err(OutOfMemory);
@@ -77,7 +94,10 @@ fn put_endpoint(out: &mut Vec<u8>, at: Endpoint) -> Result<(), OutOfMemory> {
 }
 
 /// Adds a table, and the address that had most of it.
-fn put_holder(out: &mut Vec<u8>, holder: Holder) -> Result<(), OutOfMemory> {
+fn put_holder(out: &mut Vec<u8>, holder: Holder) -> Result<(), OutOfMemory>
+    ensures { OnOk result (out.new.items ≡ out.old.items ++ codes ",table=\""
+        ++ table_name holder.table ++ codes "\",address=\"" ++ spec.address_text holder.ip) }
+{
     put(out, b",table=\"")?;
     put(out, holder.table.name().as_bytes())?;
     put(out, b"\",address=\"")?;
@@ -91,7 +111,8 @@ fn put_holder(out: &mut Vec<u8>, holder: Holder) -> Result<(), OutOfMemory> {
 /// Adds the label of a part behind others: `,map="/PREFIX"`, `,origin="ADDRESS:PORT"`, or
 /// `,table="TABLE",address="ADDRESS"`.
 pub(crate) fn put_whose(out: &mut Vec<u8>, whose: Whose<'_>) -> Result<(), OutOfMemory>
-    ensures { whose.entry ≡ All → OnOk result (out.new.items ≡ out.old.items) }
+    ensures { OnOk result (out.new.items
+        ≡ out.old.items ++ spec.part_text (spec.part_seen whose.entry)) }
 {
     match whose {
         Whose::All => return Ok(()),

@@ -1,9 +1,10 @@
 //! The counts as metrics, in the text format that Prometheus reads.
 ghost use Rattle.std.specs.Prelude.{◌≡◌, ◌++◌, codes, OnOk, map};
 ghost use Rattle.std.specs.List.{flat_map};
-ghost use Rattle.coap_stats.specs.declared.labels.Whose.TheVariants.{All};
-ghost use Rattle.coap_stats.specs.Line.{refusal_words, request_words, fill_seen, word_seen};
+ghost use Rattle.coap_stats.specs.Labels.{All, label_text, part_seen, part_text};
+ghost use Rattle.coap_stats.specs.Line.{fill_seen, fills, word_seen};
 ghost use Rattle.coap_stats.specs.Metrics as spec;
+ghost use Rattle.coap_stats.specs.Series as series;
 
 use crate::labels::{Whose, put_whose};
 use crate::line::{put, put_number};
@@ -164,7 +165,11 @@ pub(crate) struct Family<'a> {
 
 impl<'a> Family<'a> {
     /// The same under another name.
-    pub(crate) fn named(self, name: &'static str) -> Family<'a> {
+    pub(crate) fn named(self, name: &'static str) -> Family<'a>
+        ensures { result ≡ record self.entry {
+          metric = record self.entry.metric { name = name.entry };
+        } }
+    {
         Family {
             metric: Metric {
                 name,
@@ -175,10 +180,23 @@ impl<'a> Family<'a> {
     }
 }
 
-/// Adds the name of the only number of a part: `NAME{listen="LISTEN",PART} `.
-pub(crate) fn put_name(out: &mut Vec<u8>, family: Family<'_>) -> Result<(), OutOfMemory> {
+/// Adds the name of a number of a part, and the labels that say of which proxy and of which part it
+/// is: `NAME{listen="LISTEN",PART`.
+fn put_part(out: &mut Vec<u8>, family: Family<'_>) -> Result<(), OutOfMemory>
+    ensures { OnOk result (out.new.items ≡ out.old.items
+        ++ (spec.listen_text family.entry.listen.now family.entry.metric.name.now
+        ++ part_text (part_seen family.entry.whose))) }
+{
     put_listen(out, family.metric.name, family.listen)?;
-    put_whose(out, family.whose)?;
+    put_whose(out, family.whose)
+}
+
+/// Adds the name of the only number of a part: `NAME{listen="LISTEN",PART} `.
+pub(crate) fn put_name(out: &mut Vec<u8>, family: Family<'_>) -> Result<(), OutOfMemory>
+    ensures { OnOk result (out.new.items ≡ out.old.items ++ spec.name_text
+        family.entry.listen.now family.entry.metric.name.now (part_seen family.entry.whose)) }
+{
+    put_part(out, family)?;
     put(out, b"} ")
 }
 
@@ -187,10 +205,25 @@ pub(crate) fn put_number_of(
     out: &mut Vec<u8>,
     family: Family<'_>,
     number: u64,
-) -> Result<(), OutOfMemory> {
+) -> Result<(), OutOfMemory>
+    ensures { OnOk result (out.new.items ≡ out.old.items ++ spec.number_text
+        family.entry.listen.now family.entry.metric.name.now (part_seen family.entry.whose)
+        number) }
+{
     put_name(out, family)?;
     put_number(out, number)?;
     put(out, b"\n")
+}
+
+/// Adds a label behind others: `,LABEL="KEY"`.
+fn put_label(out: &mut Vec<u8>, label: &str, key: &str) -> Result<(), OutOfMemory>
+    ensures { OnOk result (out.new.items ≡ out.old.items ++ label_text label.now key.now) }
+{
+    put(out, b",")?;
+    put(out, label.as_bytes())?;
+    put(out, b"=\"")?;
+    put(out, key.as_bytes())?;
+    put(out, b"\"")
 }
 
 /// Adds the line of one of a metric's numbers: `NAME{listen="LISTEN",PART,LABEL="KEY"} NUMBER`.
@@ -199,18 +232,13 @@ pub(crate) fn put_sample(
     family: Family<'_>,
     word: Word,
 ) -> Result<(), OutOfMemory>
-    ensures { family.entry.whose ≡ All → OnOk result (out.new.items ≡ out.old.items
-        ++ spec.sample_text family.entry.listen.now
-        (spec.metric_seen family.entry.metric) family.entry.label.now
-        (word_seen word)) }
+    ensures { OnOk result (out.new.items ≡ out.old.items ++ spec.sample_text
+        family.entry.listen.now family.entry.metric.name.now (part_seen family.entry.whose)
+        family.entry.label.now (word_seen word)) }
 {
-    put_listen(out, family.metric.name, family.listen)?;
-    put_whose(out, family.whose)?;
-    put(out, b",")?;
-    put(out, family.label.as_bytes())?;
-    put(out, b"=\"")?;
-    put(out, word.key.as_bytes())?;
-    put(out, b"\"} ")?;
+    put_part(out, family)?;
+    put_label(out, family.label, word.key)?;
+    put(out, b"} ")?;
     put_number(out, word.number)?;
     put(out, b"\n")
 }
@@ -221,10 +249,9 @@ pub(crate) fn put_samples(
     family: Family<'_>,
     words: &[Word],
 ) -> Result<(), OutOfMemory>
-    ensures { family.entry.whose ≡ All → OnOk result (out.new.items ≡ out.old.items
-        ++ spec.samples_text family.entry.listen.now
-        (spec.metric_seen family.entry.metric) family.entry.label.now
-        (map word_seen words.now)) }
+    ensures { OnOk result (out.new.items ≡ out.old.items ++ spec.samples_text
+        family.entry.listen.now family.entry.metric.name.now (part_seen family.entry.whose)
+        family.entry.label.now (map word_seen words.now)) }
 {
     for word in words {
         put_sample(out, family, *word)?;
@@ -246,20 +273,20 @@ fn put_traffic(out: &mut Vec<u8>, listen: &str, tally: &Tally) -> Result<(), Out
     put_metric(out, listen, GAVE_UP, tally.gave_up)
 }
 
-/// Adds the lines of requests by what became of them.
+/// Adds the lines of requests by what became of them, told apart by the label `outcome`.
 pub(crate) fn put_requests(
     out: &mut Vec<u8>,
     family: Family<'_>,
     requests: &RequestCounts,
 ) -> Result<(), OutOfMemory>
-    ensures { family.entry.whose ≡ All → OnOk result (out.new.items ≡ out.old.items
-        ++ spec.samples_text family.entry.listen.now
-        (spec.metric_seen family.entry.metric) family.entry.label.now
-        (request_words requests.now)
-        ++ spec.samples_text family.entry.listen.now
-        (spec.metric_seen family.entry.metric) family.entry.label.now
-        (refusal_words requests.now.refused)) }
+    ensures { OnOk result (out.new.items ≡ out.old.items ++ spec.requests_text
+        family.entry.listen.now family.entry.metric.name.now (part_seen family.entry.whose)
+        requests.now) }
 {
+    let family = Family {
+        label: "outcome",
+        ..family
+    };
     put_samples(out, family, &request_words(requests))?;
     put_samples(out, family, &refusal_words(&requests.refused))
 }
@@ -288,7 +315,7 @@ fn put_outcomes(out: &mut Vec<u8>, listen: &str, tally: &Tally) -> Result<(), Ou
 {
     let requests = Family {
         metric: REQUESTS,
-        label: "outcome",
+        label: "",
         listen,
         whose: Whose::All,
     };
@@ -307,8 +334,7 @@ fn put_outcomes(out: &mut Vec<u8>, listen: &str, tally: &Tally) -> Result<(), Ou
 /// Adds the line of what a proxy holds of one kind, or may hold.
 fn put_kind(out: &mut Vec<u8>, listen: &str, metric: Metric, word: Word) -> Result<(), OutOfMemory>
     ensures { OnOk result (out.new.items ≡ out.old.items
-        ++ spec.sample_text listen.now (spec.metric_seen metric) (codes "what")
-        (word_seen word)) }
+        ++ spec.sample_text listen.now metric.name.now All (codes "what") (word_seen word)) }
 {
     let family = Family {
         metric,
@@ -379,9 +405,7 @@ fn put_held(out: &mut Vec<u8>, listen: &str, fills: &[Fill]) -> Result<(), OutOf
 /// Adds the counts of the whole proxy.
 fn put_own(out: &mut Vec<u8>, listen: &str, statistics: &Statistics) -> Result<(), OutOfMemory>
     ensures { OnOk result (out.new.items ≡ out.old.items
-        ++ spec.traffic_text listen.now statistics.now.tally
-        ++ spec.outcomes_text listen.now statistics.now.tally
-        ++ spec.cache_text listen.now statistics.now.evictions statistics.now.openings) }
+        ++ series.own_text listen.now statistics.now) }
 {
     put_traffic(out, listen, &statistics.tally)?;
     put_outcomes(out, listen, &statistics.tally)?;
@@ -403,7 +427,10 @@ pub fn put_metrics(
     statistics: &Statistics,
     counts: &Counts,
     limits: &LimitValues,
-) -> Result<(), OutOfMemory> {
+) -> Result<(), OutOfMemory>
+    ensures { OnOk result (out.new.items ≡ out.old.items
+        ++ series.metrics_text listen.now statistics.now counts.now limits.now) }
+{
     put_own(out, listen, statistics)?;
     put_maps(out, listen, &statistics.maps)?;
     put_origins(out, listen, &statistics.origins, statistics.tally.last)?;

@@ -1,4 +1,12 @@
-//! The metrics of maps and of origins.
+//! The metrics of maps, of origins, and of those who have most of a full table.
+ghost use Rattle.std.specs.Prelude.{◌≡◌, ◌-◌, ◌/◌, [], ◌++◌, codes, map, OnOk};
+ghost use Rattle.std.specs.List.{flat_map};
+ghost use Rattle.std.specs.Option.{option_map_or};
+ghost use Rattle.coap_stats.specs.Labels.{part_seen};
+ghost use Rattle.coap_stats.specs.Line.{class_words};
+ghost use Rattle.coap_stats.specs.Metrics as text;
+ghost use Rattle.coap_stats.specs.Series as spec;
+
 use crate::labels::Whose;
 use crate::line::{put, put_number};
 use crate::metrics::{
@@ -6,7 +14,7 @@ use crate::metrics::{
 };
 use crate::words::{Word, class_words};
 use coap_core::{Holder, Holders};
-use coap_counts::{AnswerTimes, MapTable, OriginCounts, OriginTable, RequestCounts};
+use coap_counts::{AnswerTimes, MapCounts, MapTable, OriginCounts, OriginTable, RequestCounts};
 use coap_message::{Moment, OutOfMemory};
 
 const MAP_REQUESTS: Metric = Metric {
@@ -75,149 +83,120 @@ fn put_way(
     listen: &str,
     whose: Whose<'_>,
     requests: &RequestCounts,
-) -> Result<(), OutOfMemory> {
+) -> Result<(), OutOfMemory>
+    ensures { OnOk result (out.new.items
+        ≡ out.old.items ++ spec.way_text listen.now (part_seen whose.entry, requests.now)) }
+{
     let family = Family {
         metric: MAP_REQUESTS,
-        label: "outcome",
+        label: "",
         listen,
         whose,
     };
     put_requests(out, family, requests)
 }
 
-/// Adds what became of requests, by where they went.
-pub(crate) fn put_maps(
-    out: &mut Vec<u8>,
-    listen: &str,
-    table: &MapTable,
-) -> Result<(), OutOfMemory> {
-    put_head(out, MAP_REQUESTS)?;
-    for map in table.maps() {
+/// Adds what became of the requests that went through maps.
+fn put_mapped(out: &mut Vec<u8>, listen: &str, maps: &[MapCounts]) -> Result<(), OutOfMemory>
+    ensures { OnOk result (out.new.items
+        ≡ out.old.items ++ flat_map (spec.way_text listen.now) (map spec.by_prefix maps.now)) }
+{
+    for map in maps {
         put_way(out, listen, Whose::Map(&map.prefix), &map.requests)?;
     }
+    Ok(())
+}
+
+/// Adds what became of those that went another way.
+fn put_other_ways(out: &mut Vec<u8>, listen: &str, table: &MapTable) -> Result<(), OutOfMemory>
+    ensures { OnOk result (out.new.items
+        ≡ out.old.items ++ flat_map (spec.way_text listen.now) (spec.other_ways table.now)) }
+{
     put_way(out, listen, Whose::Way("forward"), table.forward())?;
     put_way(out, listen, Whose::Way("next"), table.next())?;
     put_way(out, listen, Whose::Way("none"), table.unmapped())
 }
 
-/// The origin at a place, with its counts; behind the last place, all others. None from the first
-/// free place on.
-fn part(origins: &OriginTable, index: usize) -> Option<(Whose<'_>, &OriginCounts)> {
-    match origins.places().get(index) {
-        Some(place) => Some((Whose::Origin(place.at?), &place.counts)),
-        None => Some((Whose::Others, origins.others())),
-    }
+/// Adds what became of requests, by where they went.
+pub(crate) fn put_maps(out: &mut Vec<u8>, listen: &str, table: &MapTable) -> Result<(), OutOfMemory>
+    ensures { OnOk result (out.new.items
+        ≡ out.old.items ++ spec.maps_text listen.now table.now) }
+{
+    put_head(out, MAP_REQUESTS)?;
+    put_mapped(out, listen, table.maps())?;
+    put_other_ways(out, listen, table)
 }
 
-/// One of the numbers of an origin.
+/// What is told of each origin.
 #[derive(Clone, Copy)]
-enum OriginNumber {
+enum OriginSeries {
     Sent,
     Resent,
     GaveUp,
+    /// Its answers, by class.
+    Answers,
+    /// How long it has been silent, if it answered before.
+    Silence,
+    /// How long its answers took.
+    Times,
 }
 
-impl OriginNumber {
+impl OriginSeries {
     /// Its metric.
-    fn metric(self) -> Metric {
+    fn metric(self) -> Metric
+        ensures { text.metric_seen result ≡ spec.origin_metric self }
+    {
         match self {
-            OriginNumber::Sent => ORIGIN_SENT,
-            OriginNumber::Resent => ORIGIN_RESENT,
-            OriginNumber::GaveUp => ORIGIN_GAVE_UP,
-        }
-    }
-
-    /// The number.
-    fn of(self, counts: &OriginCounts) -> u64 {
-        match self {
-            OriginNumber::Sent => counts.sent,
-            OriginNumber::Resent => counts.resent,
-            OriginNumber::GaveUp => counts.gave_up,
+            OriginSeries::Sent => ORIGIN_SENT,
+            OriginSeries::Resent => ORIGIN_RESENT,
+            OriginSeries::GaveUp => ORIGIN_GAVE_UP,
+            OriginSeries::Answers => ORIGIN_ANSWERS,
+            OriginSeries::Silence => ORIGIN_SILENCE,
+            OriginSeries::Times => ORIGIN_TIMES,
         }
     }
 }
 
-/// A metric of origins.
-fn family<'a>(metric: Metric, label: &'static str, listen: &'a str) -> Family<'a> {
-    Family {
-        metric,
-        label,
-        listen,
-        whose: Whose::All,
-    }
-}
-
-/// Adds one of the numbers of each origin.
-fn put_numbers(
-    out: &mut Vec<u8>,
-    listen: &str,
-    origins: &OriginTable,
-    number: OriginNumber,
-) -> Result<(), OutOfMemory> {
-    let family = family(number.metric(), "", listen);
-    put_head(out, family.metric)?;
-    for index in 0..=origins.places().len() {
-        let Some((whose, counts)) = part(origins, index) else {
-            return Ok(());
-        };
-        put_number_of(out, Family { whose, ..family }, number.of(counts))?;
-    }
-    Ok(())
-}
-
-/// Adds the answers of each origin, by class.
-fn put_answers(out: &mut Vec<u8>, listen: &str, origins: &OriginTable) -> Result<(), OutOfMemory> {
-    let family = family(ORIGIN_ANSWERS, "class", listen);
-    put_head(out, family.metric)?;
-    for index in 0..=origins.places().len() {
-        let Some((whose, counts)) = part(origins, index) else {
-            return Ok(());
-        };
-        put_samples(
-            out,
-            Family { whose, ..family },
-            &class_words(&counts.answers),
-        )?;
-    }
-    Ok(())
-}
-
-/// Adds how long each origin has been silent that answered before, at a moment in milliseconds.
-fn put_silences(
-    out: &mut Vec<u8>,
-    listen: &str,
-    origins: &OriginTable,
+/// Where the proxy listens, and the moment in milliseconds at which it tells its numbers.
+#[derive(Clone, Copy)]
+struct Telling<'a> {
+    listen: &'a str,
     now: Moment,
-) -> Result<(), OutOfMemory> {
-    let family = family(ORIGIN_SILENCE, "", listen);
-    put_head(out, family.metric)?;
-    for index in 0..=origins.places().len() {
-        let Some((whose, counts)) = part(origins, index) else {
-            return Ok(());
-        };
-        if let Some(last) = counts.last_answer {
-            let seconds = now.saturating_sub(last) / 1000;
-            put_number_of(out, Family { whose, ..family }, seconds)?;
-        }
-    }
-    Ok(())
 }
 
-/// Adds how long the answers of each origin took.
-fn put_all_times(
+/// Adds the answers of an origin, by class.
+fn put_answers(
     out: &mut Vec<u8>,
-    listen: &str,
-    origins: &OriginTable,
-) -> Result<(), OutOfMemory> {
-    let family = family(ORIGIN_TIMES, "le", listen);
-    put_head(out, family.metric)?;
-    for index in 0..=origins.places().len() {
-        let Some((whose, counts)) = part(origins, index) else {
-            return Ok(());
-        };
-        put_times(out, Family { whose, ..family }, &counts.times)?;
+    family: Family<'_>,
+    counts: &OriginCounts,
+) -> Result<(), OutOfMemory>
+    ensures { OnOk result (out.new.items ≡ out.old.items ++ text.samples_text
+        family.entry.listen.now family.entry.metric.name.now (part_seen family.entry.whose)
+        (codes "class") (class_words counts.now.answers)) }
+{
+    let classes = Family {
+        label: "class",
+        ..family
+    };
+    put_samples(out, classes, &class_words(&counts.answers))
+}
+
+/// Adds how long an origin has been silent, if it answered before.
+fn put_silence(
+    out: &mut Vec<u8>,
+    family: Family<'_>,
+    counts: &OriginCounts,
+    now: Moment,
+) -> Result<(), OutOfMemory>
+    ensures { OnOk result (out.new.items ≡ out.old.items ++ option_map_or
+        (λ last. text.number_text family.entry.listen.now family.entry.metric.name.now
+        (part_seen family.entry.whose) ((now - last) / 1000))
+        counts.now.last_answer []) }
+{
+    match counts.last_answer {
+        Some(last) => put_number_of(out, family, now.saturating_sub(last) / 1000),
+        None => Ok(()),
     }
-    Ok(())
 }
 
 /// The ends of the buckets of a histogram, in seconds.
@@ -225,13 +204,16 @@ const ENDS: [&str; 13] = [
     "0.005", "0.01", "0.025", "0.05", "0.1", "0.25", "0.5", "1", "2.5", "5", "10", "30", "60",
 ];
 
-/// Adds a histogram: a line for each bucket, one for all, and the sum in seconds.
-fn put_times(
+/// Adds a line for each bucket of a histogram.
+fn put_buckets(
     out: &mut Vec<u8>,
-    family: Family<'_>,
+    buckets: Family<'_>,
     times: &AnswerTimes,
-) -> Result<(), OutOfMemory> {
-    let buckets = family.named("coap_proxyd_origin_answer_seconds_bucket");
+) -> Result<(), OutOfMemory>
+    ensures { OnOk result (out.new.items ≡ out.old.items ++ text.samples_text
+        buckets.entry.listen.now buckets.entry.metric.name.now (part_seen buckets.entry.whose)
+        buckets.entry.label.now (spec.bucket_words times.now)) }
+{
     for (key, bucket) in ENDS.iter().zip(times.buckets.iter()) {
         let word = Word {
             key,
@@ -239,6 +221,20 @@ fn put_times(
         };
         put_sample(out, buckets, word)?;
     }
+    Ok(())
+}
+
+/// Adds a histogram: a line for each bucket, one for all, and the sum in seconds.
+fn put_times(out: &mut Vec<u8>, family: Family<'_>, times: &AnswerTimes) -> Result<(), OutOfMemory>
+    ensures { OnOk result (out.new.items ≡ out.old.items ++ spec.times_text
+        family.entry.listen.now (part_seen family.entry.whose) times.now) }
+{
+    let family = Family {
+        label: "le",
+        ..family
+    };
+    let buckets = family.named("coap_proxyd_origin_answer_seconds_bucket");
+    put_buckets(out, buckets, times)?;
     let all = Word {
         key: "+Inf",
         number: times.count,
@@ -253,16 +249,89 @@ fn put_times(
     put_number_of(out, count, times.count)
 }
 
-/// Adds a number of milliseconds in seconds.
-fn put_sum(out: &mut Vec<u8>, family: Family<'_>, sum: u64) -> Result<(), OutOfMemory> {
-    put_name(out, family)?;
-    put_number(out, sum / 1000)?;
-    let rest = sum % 1000;
+/// Adds a number of milliseconds, in seconds.
+fn put_seconds(out: &mut Vec<u8>, ms: u64) -> Result<(), OutOfMemory>
+    ensures { OnOk result (out.new.items ≡ out.old.items ++ spec.seconds_text ms) }
+{
+    put_number(out, ms / 1000)?;
+    let rest = ms % 1000;
     put(out, b".")?;
     put_number(out, rest / 100)?;
     put_number(out, rest / 10 % 10)?;
-    put_number(out, rest % 10)?;
+    put_number(out, rest % 10)
+}
+
+/// Adds the line of a number of milliseconds, in seconds.
+fn put_sum(out: &mut Vec<u8>, family: Family<'_>, sum: u64) -> Result<(), OutOfMemory>
+    ensures { OnOk result (out.new.items ≡ out.old.items ++ spec.sum_text
+        family.entry.listen.now family.entry.metric.name.now (part_seen family.entry.whose)
+        sum) }
+{
+    put_name(out, family)?;
+    put_seconds(out, sum)?;
     put(out, b"\n")
+}
+
+/// Adds what is told of an origin, or of all others.
+fn put_origin(
+    out: &mut Vec<u8>,
+    at: Telling<'_>,
+    series: OriginSeries,
+    whose: Whose<'_>,
+    counts: &OriginCounts,
+) -> Result<(), OutOfMemory>
+    ensures { OnOk result (out.new.items ≡ out.old.items ++ spec.origin_text
+        at.entry.listen.now at.entry.now series (part_seen whose.entry, counts.now)) }
+{
+    let family = Family {
+        metric: series.metric(),
+        label: "",
+        listen: at.listen,
+        whose,
+    };
+    match series {
+        OriginSeries::Sent => put_number_of(out, family, counts.sent),
+        OriginSeries::Resent => put_number_of(out, family, counts.resent),
+        OriginSeries::GaveUp => put_number_of(out, family, counts.gave_up),
+        OriginSeries::Answers => put_answers(out, family, counts),
+        OriginSeries::Silence => put_silence(out, family, counts, at.now),
+        OriginSeries::Times => put_times(out, family, &counts.times),
+    }
+}
+
+/// Adds what is told of each origin, in the order of their places; where none of these is free,
+/// also of all others.
+fn put_each_origin(
+    out: &mut Vec<u8>,
+    at: Telling<'_>,
+    series: OriginSeries,
+    origins: &OriginTable,
+) -> Result<(), OutOfMemory>
+    ensures { OnOk result (out.new.items ≡ out.old.items ++ flat_map
+        (spec.origin_text at.entry.listen.now at.entry.now series)
+        (spec.origin_parts origins.now.places origins.now.others)) }
+{
+    for place in origins.places() {
+        let Some(origin) = place.at else {
+            return Ok(());
+        };
+        put_origin(out, at, series, Whose::Origin(origin), &place.counts)?;
+    }
+    put_origin(out, at, series, Whose::Others, origins.others())
+}
+
+/// Adds a metric of origins.
+fn put_origin_series(
+    out: &mut Vec<u8>,
+    at: Telling<'_>,
+    series: OriginSeries,
+    origins: &OriginTable,
+) -> Result<(), OutOfMemory>
+    ensures { OnOk result (out.new.items ≡ out.old.items
+        ++ spec.of_origins at.entry.listen.now at.entry.now origins.now series) }
+{
+    put_head(out, series.metric())?;
+    put_each_origin(out, at, series, origins)
 }
 
 /// Adds what each origin was sent and answered, at a moment in milliseconds.
@@ -271,57 +340,89 @@ pub(crate) fn put_origins(
     listen: &str,
     origins: &OriginTable,
     now: Moment,
-) -> Result<(), OutOfMemory> {
-    put_numbers(out, listen, origins, OriginNumber::Sent)?;
-    put_numbers(out, listen, origins, OriginNumber::Resent)?;
-    put_numbers(out, listen, origins, OriginNumber::GaveUp)?;
-    put_answers(out, listen, origins)?;
-    put_silences(out, listen, origins, now)?;
-    put_all_times(out, listen, origins)
+) -> Result<(), OutOfMemory>
+    ensures { OnOk result (out.new.items ≡ out.old.items
+        ++ spec.origins_text listen.now now origins.now) }
+{
+    let at = Telling { listen, now };
+    put_origin_series(out, at, OriginSeries::Sent, origins)?;
+    put_origin_series(out, at, OriginSeries::Resent, origins)?;
+    put_origin_series(out, at, OriginSeries::GaveUp, origins)?;
+    put_origin_series(out, at, OriginSeries::Answers, origins)?;
+    put_origin_series(out, at, OriginSeries::Silence, origins)?;
+    put_origin_series(out, at, OriginSeries::Times, origins)
 }
 
-/// One of the numbers of an address that has most of a table.
+/// What is told of an address that has most of a table.
 #[derive(Clone, Copy)]
-enum HolderNumber {
+enum HolderSeries {
     Held,
     Ports,
     Age,
 }
 
-impl HolderNumber {
+impl HolderSeries {
     /// Its metric.
-    fn metric(self) -> Metric {
+    fn metric(self) -> Metric
+        ensures { text.metric_seen result ≡ spec.holder_metric self }
+    {
         match self {
-            HolderNumber::Held => HOLDER,
-            HolderNumber::Ports => HOLDER_PORTS,
-            HolderNumber::Age => HOLDER_AGE,
+            HolderSeries::Held => HOLDER,
+            HolderSeries::Ports => HOLDER_PORTS,
+            HolderSeries::Age => HOLDER_AGE,
         }
     }
 
     /// The number, at a moment in milliseconds.
-    fn of(self, holder: &Holder, now: Moment) -> u64 {
+    fn of(self, holder: Holder, now: Moment) -> u64
+        ensures { result ≡ spec.holder_number now self holder }
+    {
         match self {
-            HolderNumber::Held => holder.held,
-            HolderNumber::Ports => holder.ports,
-            HolderNumber::Age => now.saturating_sub(holder.found) / 1000,
+            HolderSeries::Held => holder.held,
+            HolderSeries::Ports => holder.ports,
+            HolderSeries::Age => now.saturating_sub(holder.found) / 1000,
         }
     }
 }
 
-/// Adds one of the numbers of each address that has most of a table.
-fn put_holder_numbers(
+/// Adds what is told of the address that has most of a table, if one was found.
+fn put_holder(
     out: &mut Vec<u8>,
-    listen: &str,
+    at: Telling<'_>,
+    series: HolderSeries,
+    found: Option<Holder>,
+) -> Result<(), OutOfMemory>
+    ensures { OnOk result (out.new.items ≡ out.old.items
+        ++ spec.holder_text at.entry.listen.now at.entry.now series found) }
+{
+    let Some(holder) = found else {
+        return Ok(());
+    };
+    let family = Family {
+        metric: series.metric(),
+        label: "",
+        listen: at.listen,
+        whose: Whose::Holder(holder),
+    };
+    put_number_of(out, family, series.of(holder, at.now))
+}
+
+/// Adds a metric of the addresses that have most of a table.
+fn put_holder_series(
+    out: &mut Vec<u8>,
+    at: Telling<'_>,
+    series: HolderSeries,
     holders: &Holders,
-    (number, now): (HolderNumber, Moment),
-) -> Result<(), OutOfMemory> {
-    let family = family(number.metric(), "", listen);
-    put_head(out, family.metric)?;
-    for holder in holders.all().iter().flatten() {
-        let whose = Whose::Holder(*holder);
-        put_number_of(out, Family { whose, ..family }, number.of(holder, now))?;
-    }
-    Ok(())
+) -> Result<(), OutOfMemory>
+    ensures { OnOk result (out.new.items ≡ out.old.items
+        ++ spec.of_holders at.entry.listen.now at.entry.now holders.now series) }
+{
+    put_head(out, series.metric())?;
+    let [con_records, non_records, exchanges, waiters] = holders.all();
+    put_holder(out, at, series, con_records)?;
+    put_holder(out, at, series, non_records)?;
+    put_holder(out, at, series, exchanges)?;
+    put_holder(out, at, series, waiters)
 }
 
 /// Adds who had most of each table that was full, at a moment in milliseconds.
@@ -330,8 +431,12 @@ pub(crate) fn put_holders(
     listen: &str,
     holders: &Holders,
     now: Moment,
-) -> Result<(), OutOfMemory> {
-    put_holder_numbers(out, listen, holders, (HolderNumber::Held, now))?;
-    put_holder_numbers(out, listen, holders, (HolderNumber::Ports, now))?;
-    put_holder_numbers(out, listen, holders, (HolderNumber::Age, now))
+) -> Result<(), OutOfMemory>
+    ensures { OnOk result (out.new.items ≡ out.old.items
+        ++ spec.holders_text listen.now now holders.now) }
+{
+    let at = Telling { listen, now };
+    put_holder_series(out, at, HolderSeries::Held, holders)?;
+    put_holder_series(out, at, HolderSeries::Ports, holders)?;
+    put_holder_series(out, at, HolderSeries::Age, holders)
 }
