@@ -9,7 +9,7 @@ mod reporter;
 mod stop;
 
 use crate::logging::{logger_of, tell_listening};
-use crate::recorded::{file_of, since_of};
+use crate::recorded::{file_of, head_of, since_of};
 use crate::reporter::{Reporter, listen_text};
 use crate::stop::{Stop, ended, fault_of, words};
 use coap_cache::LruStore;
@@ -19,7 +19,7 @@ use coap_proxyd::{
 };
 use coap_udp::UdpPort;
 use std::hash::RandomState;
-use std::io::{BufRead, BufReader};
+use std::io::{BufReader, Read};
 use std::process::ExitCode;
 use std::random::RandomSource;
 use std::{fs, io};
@@ -156,11 +156,11 @@ fn explain(rt: &HostRuntime, plan: Plan) -> Result<(), Stop> {
     let Ok(mut input) = BufReader::new(alloc, rt.reader()) else {
         return Err(Stop::from(Fault::OutOfMemory));
     };
-    if let Ok(head) = input.fill_buf() {
-        explainer.set_since(since_of(head));
-    }
+    let head = head_of(alloc, &mut input).map_err(|error| fault_of(&error, Fault::File))?;
+    explainer.set_since(since_of(&head));
     let mut output = Output::new(io::writer(rt));
     let server = Server::<Cache>::new(alloc, seed, plan);
+    let input = head.as_slice().chain(input);
     server.serve_events_watched(input, &mut output, &mut explainer)?;
     if explainer.failed() {
         return Err(Stop::from(Fault::File));
