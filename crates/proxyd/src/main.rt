@@ -54,7 +54,7 @@ fn plan(rt: &HostRuntime, config: Option<&[u8]>) -> Result<Plan, Stop> {
 }
 
 /// A random first Message ID and a random salt: one that `--salt` can give, too, so below 2^63.
-fn draw(rt: &HostRuntime) -> Result<Start, Fault> {
+fn random_start(rt: &HostRuntime) -> Result<Start, Fault> {
     let (mut id, mut salt) = ([0; 2], [0; 8]);
     match rt
         .fill_bytes(&mut id)
@@ -78,7 +78,7 @@ fn seed(rt: &HostRuntime) -> Result<RandomState, Fault> {
 
 /// Serves a socket.
 fn serve_socket(rt: &HostRuntime, plan: Plan, config: Option<&[u8]>) -> Result<(), Stop> {
-    let drawn = draw(rt)?;
+    let drawn = random_start(rt)?;
     let Ok(listen) = listen_text(rt, plan.local) else {
         return Err(Stop::from(Fault::OutOfMemory));
     };
