@@ -107,6 +107,6 @@ pub(crate) fn put_cause(line: &mut Line, cause: Cause) -> io::Result<()> {
 /// Adds what an exchange was: its origin, how often its request was sent, and how long it took.
 pub(crate) fn put_exchange(line: &mut Line, exchange: &DueExchange, now: Moment) -> io::Result<()> {
     put_peer(line, "origin", exchange.origin)?;
-    put_number(line, "sent", u64::from(exchange.sends))?;
+    put_number(line, "sent", u64::from(exchange.transmissions))?;
     put_number(line, "ms", exchange.took(now))
 }

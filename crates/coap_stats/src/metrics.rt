@@ -163,7 +163,7 @@ pub(crate) struct Family<'a> {
 }
 
 impl<'a> Family<'a> {
-    /// The same under another name.
+    /// This metric under another name, as for the parts of a histogram.
     pub(crate) fn named(self, name: &'static str) -> Family<'a> {
         Family {
             metric: Metric {
