@@ -13,9 +13,10 @@ import tempfile
 import time
 
 from testing import programs
-from testing.coap import CON, EMPTY, RST, message
+from testing.coap import CON, CONTENT, EMPTY, GET, NON, RST, message
 from testing.network import PATIENCE, Failed, Skipped, Stage, case_list, expect, expect_between, free_port
 from testing.statistics import metrics
+from testing.steps import T, TEMP, path
 
 CASES, case = case_list()
 # The numbers of calls that are the same on all processors, and the form of a time.
@@ -146,15 +147,19 @@ def milliseconds(option, of):
 
 
 def its_socket_waits_while_nothing_comes(program):
-    """After a turn that sent something it only looks, and then it waits again: by the mode of its socket, which the system
-    has in both, and no clock."""
+    """Of two clients that wait for one answer the second is sent it after a read that doesn't wait, and then it waits again:
+    by the mode of its socket, which the system has in both, and no clock."""
     with Stage(program) as stage:
-        client = stage.peer(to=stage.proxy())
+        proxy, first, origin = stage.mapped()
+        second = stage.peer(to=proxy)
         with own_socket(stage.programs[-1]) as its:
             modes = []
-            for _ in range(3):
-                client.send(message(CON, EMPTY, client.new_id()))
-                expect("what it is answered", RST, client.receive("a Reset").message.kind)
+            for name in ("a", "b", "c"):
+                for client in (first, second):
+                    client.request(GET, [T, *path(name)], kind=NON)
+                origin.answer(origin.expect_request(GET, [TEMP, *path(name)]), CONTENT, [], b"21")
+                for client in (first, second):
+                    expect("what it is answered", CONTENT, client.receive("an answer").message.code)
                 # Each wait is a second, and it takes one to be waiting.
                 time.sleep(0.3)
                 modes.append(fcntl.fcntl(its, fcntl.F_GETFL) & os.O_NONBLOCK)

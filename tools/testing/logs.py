@@ -1,16 +1,19 @@
 """What the program logs with --log while it serves a socket, and what it says of a fault beside its text."""
 
+import contextlib
 import errno
 import fcntl
 import os
 import pty
 import random
 import re
+import resource
 import subprocess
 import tempfile
 import time
 from urllib.parse import unquote_to_bytes
 
+from testing import programs
 from testing.coap import (
     ACK, BLOCK2, CON, CONTENT, EMPTY, ETAG, GATEWAY_TIMEOUT, GET, NON, RST, URI_PATH, VALID, message,
 )
@@ -308,6 +311,60 @@ def a_log_that_nobody_reads_keeps_nobody_waiting(program):
 
 
 @case("WaitsForReaders")
+def a_log_that_nobody_reads_takes_no_time(program):
+    with Stage(program) as stage:
+        reading, writing = os.pipe()
+        try:
+            fcntl.fcntl(writing, F_SETPIPE_SZ, 4096)
+            config = "[limits]\nnon_records = 1\nclient_non_records = 1\n"
+            client = stage.peer(to=stage.proxy("--log", config=config, version=2, output=writing))
+            os.set_blocking(writing, False)
+            with contextlib.suppress(BlockingIOError):
+                while True:
+                    os.write(writing, b"no room\n" * 16)
+            os.set_blocking(writing, True)
+            client.request(GET, [], kind=NON)
+            client.receive("a refusal")
+            taken = []
+            # As many lines as are tried at once: each of these is dropped, and that would be a line.
+            for _ in range(15):
+                begun = time.monotonic()
+                client.request(GET, [], kind=NON)
+                client.send(message(CON, EMPTY, client.new_id()))
+                expect("what a ping is answered", RST, client.receive("a Reset").message.kind)
+                taken.append(time.monotonic() - begun)
+            # The machine may be loaded in most of them, but not in all.
+            expect_between("the shortest time for one, in seconds", 0, 0.04, min(taken))
+        finally:
+            os.close(reading)
+            os.close(writing)
+
+
+@case("LogKept")
+def a_line_after_one_that_was_torn_is_a_line(program):
+    # What is too long for a file is refused, and ends nothing.
+    with Stage(["sh", "-c", 'trap "" XFSZ; exec "$0" "$@"', *program]) as stage:
+        log = Log(stage, "non_records = 1\nclient_non_records = 1")
+        for _ in range(2):
+            log.client.request(GET, [], kind=NON)
+        log.await_lines("full")
+        own, size = stage.programs[-1].pid, os.path.getsize(log.path)
+        _, most = resource.prlimit(own, resource.RLIMIT_FSIZE)
+        resource.prlimit(own, resource.RLIMIT_FSIZE, (size + len("dropped cl"), most))
+        log.client.request(GET, [], kind=NON)
+        until = time.monotonic() + PATIENCE
+        while os.path.getsize(log.path) < size + len("dropped cl") and time.monotonic() < until:
+            time.sleep(0.05)
+        resource.prlimit(own, resource.RLIMIT_FSIZE, (most, most))
+        log.client.request(GET, [], kind=NON)
+        text = ""
+        while text.count("dropped client=") < 1 and time.monotonic() < until:
+            time.sleep(0.05)
+            text = read(log.path)[size:]
+        expect_form("what is written", r"dropped cl\nleft_out lines=1\ndropped client=[^\n]+\n", text)
+
+
+@case("WaitsForReaders")
 def counts_that_nobody_reads_keep_nobody_waiting(program):
     with Stage(program) as stage:
         reading, writing = os.pipe()
@@ -337,6 +394,27 @@ def a_recording_that_ends(program):
         done = subprocess.run([*program, *words], stderr=subprocess.PIPE, timeout=20, **more)
         lines = [line for line in done.stderr.decode().splitlines() if not line.startswith("listening ")]
         expect_form("what is said of its end", "recording_ended bytes=[0-9]+", "\n".join(lines))
+
+
+@case("LinesTwice")
+def a_recording_goes_on_after_writes_that_were_interrupted(program):
+    settings, shimmed = programs.shimmed(program[-1], programs.INTERRUPTING)
+    with Stage(["env", *settings, *program[:-1], shimmed]) as stage:
+        path, said = os.path.join(stage.folder, "run.events"), stage.file("said.txt", "")
+        with open(said, "wb") as output:
+            client = stage.peer(to=stage.proxy("--log", "--record", path, output=output))
+        # They are written together, once nothing comes any more.
+        for _ in range(2):
+            for _ in range(50):
+                client.send(message(CON, EMPTY, client.new_id()))
+                client.receive("a Reset")
+            time.sleep(0.3)
+        until, count = time.monotonic() + PATIENCE, 0
+        while count < 100 and time.monotonic() < until:
+            time.sleep(0.05)
+            count = read(path).count(f" {authority(client)} ")
+        expect("how many datagrams are in the recording", 100, count)
+        expect_form("what is said", "listening [^\n]+\n", read(said))
 
 
 @case("EndUnsaid")
@@ -521,3 +599,8 @@ def somebody_at_a_terminal_is_told_that_it_listens(program):
         [*program, "-A", "127.0.0.1", "-p", str(free_port()), "--turns", "1"], stderr=subprocess.PIPE, timeout=20
     )
     expect("what is written to a pipe", b"", done.stderr)
+
+
+# Where a stand-in that passes on each line would itself be what the case finds: one that waits for a reader, or that tears
+# a line.
+BY_THEMSELVES = (a_log_that_nobody_reads_keeps_nobody_waiting, a_line_after_one_that_was_torn_is_a_line)

@@ -11,16 +11,19 @@ import tempfile
 import time
 
 from testing import programs, worked
-from testing.coap import ACK, CON, CONTENT, DELETED, EMPTY, GET, NON, message, read
+from testing.coap import ACK, CON, CONTENT, DELETED, EMPTY, GET, NON, PROXY_URI, message, read
 from testing.network import (
     PATIENCE, RESULT, Came, Failed, Life, case_list, check_response, expect, expect_between, expect_message,
 )
+from testing.statistics import await_metric
 from testing.steps import path
 
 CASES, case = case_list()
 START, ORIGIN = b"coap-proxyd: out of memory\n", b"127.0.0.1:5690"
 # More requests for memory than a run makes.
 MANY = 1 << 40
+# How many origins are counted by themselves, besides those of maps, and the count of requests that were forwarded.
+ORIGINS, OPENED = 256, 'coap_proxyd_requests_total{outcome="opened"}'
 # The worked runs that are played, and what each must write where an answer isn't stored for want of memory, which
 # ends nothing: one text for each such answer that shows. They came from the program and were checked by hand.
 RUNS = {
@@ -300,3 +303,29 @@ def a_confirmable_client_is_answered_where_memory_is_refused(stage):
     sequence = Sequence(stage)
     sequence.refuse_all(lambda name: sequence.fetch(name, CON))
     sequence.expect_silence()
+
+
+# Counts
+
+
+@case("NotCounted")
+def counts_are_written_into_memory_that_is_there(stage):
+    """Of as many origins as it counts by themselves, each with all of its series."""
+    refusals, path = Refusals(stage.folder, stage.program), os.path.join(stage.folder, "counts.prom")
+    stage.program = refusals.program
+    refusals.refuse(MANY)
+    config = "names = ['proxy.test']\n[limits]\nexchanges = 512\nwaiters = 512\n"
+    client = stage.peer(to=stage.proxy("--stats", "4", "--stats-file", path, config=config))
+    await_metric(path, OPENED, 0)
+    expect("whether its requests for memory are counted", True, refusals.numbers[0] < MANY)
+    # All of this is before the next report.
+    for number in range(ORIGINS):
+        client.request(GET, [(PROXY_URI, f"coap://127.251.1.{number}:65535/t".encode())], kind=NON)
+        if number % 32 == 0:
+            client.send(message(CON, EMPTY, client.new_id()))
+            client.receive("a Reset")
+    client.send(message(CON, EMPTY, client.new_id()))
+    client.receive("a Reset")
+    left = refusals.numbers[0]
+    await_metric(path, OPENED, ORIGINS)
+    expect("how many requests for memory that takes", 0, left - refusals.numbers[0])

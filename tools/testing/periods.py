@@ -13,7 +13,7 @@ from testing.statistics import await_metric, metrics
 CASES, case = case_list()
 UNWRITTEN = b"coap-proxyd: the counts can't be written to their file\n"
 LOST, FAULTS = "coap_proxyd_lost_turns_total", "coap_proxyd_send_faults_total"
-RESENT = "coap_proxyd_retransmissions_total"
+RECEIVED, RESENT = "coap_proxyd_datagrams_received_total", "coap_proxyd_retransmissions_total"
 
 
 def counting(stage, config=None):
@@ -64,6 +64,26 @@ def counts_of_periods_that_passed_at_once_are_written_once(stage):
 
 
 @case("NotCounted")
+def counts_are_written_with_the_turn_that_ends_a_period(stage):
+    clock, rounds = Clock(stage.folder), 8
+    stage.program = paced(stage.program, 0, f"CLOCK_AHEAD={clock.path}")
+    client, path, _ = counting(stage)
+    received = []
+    for number in range(rounds + 1):
+        # It waits for a datagram. If that comes before a second is over, it ends the period; the last one ends without any.
+        time.sleep(0.05)
+        clock.leap(1)
+        if number < rounds:
+            client.send(message(CON, EMPTY, client.new_id()))
+            client.receive("a Reset")
+        await_uptime(path, number + 1)
+        received.append(metrics(path)[RECEIVED])
+    wanted = [received[-1] - rounds + number for number in range(1, rounds + 1)]
+    is_counted = any(one == other for one, other in zip(wanted, received))
+    expect("whether the datagram that ends a period is counted in it", True, is_counted)
+
+
+@case("NotCounted")
 def the_file_is_never_read_in_part(stage):
     _, path, _ = counting(stage)
     await_metric(path, LOST, 0)
@@ -104,5 +124,5 @@ def what_the_system_does_not_take_is_counted(stage):
     expect("what was sent again", 0, numbers[RESENT])
     numbers = await_metric(path, RESENT, 1)
     expect("faults", 2, numbers[FAULTS])
-    if numbers["coap_proxyd_datagrams_sent_total"] >= numbers["coap_proxyd_datagrams_received_total"]:
+    if numbers["coap_proxyd_datagrams_sent_total"] >= numbers[RECEIVED]:
         raise Failed("what the system didn't take counts as sent")

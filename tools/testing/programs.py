@@ -1,5 +1,5 @@
 """What processor a program is for, how it is started here, and how one is made that can be refused memory or what it sends,
-whose clock goes at another speed, or whose random bytes are counted."""
+whose clock goes at another speed, whose random bytes are counted, or whose writes are interrupted."""
 
 import atexit
 import os
@@ -18,6 +18,7 @@ TOP = os.path.dirname(os.path.dirname(os.path.dirname(os.path.abspath(__file__))
 Shim = namedtuple("Shim", "name variable functions")
 REFUSING, PACING = Shim("refusing", "REFUSED", ("malloc", "realloc")), Shim("pacing", "PACED", ("clock_gettime",))
 DRAWING, DENYING = Shim("drawing", "DRAWN", ("getrandom",)), Shim("denying", "DENIED", ("sendto",))
+INTERRUPTING = Shim("interrupting", "INTERRUPTED", ("write",))
 # How each program that was tested is started with each shim, the programs behind scripts that start them, and the folder
 # with all of these.
 SHIMMED, BEHIND, FOLDER, LOCK = {}, {}, [], threading.Lock()

@@ -1,16 +1,19 @@
 """Recordings of the program while it serves a socket: a replay of one sends the same, byte for byte."""
 
+import fcntl
 import os
 import re
 import resource
 import shlex
+import struct
 import subprocess
 import tempfile
+import termios
 import time
 from datetime import datetime, timedelta
 
 from testing.coap import CON, CONTENT, GET, NON, NOT_SUPPORTED, PROXY_URI, message
-from testing.network import FAULT, PATIENCE, Life, case_list, expect, free_port
+from testing.network import FAULT, PATIENCE, RESULT, Life, case_list, expect, free_port
 from testing.statistics import await_metric
 from testing.steps import T, TEMP, expect_hit, max_age
 
@@ -215,9 +218,49 @@ def an_account_of_a_recording_has_its_time_of_day(program):
         expect("after a bad event", (2, told), (done.returncode, done.stdout), "the status", "the output")
 
 
+def left_in(pipe):
+    """How many bytes of a pipe aren't read yet."""
+    return struct.unpack("i", fcntl.ioctl(pipe, termios.FIONREAD, bytes(4)))[0]
+
+
+def given_in_pieces(words, pieces):
+    """What comes of a program whose input is a pipe that gives each piece once the one before was read: the status, and
+    what it writes."""
+    pipe = subprocess.PIPE
+    with subprocess.Popen(words, stdin=pipe, stdout=pipe, stderr=pipe) as process:
+        for piece in pieces:
+            process.stdin.write(piece.encode())
+            process.stdin.flush()
+            until = time.monotonic() + PATIENCE
+            while left_in(process.stdin) and process.poll() is None and time.monotonic() < until:
+                time.sleep(0.001)
+        output, errors = process.communicate(timeout=20)
+    return process.returncode, output.decode(), errors.decode()
+
+
+def an_account_has_the_time_of_day_however_its_head_comes(program):
+    first, since = "# coap-proxyd 0.3.0 --replay\n", "# recorded since 2026-11-27T23:59:59.900Z\n"
+    config = [f"# config: # {number:080}\n" for number in range(200)]
+    run, told = [*program, "--replay", "--explain"], "# 1 101 2026-11-28T00:00:00.001Z tick idle\n"
+    for what, head in (
+        ("one line at first", (first, since)),
+        ("parts of a line", (first[:1], first[1:] + since[:20], since[20:-1], since[-1:])),
+        ("more than one read takes", (first + "".join(config) + since,)),
+        ("a line at once, and many of them", (first, *config, since)),
+    ):
+        # The number of a line that is wrong counts those of the head.
+        bad = "".join(head).count("\n") + 2
+        done = given_in_pieces(run, (*head, "101 0 tick\n", "night\n"))
+        expect(f"a head that comes as {what}", (2, told, f"line {bad}: bad event\n"), done, *RESULT)
+    # A comment that a replay doesn't read ends it as it did, and one that is the last of an input needs no line feed.
+    done = given_in_pieces(run, ("#" * 16_385 + f"\n{since}101 0 tick\n",))
+    expect("a comment that is too long", (2, "", "line 1: bad event\n"), done, *RESULT)
+    expect("a head alone", (0, "", ""), given_in_pieces(run, (first, since[:-1])), *RESULT)
+
+
 ENDS = (
     a_file_that_is_there_stays_as_it_is, a_line_that_is_too_long_for_a_recording_is_a_fault,
     a_full_disk_ends_the_recording_alone, a_recording_ends_before_it_is_too_long, a_size_is_that_of_a_recording,
     a_recording_in_a_folder_is_named_by_its_moment, an_account_has_the_time_of_day,
-    an_account_of_a_recording_has_its_time_of_day,
+    an_account_of_a_recording_has_its_time_of_day, an_account_has_the_time_of_day_however_its_head_comes,
 )

@@ -2,6 +2,7 @@
 
 import contextlib
 import tempfile
+import time
 
 from testing.coap import CON, CONTENT, EMPTY, GATEWAY_TIMEOUT, GET, NON, NOT_FOUND, PROXY_URI, RST, URI_PATH, message
 from testing.hosts import paced
@@ -52,11 +53,11 @@ class Leaping(Log):
 
 
 @contextlib.contextmanager
-def leaping(program, *how):
-    """A log of a proxy whose clock is set ahead."""
+def leaping(program, *how, speed=1):
+    """A log of a proxy whose clock is set ahead, and otherwise goes at this speed."""
     with tempfile.TemporaryDirectory(prefix="coap-proxyd-test-") as folder:
         clock = Clock(folder)
-        with Stage(paced(program, 1, f"CLOCK_AHEAD={clock.path}")) as stage:
+        with Stage(paced(program, speed, f"CLOCK_AHEAD={clock.path}")) as stage:
             yield Leaping(stage, clock, *how)
 
 
@@ -158,20 +159,62 @@ def the_table_that_is_told_is_the_first_that_is_full(program):
             log.expect_line("full", 1, table=table, count="1/1", address=log.client.host, has=1, ports=1)
 
 
+@case("LeftOutUncounted", "LinesTwice")
+def no_line_is_written_before_it_may_be(program):
+    with leaping(program, "non_records = 1\nclient_non_records = 1", speed=0) as log:
+        # While its clock stands still twenty may be written, of which one says who has most of the table.
+        for _ in range(31):
+            log.client.request(GET, [], kind=NON)
+        log.settle()
+        # Once nothing came for a second, it would say how many it left out.
+        time.sleep(1.3)
+        lines = [word for word, _ in log.lines() if word != "listening"]
+        expect("which lines are written", ["dropped"] * 19 + ["full"], sorted(lines))
+        log.leap(1)
+        expect("how many were left out", "11", log.await_lines("left_out")[0]["lines"])
+
+
+def give_ids(log, count):
+    """Has the proxy give so many Message IDs: each request of these is refused in a message of its own."""
+    sent, came = 0, 0
+    while came < count:
+        while sent < min(count, came + 32):
+            log.client.request(GET, [], kind=NON)
+            sent += 1
+        expect("what it is answered", NOT_FOUND, log.client.receive("a refusal").message.code)
+        came += 1
+
+
 @case("ClientIsTheFirst", "LimitIsExchanges")
 def a_message_is_dropped_for_which_no_id_is_left(program):
     with Stage(program) as stage:
         log = Log(stage, "non_records = 65536\nclient_non_records = 65536")
-        # Each of them is refused in a message of its own.
-        sent, came = 0, 0
-        while came < IDS:
-            while sent < min(IDS, came + 32):
-                log.client.request(GET, [], kind=NON)
-                sent += 1
-            expect("what it is answered", NOT_FOUND, log.client.receive("a refusal").message.code)
-            came += 1
+        give_ids(log, IDS)
         log.client.request(GET, [], kind=NON)
         log.expect_line("dropped", 1, client=authority(log.client), ids=f"{IDS}/{IDS}")
+
+
+@case("CauseIsReset")
+def an_exchange_has_its_own_cause_though_another_had_its_id(program):
+    limits = "non_records = 65536\nclient_non_records = 65536\nexchange_ms = 60000"
+    with leaping(program, limits, speed=0) as log:
+        log.client.request(GET, [T], kind=NON)
+        asked = log.origin.expect_request(GET, [TEMP])
+        log.leap(61, [(log.client, 1)])
+        log.expect_line("failed", 1, client=authority(log.client), code="5.04", target=log.target, cause="unacknowledged",
+                        origin=authority(log.origin), sent=1)
+        # Half of all are given within 247 seconds. The message that the client was sent took one, too.
+        give_ids(log, IDS - 2)
+        log.leap(300)
+        give_ids(log, IDS)
+        log.leap(300)
+        log.client.request(GET, [T], kind=NON)
+        again = log.origin.expect_request(GET, [TEMP])
+        expect("the Message ID of the request", asked.message.message_id, again.message.message_id)
+        log.origin.acknowledge(again, kind=RST)
+        log.client.receive("an answer")
+        log.expect_line("failed", 2, client=authority(log.client), code="5.02", target=log.target, cause="reset",
+                        origin=authority(log.origin), sent=1)
 
 
 @case("LogChanged")

@@ -163,7 +163,7 @@ abbrev pub exchange : DueExchange
 exchange = record {
   origin = at (ipv4 7) 5684;
   id = Some 9;
-  sends = 4;
+  transmissions = 4;
   admitted = 1000;
   waiting = 2;
   silence = NotAcknowledged;

@@ -80,7 +80,7 @@ cause_or_origin (Some c) = cause c
 -- what an exchange was: its origin, how often its request was sent, and how long it took
 abbrev pub exchange : DueExchange → ℕ → List Field
 exchange x now =
-    peer (codes "origin") x.origin ∷ number (codes "sent") x.sends
+    peer (codes "origin") x.origin ∷ number (codes "sent") x.transmissions
     ∷ number (codes "ms") (took x now) ∷ []
 
 -- ---- lines

@@ -47,16 +47,16 @@ abbrev pub id_of : Option Sending → Option ℕ
 id_of None = None
 id_of (Some s) = Some s.id
 
-abbrev pub sends_of : Option Sending → ℕ
-sends_of None = 0
-sends_of (Some s) = s.timer.transmissions
+abbrev pub transmissions_of : Option Sending → ℕ
+transmissions_of None = 0
+transmissions_of (Some s) = s.timer.transmissions
 
 -- an exchange that so many clients wait for
 abbrev pub exchange_of : Exchange → ℕ → DueExchange
 exchange_of x waiting = record {
   origin = x.key.target.at;
   id = id_of x.sending;
-  sends = sends_of x.sending;
+  transmissions = transmissions_of x.sending;
   admitted = x.admitted;
   waiting = waiting;
   silence = silence_of x.state;
@@ -75,7 +75,7 @@ took x now = took_until x.answer now - x.admitted
 abbrev pub client_in : Endpoint → WaiterState → Option DueClient
 client_in client (Waiting exchange) = None
 client_in client (Delivering bytes id timer) =
-    Some (record { client = client; sends = timer.transmissions; started = timer.started })
+    Some (record { client = client; transmissions = timer.transmissions; started = timer.started })
 
 abbrev pub client_of : Waiter → Option DueClient
 client_of v = client_in v.client v.state

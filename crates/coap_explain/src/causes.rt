@@ -36,7 +36,7 @@ impl Need {
         }
     }
 
-    /// The same as a key of a log.
+    /// The key of a need in a line of a log.
     pub(crate) fn key(self) -> &'static str
         ensures { result.now ≡ spec.need_key self }
     {

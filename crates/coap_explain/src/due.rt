@@ -33,7 +33,7 @@ pub(crate) struct DueExchange {
     /// The Message ID of its request, if that was sent.
     pub(crate) id: Option<u16>,
     /// How often its request was sent.
-    pub(crate) sends: u8,
+    pub(crate) transmissions: u8,
     /// When it was opened, in milliseconds.
     pub(crate) admitted: Moment,
     /// How many clients wait for it.
@@ -47,7 +47,8 @@ pub(crate) struct DueExchange {
 #[derive(Clone, Copy, Debug, PartialEq, Eq)]
 pub(crate) struct DueClient {
     pub(crate) client: Endpoint,
-    pub(crate) sends: u8,
+    /// How often it was sent its answer.
+    pub(crate) transmissions: u8,
     /// When the answer was first sent, in milliseconds.
     pub(crate) started: Moment,
 }
@@ -90,14 +91,14 @@ impl DueExchange {
     fn of(exchange: &Exchange, waiting: usize) -> DueExchange
         ensures { result ≡ spec.exchange_of exchange.now waiting }
     {
-        let (id, sends) = match exchange.sending {
+        let (id, transmissions) = match exchange.sending {
             Some(sending) => (Some(sending.id), sending.timer.transmissions),
             None => (None, 0),
         };
         DueExchange {
             origin: exchange.key.target.at,
             id,
-            sends,
+            transmissions,
             admitted: exchange.admitted,
             waiting: waiting as u64,
             silence: silence_of(&exchange.state),
@@ -123,8 +124,8 @@ impl DueExchange {
     {
         line.write_all(b" at ")?;
         put_endpoint(line, self.origin)?;
-        let (sends, took) = (self.sends, self.took(now));
-        write!(line, " sent {sends} in {took} ms")
+        let (transmissions, took) = (self.transmissions, self.took(now));
+        write!(line, " sent {transmissions} in {took} ms")
     }
 }
 
@@ -137,21 +138,21 @@ impl DueClient {
             WaiterState::Waiting(_) => None,
             WaiterState::Delivering { timer, .. } => Some(DueClient {
                 client: waiter.client,
-                sends: timer.transmissions,
+                transmissions: timer.transmissions,
                 started: timer.started,
             }),
         }
     }
 
-    /// Adds the client, how often it was sent its answer, and since when.
+    /// Adds the client, how often it was sent its answer, and for how long.
     pub(crate) fn put<W: Write>(&self, line: &mut W, now: Moment) -> io::Result<()>
         ensures { OnOk result (Appends (W.contents line.old) (W.contents line.new)
             (text.client_text now self.now)) }
     {
         line.write_all(b" on ")?;
         put_endpoint(line, self.client)?;
-        let (sends, took) = (self.sends, now.saturating_sub(self.started));
-        write!(line, " sent {sends} in {took} ms")
+        let (transmissions, took) = (self.transmissions, now.saturating_sub(self.started));
+        write!(line, " sent {transmissions} in {took} ms")
     }
 }
 

@@ -47,7 +47,7 @@ pub(crate) struct Usage {
     pub(crate) free_ids: u64,
 }
 
-/// A need of which none is left.
+/// What is lacking of a need, if none of it is left.
 fn full(need: Need, count: u64, limit: u64) -> Option<Lack>
     ensures { result ≡ spec.full need count limit }
 {
@@ -84,8 +84,8 @@ impl Usage {
         }
     }
 
-    /// The same before a reply at once to a message of a type: in a message of its own it took a
-    /// Message ID.
+    /// What was in use before a message of this type was replied to at once: a reply in a message
+    /// of its own took a Message ID.
     pub(crate) fn before_reply(self, kind: Kind) -> Usage
         ensures { result ≡ text.before_reply kind self }
     {

@@ -262,7 +262,7 @@ impl Fields {
         ensures { OnOk result (spec.Adds self.old self.new (spec.exchange exchange.now now)) }
     {
         self.put_peer("origin", exchange.origin)?;
-        self.put_number("sent", u64::from(exchange.sends))?;
+        self.put_number("sent", u64::from(exchange.transmissions))?;
         self.put_number("ms", exchange.took(now))
     }
 }

@@ -67,7 +67,7 @@ fn put_word(line: &mut Vec<u8>, outcome: Outcome) -> io::Result<()>
 }
 
 /// What the cache did with an answer.
-fn storing_name(storing: Storing) -> &'static str
+fn storing_word(storing: Storing) -> &'static str
     ensures { result.now ≡ spec.storing_word storing }
 {
     match storing {
@@ -124,8 +124,8 @@ fn put_code_and_storing(line: &mut Vec<u8>, code: Code, storing: Storing) -> io:
 {
     line.write_all(b" ")?;
     put_code(line, code)?;
-    let name = storing_name(storing);
-    write!(line, " {name}")
+    let word = storing_word(storing);
+    write!(line, " {word}")
 }
 
 /// Adds the code that a request was refused with, and why.

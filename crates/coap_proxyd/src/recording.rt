@@ -102,7 +102,7 @@ impl<'a> RecordFile<'a> {
         })
     }
 
-    /// The same file, whose end a line of a log says, or not.
+    /// This file, with whether a line of a log says that it has ended.
     pub fn logged(self, logged: bool) -> RecordFile<'a> {
         RecordFile { logged, ..self }
     }

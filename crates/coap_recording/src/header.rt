@@ -213,7 +213,8 @@ fn put_config_line(out: &mut Vec<u8>, line: &[u8]) -> Result<(), HeaderError>
     Ok(())
 }
 
-/// The same for what is before a line feed, or for what follows the last one, if it isn't empty.
+/// Adds what is before a line feed as such a comment, or what follows the last one, if it isn't
+/// empty.
 fn put_part(out: &mut Vec<u8>, line: &[u8], rest: Option<&[u8]>) -> Result<(), HeaderError>
     ensures ok { OnOk result (out.new.items ≡ out.old.items
         ++ spec.config_text (spec.line_before line.now (option_copied rest.entry))) }

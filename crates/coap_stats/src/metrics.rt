@@ -164,7 +164,7 @@ pub(crate) struct Family<'a> {
 }
 
 impl<'a> Family<'a> {
-    /// The same under another name.
+    /// This metric under another name, as for the parts of a histogram.
     pub(crate) fn named(self, name: &'static str) -> Family<'a>
         ensures { result ≡ record self.entry {
           metric = record self.entry.metric { name = name.entry };

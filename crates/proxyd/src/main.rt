@@ -9,7 +9,7 @@ mod reporter;
 mod stop;
 
 use crate::logging::{logger_of, tell_listening};
-use crate::recorded::{file_of, since_of};
+use crate::recorded::{file_of, head_of, since_of};
 use crate::reporter::{Reporter, listen_text};
 use crate::stop::{Stop, ended, fault_of, words};
 use coap_cache::LruStore;
@@ -19,7 +19,7 @@ use coap_proxyd::{
 };
 use coap_udp::UdpPort;
 use std::hash::RandomState;
-use std::io::{BufRead, BufReader};
+use std::io::{BufReader, Read};
 use std::process::ExitCode;
 use std::random::RandomSource;
 use std::{fs, io};
@@ -54,7 +54,7 @@ fn plan(rt: &HostRuntime, config: Option<&[u8]>) -> Result<Plan, Stop> {
 }
 
 /// A random first Message ID and a random salt: one that `--salt` can give, too, so below 2^63.
-fn draw(rt: &HostRuntime) -> Result<Start, Fault> {
+fn random_start(rt: &HostRuntime) -> Result<Start, Fault> {
     let (mut id, mut salt) = ([0; 2], [0; 8]);
     match rt
         .fill_bytes(&mut id)
@@ -78,7 +78,7 @@ fn seed(rt: &HostRuntime) -> Result<RandomState, Fault> {
 
 /// Serves a socket.
 fn serve_socket(rt: &HostRuntime, plan: Plan, config: Option<&[u8]>) -> Result<(), Stop> {
-    let drawn = draw(rt)?;
+    let drawn = random_start(rt)?;
     let Ok(listen) = listen_text(rt, plan.local) else {
         return Err(Stop::from(Fault::OutOfMemory));
     };
@@ -156,11 +156,11 @@ fn explain(rt: &HostRuntime, plan: Plan) -> Result<(), Stop> {
     let Ok(mut input) = BufReader::new(alloc, rt.reader()) else {
         return Err(Stop::from(Fault::OutOfMemory));
     };
-    if let Ok(head) = input.fill_buf() {
-        explainer.set_since(since_of(head));
-    }
+    let head = head_of(alloc, &mut input).map_err(|error| fault_of(&error, Fault::File))?;
+    explainer.set_since(since_of(&head));
     let mut output = Output::new(io::writer(rt));
     let server = Server::<Cache>::new(alloc, seed, plan);
+    let input = head.as_slice().chain(input);
     server.serve_events_watched(input, &mut output, &mut explainer)?;
     if explainer.failed() {
         return Err(Stop::from(Fault::File));

@@ -7,10 +7,14 @@ use coap_proxyd::{
 };
 use jiff::Timestamp;
 use std::alloc::{AllocError, Global};
-use std::io::Write;
+use std::io;
+use std::io::{BufRead, Read, Write};
 
 /// What stands before the time of day at which a recording begins.
 const SINCE: &[u8] = b"# recorded since ";
+
+/// The most that is kept of the head of a recording, in bytes.
+const MOST_HEAD: u64 = 16_777_216;
 
 /// A moment, with milliseconds, such as 2026-11-27T14:03:05.123Z.
 fn text_of(alloc: Global, moment: Timestamp) -> Result<String, AllocError> {
@@ -87,6 +91,23 @@ pub(crate) fn file_of<'a>(
         Ok(file)
     });
     written.map_err(|error| Stop::by_system(rt, path.as_str(), &error, Fault::File))
+}
+
+/// The head of a recording, which is taken from an input: the comments that come before anything
+/// else, but at most `MOST_HEAD` bytes.
+///
+/// # Errors
+/// Those of the input, and want of memory.
+pub(crate) fn head_of<R: BufRead>(alloc: Global, input: &mut R) -> io::Result<Vec<u8>> {
+    let mut head = Vec::new(alloc);
+    let mut input = input.take(MOST_HEAD);
+    for _ in 0..MOST_HEAD {
+        if !input.fill_buf()?.starts_with(b"#") {
+            break;
+        }
+        input.read_until(b'\n', &mut head)?;
+    }
+    Ok(head)
 }
 
 /// The time of day at which a recording began, if its head says it.

@@ -40,8 +40,8 @@ of_requests =
     ∷ (12, 0, 2) ∷ (14, 0, 4) ∷ (15, 0, 255) ∷ (17, 0, 2) ∷ (35, 1, 1034)
     ∷ (39, 1, 255) ∷ (60, 0, 4) ∷ []
 
--- the same for a response: ETag, Observe, Location-Path, Content-Format, Max-Age, Location-Query,
--- Size1
+-- and those that a response may have: ETag, Observe, Location-Path, Content-Format, Max-Age,
+-- Location-Query, Size1
 abbrev pub of_responses : List (ℕ × ℕ × ℕ)
 of_responses =
     (4, 1, 8) ∷ (6, 0, 3) ∷ (8, 0, 255) ∷ (12, 0, 2) ∷ (14, 0, 4) ∷ (20, 0, 255) ∷ (60, 0, 4) ∷ []

@@ -148,7 +148,8 @@ pub fn key_at_the_end()
     ensures none { key_from (survey_of (get (zeros 11 1 ∷ zeros 15 1 ∷ []))) ≡ None }
     ensures accept { key_from (survey_of (get (zeros 11 1 ∷ zeros 17 1 ∷ []))) ≡ Some 17 }
     ensures before_proxy_uri { key_from (survey_of (get (zeros 17 1 ∷ zeros 35 1 ∷ []))) ≡ None }
-    ensures behind_proxy_uri { key_from (survey_of (get (zeros 35 1 ∷ zeros 2048 4 ∷ []))) ≡ Some 2048 }
+    ensures behind_proxy_uri { key_from (survey_of (get (zeros 35 1 ∷ zeros 2048 4 ∷ [])))
+        ≡ Some 2048 }
     ensures with_size1 { key_from (survey_of (get (zeros 17 1 ∷ zeros 60 1 ∷ []))) ≡ None }
     ensures behind_a_tag { key_from (survey_of (get (zeros 4 1 ∷ zeros 4 9 ∷ []))) ≡ None }
     ensures long_tag { key_from (survey_of (get (zeros 4 9 ∷ []))) ≡ Some 4 }

@@ -94,7 +94,7 @@ const SILENT_ORIGIN: Run = Run {
     ],
 };
 
-/// The same with the longest timeouts.
+/// A silent origin, with the longest timeouts.
 const SILENT_ORIGIN_LONGEST: Run = Run {
     comes: &[
         (0, Some((40001, GET))),
@@ -298,7 +298,8 @@ fn check_next(
     check_lines(rt, alloc, port.port.handed(), run.sent, None)
 }
 
-/// The same on a new core and a new port.
+/// Plays a run with a new core over a new port that fails after the first `given` turns and then
+/// goes on.
 fn check_next_anew(rt: &impl Abort, alloc: Global, run: Run, given: u64) -> Result<(), Fail> {
     let mut core = usual_core(alloc)?;
     let mut port = FailingPort::new(alloc, run, Some(given), None)?;
@@ -329,7 +330,8 @@ fn check_send(
     check_lines(rt, alloc, port.port.handed(), run.sent, refused)
 }
 
-/// The same on a new core and a new port. Returns what the core holds at the end.
+/// Plays a run with a new core over a new port that doesn't take one datagram, or takes all. Returns
+/// what the core holds at the end.
 fn check_send_anew(
     rt: &impl Abort,
     alloc: Global,

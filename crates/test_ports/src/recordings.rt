@@ -155,7 +155,7 @@ fn check_disk(
     Ok(())
 }
 
-/// The same with a new core and a new disk.
+/// Records the turns of a new core on a new disk with room for `room` bytes.
 fn check_full(rt: &impl Abort, alloc: Global, room: usize) -> Result<(), Fail> {
     let mut core = core(alloc)?;
     let disk = Disk {

@@ -30,7 +30,7 @@ replied_to bytes = record (reply 25 9).observation { event = arrival (client 4) 
 abbrev pub get_bytes : List ℕ
 get_bytes = get_t []
 
--- the same with another method
+-- that GET with another method
 abbrev pub put_bytes : List ℕ
 put_bytes = 0x50 ∷ 3 ∷ 0 ∷ 7 ∷ 0xB1 ∷ 0x74 ∷ []
 
@@ -45,7 +45,7 @@ put =
       payload = [];
     }
 
--- the same with a second path segment, and its key
+-- that GET with a second path segment, and its key
 abbrev pub part_bytes : List ℕ
 part_bytes = get_t (0x01 ∷ 0x78 ∷ [])
 
@@ -62,7 +62,7 @@ key_of_part =
       target = record key_of_temp.target { path = codes "temp" ∷ codes "x" ∷ [] };
     }
 
--- the same with an Accept, and its key
+-- that GET with an Accept, and its key
 abbrev pub accepting_bytes : List ℕ
 accepting_bytes = get_t (0x61 ∷ 0x28 ∷ [])
 

@@ -38,7 +38,7 @@ pub fn a_sixth_sending_is_refused()
     ensures but_for_their_number { AreSpaced 0 six }
 {}
 
-/// The same edges, where the moments are those of the observations of a history.
+/// The edges of a schedule, where the moments are those of the observations of a history.
 pub fn retransmissions_in_a_history_have_the_same_edges()
     ensures due { traffic.IsSchedule (sending 6000 ∷ sending 2000 ∷ sending 0 ∷ []) }
     ensures early { ¬ traffic.IsSchedule (sending 1999 ∷ sending 0 ∷ []) }
@@ -57,7 +57,7 @@ pub fn an_id_given_out_too_soon_is_refused()
     ensures with_one_after { ¬ AreApart (given 500000 2 ∷ given 246999 1 ∷ given 0 1 ∷ []) }
 {}
 
-/// The same edge, where the Message IDs are those of the observations of a history.
+/// The edge of 247 seconds, where the Message IDs are those of the observations of a history.
 pub fn ids_in_a_history_have_the_same_edge()
     ensures apart { IdsDiffer (refusal 247000 ∷ refusal 0 ∷ []) }
     ensures too_soon { ¬ IdsDiffer (refusal 246999 ∷ refusal 0 ∷ []) }

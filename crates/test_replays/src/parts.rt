@@ -127,7 +127,7 @@ const STORED: &[u8] = b"\x68\x45\x00\x01\x00\x00\x00\x00\x00\x00\x00\x01\x41\xAB
 /// A 2.03 with that ETag and a Content-Format, without a Max-Age.
 const VALID: &[u8] = b"\x68\x43\x00\x03\x00\x00\x00\x00\x00\x00\x00\x02\x41\xAB\x81\x32";
 
-/// The same with another ETag.
+/// A 2.03 with another ETag and a Content-Format, without a Max-Age.
 const OTHER: &[u8] = b"\x68\x43\x00\x03\x00\x00\x00\x00\x00\x00\x00\x02\x41\xAC\x81\x32";
 
 /// The stored response, as it came.

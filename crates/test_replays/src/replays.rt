@@ -95,7 +95,7 @@ const SILENT_ORIGIN: Run = Run {
     ],
 };
 
-/// The same with the longest timeouts.
+/// A silent origin, with the longest timeouts.
 const SILENT_ORIGIN_LONGEST: Run = Run {
     events: "\
 0 0 127.0.0.1:40001 50010007B174

@@ -111,7 +111,7 @@ fn check_budget<S: Store>(
     check_entries(rt, alloc, store, (expected.1, expected.2))
 }
 
-/// The same on a new store.
+/// Checks so a new store with room for three entries of 300 bytes in all.
 fn check_budget_of_new<S: Store + Drop>(
     rt: &impl Abort,
     alloc: Global,
@@ -123,7 +123,7 @@ fn check_budget_of_new<S: Store + Drop>(
     check_budget(rt, alloc, &mut store, newest, expected)
 }
 
-/// The same with three sizes of the last entry.
+/// Checks a new store with each of three sizes of the last entry.
 fn check_budgets<S: Store + Drop>(
     rt: &impl Abort,
     alloc: Global,
@@ -196,7 +196,7 @@ fn check_marks<S: Store>(rt: &impl Abort, alloc: Global, store: &mut S) -> Resul
     check_marked(rt, alloc, store, (&first, &last))
 }
 
-/// The same on a new store.
+/// Checks the marks of a new store with room for two entries.
 fn check_marks_of_new<S: Store + Drop>(
     rt: &impl Abort,
     alloc: Global,
