@@ -98,14 +98,14 @@ noted_seen b =
 -- an exchange: its origin, how often its request was sent, and how long it took
 abbrev pub exchange_text : ℕ → DueExchange → List ℕ
 exchange_text now x =
-    codes " at " ++ endpoint_text x.origin ++ codes " sent " ++ decimal x.transmissions ++ codes " in "
-    ++ decimal (took x now) ++ codes " ms"
+    codes " at " ++ endpoint_text x.origin ++ codes " sent " ++ decimal x.transmissions
+    ++ codes " in " ++ decimal (took x now) ++ codes " ms"
 
 -- a client: how often it was sent its answer, and for how long
 abbrev pub client_text : ℕ → DueClient → List ℕ
 client_text now c =
-    codes " on " ++ endpoint_text c.client ++ codes " sent " ++ decimal c.transmissions ++ codes " in "
-    ++ decimal (now - c.started) ++ codes " ms"
+    codes " on " ++ endpoint_text c.client ++ codes " sent " ++ decimal c.transmissions
+    ++ codes " in " ++ decimal (now - c.started) ++ codes " ms"
 
 abbrev pub to_text : Option Endpoint → List ℕ
 to_text None = []
