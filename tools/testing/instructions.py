@@ -32,8 +32,8 @@ LIFETIME = 247_000
 # built here and of that in bin/. Once events take less, `tools/instructions --bars` of both says what to put here; where
 # one takes more for a reason, that belongs into the message of the commit.
 MEASURED = {
-    ("miss", 1): 23_657, ("miss", 256): 24_411, ("conmiss", 1): 26_747, ("con", 1): 8465, ("non", 1): 8114,
-    ("again", 1): 1961, ("tick", 1): 626,
+    ("miss", 1): 22_271, ("miss", 256): 22_450, ("conmiss", 1): 25_136, ("con", 1): 8486, ("non", 1): 8135,
+    ("again", 1): 1968, ("tick", 1): 635,
 }
 # How much more may be taken: another C library, and what a change costs at most of which nobody has to speak.
 MORE = 1.04
