@@ -222,8 +222,8 @@ impl<S: Store + Drop> State<S> {
         let Some(exchange) = self.under_way.exchange(number) else {
             unreachable!()
         };
-        let answer = self.answer_made(arrival.now, exchange, arrival.message)?;
-        let entry = self.entry_made(arrival.now, exchange, &answer)?;
+        let mut answer = self.answer_made(arrival.now, exchange, arrival.message)?;
+        let entry = self.entry_made(arrival.now, exchange, &mut answer)?;
         let changed = changed_by(self.alloc, &exchange.key.key().target, arrival.message)?;
         let send = self.accept_response(arrival, out)?;
         self.invalidate_all(&changed);
@@ -288,18 +288,23 @@ impl<S: Store + Drop> State<S> {
 
     /// The entry to be stored for the answer of an exchange, if it may be stored: it shares the
     /// exchange's key, and the answer's message.
+    ///
+    /// # Errors
+    /// Out of memory. The answer is lost then.
     fn entry_made(
         &self,
         now: Moment,
         exchange: &Exchange,
-        answer: &Answer,
+        answer: &mut Answer,
     ) -> Result<Option<(SharedKey, Stored)>, OutOfMemory>
-        ensures { IfOk result (λ entry.
-            entry ≡ if_storable self.now now exchange.now answer.now) }
+        ensures entry { IfOk result (λ entry.
+            entry ≡ if_storable self.now now exchange.now answer.old) }
+        ensures kept { OnOk result (answer.new ≡ answer.old) }
     {
         if !may_store(exchange, answer) {
             return Ok(None);
         }
+        answer.message.make_shared(self.alloc)?;
         let key = exchange.key.share()?;
         let stored = Stored {
             response: answer.message.share()?,

@@ -11,9 +11,7 @@ use coap_message::{
     Code, Kind, Message, MessageRef, Moment, OptionList, Options, OutOfMemory, Seq, Token,
 };
 use coap_option::{max_age, numbers, screen_response_ref};
-use coap_store::{
-    Answer, RenewError, SharedMessage, Stored, aged_fits, is_cacheable, left_at, renewed,
-};
+use coap_store::{Answer, RenewError, SharedMessage, Stored, aged_fits, is_cacheable, left_at, renewed};
 use std::alloc::Global;
 
 /// The greatest Max-Age, in seconds: it takes four bytes (RFC 7252, 5.10.5).
@@ -95,7 +93,7 @@ fn own_answer(alloc: Global, now: Moment, code: Code) -> Answer
         (record { kind = Non; code = code; id = 0; token = []; options = []; payload = [] }) }
 {
     Answer {
-        message: SharedMessage::alone(Message {
+        message: SharedMessage::new(Message {
             kind: Kind::Non,
             code,
             id: 0,
@@ -125,30 +123,25 @@ pub fn gateway_timeout(alloc: Global, now: Moment) -> Answer
 }
 
 /// An origin's response, as an answer.
-fn origin_answer(now: Moment, message: SharedMessage) -> Answer
+fn origin_answer(now: Moment, message: Message) -> Answer
     ensures { result ≡ origin_answer now message }
 {
     Answer {
-        message,
+        message: SharedMessage::new(message),
         got: now,
         own: false,
     }
 }
 
-/// An origin's response to a GET, as an answer that is to be shared with a store, if it fits a
-/// datagram, and 5.02 otherwise.
-fn answer_if_fits(
-    alloc: Global,
-    most: usize,
-    now: Moment,
-    message: Message,
-) -> Result<Answer, OutOfMemory>
-    ensures { IfOk result (λ answer. answer ≡ answer_if_fits most now message) }
+/// An origin's response, as an answer, if it fits a datagram, and 5.02 otherwise.
+fn answer_if_fits(alloc: Global, most: usize, now: Moment, message: Message) -> Answer
+    ensures { result ≡ answer_if_fits most now message }
 {
-    if !fits(&message, most) {
-        return Ok(bad_gateway(alloc, now));
+    if fits(&message, most) {
+        origin_answer(now, message)
+    } else {
+        bad_gateway(alloc, now)
     }
-    Ok(origin_answer(now, SharedMessage::new(alloc, message)?))
 }
 
 /// The answer for a 2.03: the stored response, renewed, if it is the one being validated (RFC 7252,
@@ -168,7 +161,7 @@ fn validated(
         return Ok(bad_gateway(alloc, now));
     };
     match renewed(alloc, stored, valid) {
-        Ok(message) => answer_if_fits(alloc, most, now, message),
+        Ok(message) => Ok(answer_if_fits(alloc, most, now, message)),
         Err(RenewError::WrongTag) => Ok(bad_gateway(alloc, now)),
         Err(RenewError::OutOfMemory) => Err(OutOfMemory),
     }
@@ -215,14 +208,10 @@ pub fn answer_of(
         return Ok(bad_gateway(alloc, now));
     }
     if valid {
-        return validated(alloc, most, now, request.copy, &message);
-    }
-    let message = if request.is_get {
-        SharedMessage::new(alloc, message)?
+        validated(alloc, most, now, request.copy, &message)
     } else {
-        SharedMessage::alone(message)
-    };
-    Ok(origin_answer(now, message))
+        Ok(origin_answer(now, message))
+    }
 }
 
 /// For how many seconds an answer stays fresh (RFC 7252, 5.7.1).

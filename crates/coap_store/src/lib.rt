@@ -9,7 +9,7 @@
 //! let response = decode(alloc, b"\x60\x45\x00\x01\x41\xAB\xA1\x0A\xFF21")?;
 //! // it came at moment 0, in event 2; the request was sent in event 1
 //! let stored = Stored {
-//!     response: SharedMessage::alone(response),
+//!     response: SharedMessage::new(response),
 //!     asked: 1,
 //!     got_no: 2,
 //!     got: 0,

@@ -1,14 +1,15 @@
 //! Messages that are shared.
-ghost use Rattle.std.specs.Prelude.{◌≡◌, IfOk};
+ghost use Rattle.std.specs.Prelude.{◌≡◌, IfOk, OnOk};
 
-use coap_message::{Message, OutOfMemory};
+use coap_message::{Code, Kind, Message, OptionList, OutOfMemory, Seq, Token};
 use std::alloc::Global;
 use std::marker::Model;
+use std::mem::replace;
 use std::ops::Deref;
 use std::rc::Rc;
 
-/// A message that all who keep it share: the answer of an exchange, the entry that is stored for
-/// it, and an exchange that validates the entry. One that isn't to be stored is kept alone. A
+/// A message that is kept alone, or, once it is made so, shared by all who keep it: the answer of
+/// an exchange, the entry that is stored for it, and an exchange that validates the entry. A
 /// contract sees the message.
 pub struct SharedMessage {
     kept: Kept,
@@ -40,7 +41,7 @@ impl Model for SharedMessage {
 
 impl SharedMessage {
     /// A message that is kept alone. Doesn't allocate.
-    pub fn alone(message: Message) -> SharedMessage
+    pub fn new(message: Message) -> SharedMessage
         ensures { result ≡ message }
     {
         SharedMessage {
@@ -48,16 +49,19 @@ impl SharedMessage {
         }
     }
 
-    /// A message that is to be shared.
+    /// Has the message be shared from now on.
     ///
     /// # Errors
-    /// Out of memory.
-    pub fn new(alloc: Global, message: Message) -> Result<SharedMessage, OutOfMemory>
-        ensures { IfOk result (λ shared. shared ≡ message) }
+    /// Out of memory. The message is lost then.
+    pub fn make_shared(&mut self, alloc: Global) -> Result<(), OutOfMemory>
+        ensures { OnOk result (self.new ≡ self.old) }
     {
-        Ok(SharedMessage {
-            kept: Kept::Together(Rc::new(alloc, message)?),
-        })
+        let kept = replace(&mut self.kept, Kept::Alone(no_message(alloc)));
+        self.kept = match kept {
+            Kept::Alone(message) => Kept::Together(Rc::new(alloc, message)?),
+            Kept::Together(message) => Kept::Together(message),
+        };
+        Ok(())
     }
 
     /// The message.
@@ -84,6 +88,18 @@ impl SharedMessage {
             Kept::Together(message) => Kept::Together(message.clone()?),
         };
         Ok(SharedMessage { kept })
+    }
+}
+
+/// An Empty message, which stands where another was taken away. Doesn't allocate.
+fn no_message(alloc: Global) -> Message {
+    Message {
+        kind: Kind::Non,
+        code: Code::EMPTY,
+        id: 0,
+        token: Token::empty(),
+        options: OptionList::new(alloc),
+        payload: Seq::new(alloc),
     }
 }
 

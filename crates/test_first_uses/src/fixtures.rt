@@ -44,7 +44,7 @@ pub(crate) fn key(alloc: Global) -> Result<SharedKey, OutOfMemory> {
 /// A 2.05 with Max-Age 10 and an ETag, which came at moment 0.
 pub(crate) fn stored(alloc: Global) -> Result<Stored, DecodeError> {
     Ok(Stored {
-        response: SharedMessage::alone(decode(alloc, b"\x60\x45\x00\x01\x41\xAB\xA1\x0A\xFF21")?),
+        response: SharedMessage::new(decode(alloc, b"\x60\x45\x00\x01\x41\xAB\xA1\x0A\xFF21")?),
         asked: 1,
         got_no: 2,
         got: 0,

@@ -133,7 +133,7 @@ const OTHER: &[u8] = b"\x68\x43\x00\x03\x00\x00\x00\x00\x00\x00\x00\x02\x41\xAC\
 /// The stored response, as it came.
 fn stored(alloc: Global) -> Result<Stored, Fail> {
     Ok(Stored {
-        response: SharedMessage::alone(decode(alloc, STORED)?),
+        response: SharedMessage::new(decode(alloc, STORED)?),
         asked: 1,
         got_no: 2,
         got: 0,

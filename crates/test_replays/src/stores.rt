@@ -53,7 +53,7 @@ fn stored(alloc: Global, bytes: usize) -> Result<Stored, OutOfMemory> {
         payload,
     };
     Ok(Stored {
-        response: SharedMessage::alone(response),
+        response: SharedMessage::new(response),
         asked: 0,
         got_no: 0,
         got: 0,
