@@ -1,5 +1,5 @@
 -- Indexes by key: buckets, each with the pairs of the keys of one place, and the rest.
-use Rattle.std.specs.Prelude.{◌≡◌, ℕ, suc, ◌*◌, ◌/◌, ◌%◌, ◌^◌, ◌==◌, ◌<◌, min, true, false, count_by, length, slice_index, List, [], ◌∷◌, ◌++◌, Option, Some, None}
+use Rattle.std.specs.Prelude.{◌≡◌, ℕ, suc, bit_xor, ◌*◌, ◌/◌, ◌%◌, ◌^◌, ◌==◌, ◌<◌, min, true, false, count_by, length, slice_index, List, [], ◌∷◌, ◌++◌, Option, Some, None}
 use Rattle.ordered_index.specs.Ordered.{Pair, OrderedIndex, is_in}
 
 -- the pairs of all buckets, one after the other
@@ -7,10 +7,18 @@ abbrev pub pairs_of : List OrderedIndex → List Pair
 pairs_of [] = []
 pairs_of (bucket ∷ buckets) = bucket.pairs ++ pairs_of buckets
 
--- the place of a key, of `many`: a factor spreads the keys over 64 bits, of which each place has an
--- equal part
+-- a product of 64 bits
+abbrev pub times : ℕ → ℕ → ℕ
+times factor n = n * factor % 2 ^ 64
+
+-- 64 bits, the upper half of which has joined the lower one
+abbrev pub folded : ℕ → ℕ
+folded n = bit_xor n (n / 2 ^ 32)
+
+-- the place of a key, of `many`: a factor spreads the keys, twice, over 64 bits, of which each place
+-- has an equal part
 abbrev pub place_of : ℕ → ℕ → ℕ → ℕ
-place_of factor many key = (key * factor % 2 ^ 64) * many / 2 ^ 64
+place_of factor many key = times factor (folded (times factor key)) * many / 2 ^ 64
 
 -- the pairs of the bucket of this number belong there
 abbrev pub IsBucket : (ℕ → ℕ) → ℕ → OrderedIndex → Type 0

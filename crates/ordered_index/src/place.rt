@@ -4,13 +4,16 @@ ghost use Rattle.ordered_index.specs.Hashed.{place_of};
 
 use std::hash::{DefaultHasher, Hasher};
 
-/// The place of a key, of `many` places.
+/// The place of a key, of `many` places. Multiplied once, keys in a row might lie close together, by
+/// chance of the factor: so the upper half of the product joins the lower one, and it is multiplied
+/// again.
 pub(crate) fn place_of(factor: u64, many: usize, key: u64) -> usize
     requires { 0 < many }
     ensures exact { result ≡ place_of factor many key }
     ensures within { result < many }
 {
-    let spread = key.wrapping_mul(factor);
+    let once = key.wrapping_mul(factor);
+    let spread = (once ^ (once >> 32)).wrapping_mul(factor);
     (u128::from(spread) * many as u128 / (1 << 64)) as usize
 }
 
