@@ -32,7 +32,7 @@ LIFETIME = 247_000
 # built here and of that in bin/. Once events take less, `tools/instructions --bars` of both says what to put here; where
 # one takes more for a reason, that belongs into the message of the commit.
 MEASURED = {
-    ("miss", 1): 22_261, ("miss", 256): 22_450, ("conmiss", 1): 25_127, ("con", 1): 8486, ("non", 1): 8135,
+    ("miss", 1): 22_406, ("miss", 256): 22_566, ("conmiss", 1): 25_281, ("con", 1): 8486, ("non", 1): 8135,
     ("again", 1): 1968, ("tick", 1): 635,
 }
 # How much more may be taken: another C library, and what a change costs at most of which nobody has to speak.
