@@ -11,7 +11,9 @@ use coap_message::{
     Code, Kind, Message, MessageRef, Moment, OptionList, Options, OutOfMemory, Seq, Token,
 };
 use coap_option::{max_age, numbers, screen_response_ref};
-use coap_store::{Answer, RenewError, SharedMessage, Stored, aged_fits, is_cacheable, left_at, renewed};
+use coap_store::{
+    Answer, RenewError, SharedMessage, Stored, aged_fits, is_cacheable, left_at, renewed,
+};
 use std::alloc::Global;
 
 /// The greatest Max-Age, in seconds: it takes four bytes (RFC 7252, 5.10.5).
