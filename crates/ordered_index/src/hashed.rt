@@ -12,10 +12,10 @@ use std::marker::Model;
 const PAIRS_A_COUNT: usize = 64;
 
 /// An index by key, in which a pair costs the same however many others there are. A key mostly has
-/// few pairs, which are in the table. Those for which it has no room are among the rest: where a key
-/// has more than a chain holds, they cost what they cost in an `OrderedIndex`. The rest is searched
-/// only for keys that share a count with such a key. Only `new` allocates. A contract sees all
-/// pairs: those of the table, and then the rest.
+/// one pair, which is in the table. Its others are among the rest, where they cost what they cost in
+/// an `OrderedIndex`, as are those whose chain is full. The rest is searched only for keys that
+/// share a count with such a key. Only `new` allocates. A contract sees all pairs: those of the
+/// table, and then the rest.
 pub struct HashedIndex {
     /// What spreads the keys.
     factor: u64,

@@ -1,4 +1,4 @@
-//! Tables of pairs, which a key leads to: mostly there are few of a key.
+//! Tables of pairs, which a key leads to: one of each key.
 ghost use Rattle.std.specs.Prelude.{◌≡◌, ◌+◌, ◌<◌, ◌≤◌, ◌&&◌, ◌||◌, ℕ, [], length, slice_index_or, if◌then◌else◌, true, false, not, None, Some, IfOk, IfNone, IfSome};
 ghost use Rattle.ordered_index.specs.Chains.{chain_room, is_among, pairs_in, slots_from, AreLinkedBack, IsChain, IsFirstOf};
 ghost use Rattle.ordered_index.specs.Hashed.{lower};
@@ -85,8 +85,8 @@ impl Table {
         next_in(&self.pairs, &self.nexts, self.heads[place], key, after)
     }
 
-    /// Adds the pair of this key and number, which isn't there, unless its chain is full or no slot
-    /// is free. Returns whether it did.
+    /// Adds the pair of this key and number, which isn't there, unless its chain is full or has a
+    /// pair of the key, or no slot is free. Returns whether it did.
     pub(crate) fn put_if_room(&mut self, key: u64, number: u64) -> bool
         requires absent { is_in (key, number) self.old ≡ false }
         ensures length { length self.new ≡ length self.old + (if result then 1 else 0) }
@@ -96,7 +96,7 @@ impl Table {
         let place = place_of(self.factor, self.heads.len(), key);
         let head = self.heads[place];
         let free = self.free;
-        if free == 0 || !is_short(&self.nexts, head) {
+        if free == 0 || !is_open_to(&self.pairs, &self.nexts, head, key) {
             return false;
         }
         let slot = free as usize - 1;
@@ -218,9 +218,11 @@ fn slot_of(pairs: &[(u64, u64)], nexts: &[u32], start: u32, pair: (u64, u64)) ->
     None
 }
 
-/// Whether the chain from a link on has room for another slot.
-fn is_short(nexts: &[u32], start: u32) -> bool
-    requires { IsChain chain_room nexts.now start }
+/// Whether the chain from a link on takes another slot for this key: it has room, and no pair of
+/// the key, so that many pairs of one key don't make it long.
+fn is_open_to(pairs: &[(u64, u64)], nexts: &[u32], start: u32, key: u64) -> bool
+    requires chain { IsChain chain_room nexts.now start }
+    requires both { length pairs.now ≡ length nexts.now }
     ensures { result ≡ true → IsChain 15 nexts.now start }
 {
     let mut link = start;
@@ -228,7 +230,11 @@ fn is_short(nexts: &[u32], start: u32) -> bool
         if link == 0 {
             return true;
         }
-        link = nexts[link as usize - 1];
+        let slot = link as usize - 1;
+        if pairs[slot].0 == key {
+            return false;
+        }
+        link = nexts[slot];
     }
     link == 0
 }

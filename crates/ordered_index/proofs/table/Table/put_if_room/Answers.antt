@@ -6,13 +6,17 @@ use Rattle.ordered_index.specs.Ordered.{Pair, is_in, is_pair}
 use Rattle.ordered_index.proofs.Chaining.{free-below, put-all}
 use Rattle.ordered_index.proofs.table.Table.put_if_room.Goals as goal
 
-pub is_short-requires : goal.is_short-requires
-is_short-requires c =
+pub is_open_to-requires-clause-chain : goal.is_open_to-requires-clause-chain
+is_open_to-requires-clause-chain c =
     let many : c.len.result ≡ length c.self.inside.heads.items = search rules in
     let lt : c.place_of-place.result < length c.self.inside.heads.items = omega (arith, many, c.place_of-place.ensures.within) in
     let first = c.index-head.ensures ∙ get_or_default_zero c.self.inside.heads.items c.place_of-place.result c.index-head.result.now lt in
     let is : IsChain 16 c.self.inside.nexts.items c.index-head.result.now = subst (λ (n : ℕ). IsChain 16 c.self.inside.nexts.items n) (sym first) (c.self.invariant.1.1 c.place_of-place.result lt).0 in
-    subst (λ (l : List ℕ). IsChain 16 l c.index-head.result.now) (sym c.deref.ensures.value) is
+    subst (λ (l : List ℕ). IsChain 16 l c.index-head.result.now) (sym c.deref-else-free-eq0.ensures.value) is
+
+pub is_open_to-requires-clause-both : goal.is_open_to-requires-clause-both
+is_open_to-requires-clause-both c =
+    ap length c.deref.ensures.value ∙ c.self.invariant.1.0 ∙ sym (ap length c.deref-else-free-eq0.ensures.value)
 
 pub index-requires : goal.index-requires
 index-requires c =
@@ -36,7 +40,7 @@ after c =
     let below = free-below c.self.inside.nexts.items c.self.inside.heads.items c.self.inside.free c.self.invariant.1.3 c.if-free-eq0.false in
     let next = c.index.ensures ∙ get_or_default_zero c.self.inside.nexts.items (c.self.inside.free - 1) c.index.result.now below in
     let at = ap (λ (n : ℕ). place_of c.self.inside.factor n c.args.key) (sym many) ∙ sym c.place_of-place.ensures.exact in
-    let short : IsChain 15 c.self.inside.nexts.items c.index-head.result.now = subst (λ (l : List ℕ). IsChain 15 l c.index-head.result.now) c.deref.ensures.value (c.is_short.ensures c.if-not-is_short.false) in
+    let short : IsChain 15 c.self.inside.nexts.items c.index-head.result.now = subst (λ (l : List ℕ). IsChain 15 l c.index-head.result.now) c.deref-else-free-eq0.ensures.value (c.is_open_to.ensures c.if-not-is_open_to.false) in
     let absent = ap (λ (l : List Pair). is_in (c.args.key, c.args.number) l) c.self.view_is ∙ c.requires.absent in
     put-all (place_of c.self.inside.factor (length c.self.inside.heads.items)) c.self.inside.pairs.items c.self.inside.nexts.items c.self.inside.heads.items c.self.inside.free c.place_of-place.result c.index-head.result.now c.index.result.now (c.args.key, c.args.number) c.self.invariant.1 c.if-free-eq0.false first next lt at short absent
 

@@ -1,7 +1,7 @@
 use Rattle.std.proofs.Common.{◌≡◌, ◌-◌, arith}
 use Rattle.std.proofs.lemmas.Bool.Decides.{nat_tests}
 use Rattle.ordered_index.proofs.Chaining.{no-chain, step-chain, step-short}
-use Rattle.ordered_index.proofs.table.is_short.Goals as goal
+use Rattle.ordered_index.proofs.table.is_open_to.Goals as goal
 
 pub loop-preserved : goal.loop-preserved
 loop-preserved c =

@@ -1,6 +1,6 @@
 use Rattle.std.proofs.Common.{◌-◌}
 use Rattle.ordered_index.specs.Chains.{IsChain}
-use Rattle.ordered_index.proofs.table.is_short.Given as goal
+use Rattle.ordered_index.proofs.table.is_open_to.Given as goal
 
 abbrev pub invariant-loop : goal.invariant-loop
 invariant-loop l =
