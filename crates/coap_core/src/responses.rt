@@ -125,7 +125,10 @@ impl<S: Store + Drop> State<S> {
             (wants_memory (of_grown (not_confirmable_step self.old) arrival.entry true) ≡ true) }
     {
         match self.awaiting(arrival.from, arrival.message) {
-            Some(number) => self.answer(arrival, number, out),
+            Some(number) => {
+                self.seek_exchange(number);
+                self.answer(arrival, number, out)
+            }
             None => Ok(self.ignore(arrival.now, out)),
         }
     }
@@ -176,6 +179,7 @@ impl<S: Store + Drop> State<S> {
         if !self.has_record_room(arrival.now, arrival.from, arrival.message.kind()) {
             return Ok(self.drop_message(arrival.now, out));
         }
+        self.seek_exchange(number);
         self.answer(arrival, number, out)
     }
 

@@ -10,7 +10,7 @@ ghost use Rattle.coap_core.specs.Needs.{CanGoOn, CanStep};
 use crate::setting::Setting;
 use coap_dedup::{EXCHANGE_LIFETIME, NON_LIFETIME, Records};
 use coap_endpoint::Endpoint;
-use coap_exchange::{Exchanges, Ids, UnderWay, Waiters};
+use coap_exchange::{ExchangeNumber, Exchanges, Ids, UnderWay, Waiters};
 use coap_message::{Moment, OutOfMemory};
 use coap_model::{ClientCounts, Counts, Limits, Outcome, Report};
 use coap_store::Store;
@@ -135,6 +135,13 @@ impl<S: Store + Drop> State<S> {
             Some(id) => id,
             None => unreachable!(),
         }
+    }
+
+    /// Looks for the exchange numbered `number`, so that what follows finds it at once.
+    pub(crate) fn seek_exchange(&mut self, number: ExchangeNumber)
+        ensures { self.new ≡ self.old }
+    {
+        self.under_way.seek_exchange(number);
     }
 
     /// The number of Message IDs reserved for requests that are still to be sent, and for waiters

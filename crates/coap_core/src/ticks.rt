@@ -67,6 +67,7 @@ impl<S: Store + Drop> State<S> {
     {
         match due {
             Some(DueItem::OfExchange { at, number }) if at <= timing.now => {
+                self.seek_exchange(number);
                 Ok(self.on_exchange(timing, number, out))
             }
             Some(DueItem::OfWaiter { at, number }) if at <= timing.now => {
@@ -229,6 +230,7 @@ impl<S: Store + Drop> State<S> {
             result out.old out.new self.old self.new }
         ensures memory { OnErr result (GivesConfirmable (waiter_at self.old timing number)) }
     {
+        self.under_way.seek_waiter(number);
         let Some(waiter) = self.under_way.waiter(number) else {
             unreachable!()
         };

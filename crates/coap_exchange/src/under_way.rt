@@ -211,17 +211,21 @@ impl UnderWay {
 
     /// Looks for the exchange numbered `number`, so that the calls about it that follow find it at
     /// once.
-    fn seek_exchange(&mut self, number: ExchangeNumber)
+    pub fn seek_exchange(&mut self, number: ExchangeNumber)
         ensures { self.new ≡ self.old }
     {
         self.exchanges.seek(number);
     }
 
-    /// Looks for the waiter numbered `number`, likewise for the calls about it.
-    fn seek_waiter(&mut self, number: WaiterNumber)
+    /// Looks for the waiter numbered `number`, and for the exchange that it waits for, likewise for
+    /// the calls about them.
+    pub fn seek_waiter(&mut self, number: WaiterNumber)
         ensures { self.new ≡ self.old }
     {
         self.waiters.seek(number);
+        if let Some(exchange) = self.waiters.awaited(number) {
+            self.exchanges.seek(exchange);
+        }
     }
 
     /// Notes an answer: `Exchanges::answered`. The first waiter of its exchange is then to be

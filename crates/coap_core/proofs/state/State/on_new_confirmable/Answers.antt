@@ -23,7 +23,7 @@ returns-clause-done g c =
           (λ report. IfSome (answering_at w c.args.arrival.now (grown_of report.outcome) c.args.arrival.from m c.in-Some.number) (λ s. left s report))
           (λ report. left (new_confirmable_step w c.args.arrival.now (grown_of report.outcome) c.args.arrival.from m) report)
           (λ report does. new_confirmable-does w c.args.arrival.now (grown_of report.outcome) c.args.arrival.from m c.in-Some.number (λ s. left s report) c.requires.can.exchanges c.in-Some.ensures.exact c.requires.con room does)
-          c.answer.ensures.exact;
+          (rw c.seek_exchange.ensures at c.answer.ensures.exact);
       err = search rules;
       kept = search rules;
     }

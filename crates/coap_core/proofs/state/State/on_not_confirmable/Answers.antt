@@ -22,7 +22,7 @@ returns-in-Some-clause-done g c =
           (λ report. IfSome (answering_at w c.args.arrival.now (grown_of report.outcome) c.args.arrival.from m c.in-Some.number) (λ s. left s report))
           (λ report. left (not_confirmable_step w c.args.arrival.now (grown_of report.outcome) c.args.arrival.from m) report)
           (λ report does. awaited-does w c.args.arrival.now (grown_of report.outcome) c.args.arrival.from m c.in-Some.number (λ s. left s report) c.requires.can.exchanges c.in-Some.ensures.exact c.requires.other does)
-          c.answer.ensures.exact;
+          (rw c.seek_exchange.ensures at c.answer.ensures.exact);
       err = search rules;
       kept = search rules;
     }

@@ -24,16 +24,18 @@ waiter g c =
 pub on_exchange-requires-clause-due : goal.on_exchange-requires-clause-due
 on_exchange-requires-clause-due g c =
     let k = (goal.at.on_exchange-requires-clause-due g c).In-Some-OfExchange in
-    due-at c.args.self.now c.args.timing.now c.in-Some-OfExchange.at c.in-Some-OfExchange.number c.requires.can.ready.can.exchanges (exchange g k) c.if-at-timing.true
+    rw c.seek_exchange.ensures
+    (due-at c.args.self.now c.args.timing.now c.in-Some-OfExchange.at c.in-Some-OfExchange.number c.requires.can.ready.can.exchanges (exchange g k) c.if-at-timing.true)
 
 pub on_exchange-requires-clause-can : goal.on_exchange-requires-clause-can
 on_exchange-requires-clause-can g c =
     let k = (goal.at.on_exchange-requires-clause-can g c).In-Some-OfExchange in
     record {
-      ready = c.requires.can.ready;
-      room = c.requires.can.room;
-      fits = subst (λ (s : Step). length s.bytes ≤ c.args.out.now.room)
-          (of-exchange c.args.self.now c.args.timing c.in-Some-OfExchange.at c.in-Some-OfExchange.number (exchange g k) c.if-at-timing.true) c.requires.can.fits;
+      ready = rw c.seek_exchange.ensures c.requires.can.ready;
+      room = rw c.seek_exchange.ensures c.requires.can.room;
+      fits = rw c.seek_exchange.ensures
+          (subst (λ (s : Step). length s.bytes ≤ c.args.out.now.room)
+          (of-exchange c.args.self.now c.args.timing c.in-Some-OfExchange.at c.in-Some-OfExchange.number (exchange g k) c.if-at-timing.true) c.requires.can.fits);
     }
 
 pub returns-in-Some-OfExchange-clause-done : goal.returns-in-Some-OfExchange-clause-done
@@ -41,7 +43,7 @@ returns-in-Some-OfExchange-clause-done g c =
     let k = (goal.at.returns-in-Some-OfExchange-clause-done g c).In-Some-OfExchange in
     record {
       exact = subst (λ (s : Step). Does s c.on_exchange.result c.args.out.now c.on_exchange.new.out c.on_exchange.new.self)
-          (sym (of-exchange c.args.self.now c.args.timing c.in-Some-OfExchange.at c.in-Some-OfExchange.number (exchange g k) c.if-at-timing.true)) c.on_exchange.ensures;
+          (sym (of-exchange c.args.self.now c.args.timing c.in-Some-OfExchange.at c.in-Some-OfExchange.number (exchange g k) c.if-at-timing.true)) (rw c.seek_exchange.ensures at c.on_exchange.ensures);
       err = search rules;
       kept = search rules;
     }
