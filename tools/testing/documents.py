@@ -15,6 +15,7 @@ from testing.questions import form_of
 from testing.script import TOP, read
 
 PAGES = "README CONTRIBUTING docs/TRYING docs/REPLAY docs/SCALING docs/DEPLOYING docs/BUILDING docs/SECURITY".split()
+PAGES += ["docs/EMBEDDING"]
 # An indented line, or what stands between backquotes.
 CODE = re.compile(r"^ {4,}(.*)$|`([^`\n]+)`", re.MULTILINE)
 # A command that calls the program or a tool, and its words; or words for the program in a file of the unit.
@@ -93,7 +94,10 @@ docs/BUILDING / The first build: not run: it takes the kit
 docs/BUILDING / The programs that come with the sources: not run: it takes the kit
 docs/SECURITY / Proxying and caching (11.2): run: document rules_are_read
 docs/SECURITY / Multicast and broadcast: run: document rules_are_read
+docs/EMBEDDING / With a socket: no command
 """
+# What this list says of what no test runs, which a page with such commands says, too.
+LEFT = re.compile(r"not run: |; .*(aren't|isn't|nothing|no container)")
 
 
 def text_of(page):
@@ -125,6 +129,12 @@ def each_block_is_run_or_not(_):
     expect("which lines of the list don't say what becomes of a block", [], [one for one, it in zip(lines, told) if not it])
     there = [it for page in PAGES for it in headings(page)]
     expect("under which headings a block stands", [it[1] for it in told], there)
+
+
+def a_page_says_what_no_test_runs(_):
+    pages = {line.partition(" / ")[0] for line in BLOCKS.strip().splitlines() if LEFT.search(line)}
+    silent = [page for page in sorted(pages) if "no test runs" not in text_of(page).lower()]
+    expect("which pages don't say what no test runs", [], silent)
 
 
 def calls(text):
@@ -303,6 +313,7 @@ def an_invariant_is_that_of_a_test(_):
 
 CASES = (
     each_block_is_run_or_not,
+    a_page_says_what_no_test_runs,
     options_exist,
     replays_print_what_stands_there,
     the_first_answer_is_printed,
