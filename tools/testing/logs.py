@@ -68,7 +68,8 @@ class Log:
                 expect(f"how many lines {word}", count, len(found))
                 return found
             time.sleep(0.05)
-        raise Failed(f"expected {count} lines {word}, got {self.lines()}")
+        lines = (" ".join([first, *map("=".join, values.items())]) for first, values in self.lines())
+        raise Failed("\n  ".join([f"expected {count} lines {word}, got", *lines]))
 
     def await_dropped(self, count):
         """How many lines of dropped messages, and of who has most of their table, were written, and how many each other
