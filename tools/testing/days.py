@@ -8,10 +8,13 @@ import select
 import tempfile
 import time
 
+from reading.messages import KINDS, code_name
 from testing.coap import ACK, CON, CONTENT, EMPTY, GATEWAY_TIMEOUT, GET, MAX_AGE, message, number, read
 from testing.hosts import paced
 from testing.leaps import AGES, LIFETIME, SLACK, Clock, expect_same_replay
-from testing.network import PATIENCE, SILENCE, Broken, Failed, Stage, case_list, expect, expect_between, left
+from testing.network import (
+    PATIENCE, SILENCE, Broken, Failed, Stage, case_list, expect, expect_between, expect_datagram, left,
+)
 from testing.steps import T, max_age
 
 CASES, case = case_list()
@@ -122,10 +125,10 @@ class Days:
         now = self.clock.now()
         if came.kind == CON:
             client.peer.send(message(ACK, EMPTY, came.message_id))
-            expect("an answer that comes again", data, client.told.setdefault(came.message_id, data))
+            expect_datagram("an answer that comes again", client.told.setdefault(came.message_id, data), data)
             self.check_told(client, came, now)
             return
-        expect("a reply", (ACK, True), (came.kind, client.is_open), "the type", "whether it is awaited")
+        expect("a reply", (KINDS[ACK], True), (KINDS[came.kind], client.is_open), "the type", "whether it is awaited")
         client.is_open = False
         if not self.is_again(client, data, now):
             client.reply, client.before, client.after = data, client.asked, now
@@ -138,7 +141,7 @@ class Days:
         if client.reply is None:
             return False
         if now - client.before < LIFETIME - SLACK:
-            expect("the reply again", client.reply, data)
+            expect_datagram("the reply again", client.reply, data)
         self.counts["again"] += client.reply == data
         return client.reply == data
 
@@ -168,7 +171,8 @@ class Days:
     def check_content(self, came, before, now):
         """Has a message be an answer of the origin, with a Max-Age that may be left of it. Returns the answer."""
         is_sent = came.payload in self.answers
-        expect("a reply", (CONTENT, True), (came.code, is_sent), "the code", "whether the origin has sent it")
+        told = code_name(came.code), is_sent
+        expect("a reply", (code_name(CONTENT), True), told, "the code", "whether the origin has sent it")
         answer, values = self.answers[came.payload], [number(it) for option, it in came.options if option == MAX_AGE]
         expect("how many Max-Age it has", 1, len(values))
         if before - answer.seen - SLACK > answer.seconds:

@@ -109,6 +109,12 @@ def all_files(folder):
     return found
 
 
+def expect_same_files(one, two):
+    """Fails where two folders don't have the same files, with the same bytes."""
+    files, others = all_files(one), all_files(two)
+    expect("which files differ", [], sorted(it for it in {**files, **others} if files.get(it) != others.get(it)))
+
+
 def check_images(program):
     """Has tools/image make an image of a static program, twice with the same bytes, and none of another."""
     path = os.path.realpath(programs.BEHIND.get(program[-1], program[-1]))
@@ -123,7 +129,7 @@ def check_images(program):
         for layout in layouts:
             expect("what is said", (0, ""), run_tool("image", layout, path), *FAULT)
         check_image(layouts[0], path)
-        expect("whether both are the same", True, all_files(layouts[0]) == all_files(layouts[1]))
+        expect_same_files(*layouts)
 
 
 # Packages
@@ -150,7 +156,7 @@ def check_packages():
         made = make_packages(one)
         expect("how many there are", 4, len(made))
         make_packages(two)
-        expect("whether both are the same", True, all_files(one) == all_files(two))
+        expect_same_files(one, two)
         for name in (it for it in made if it.endswith(".deb")):
             fields = subprocess.check_output(["dpkg-deb", "-f", os.path.join(one, name), "Package", "Depends"])
             expect(f"what {name} is and depends on", b"coap-proxyd\n", fields.replace(b"Package: ", b""))

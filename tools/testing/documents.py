@@ -10,11 +10,12 @@ import tempfile
 import textwrap
 
 from testing.libcoap import tool
-from testing.network import Skipped, expect
+from testing.network import Skipped, expect, expect_in
 from testing.questions import form_of
 from testing.script import TOP, read
 
 PAGES = "README CONTRIBUTING docs/TRYING docs/REPLAY docs/SCALING docs/DEPLOYING docs/BUILDING docs/SECURITY".split()
+PAGES += ["docs/EMBEDDING"]
 # An indented line, or what stands between backquotes.
 CODE = re.compile(r"^ {4,}(.*)$|`([^`\n]+)`", re.MULTILINE)
 # A command that calls the program or a tool, and its words; or words for the program in a file of the unit.
@@ -93,7 +94,10 @@ docs/BUILDING / The first build: not run: it takes the kit
 docs/BUILDING / The programs that come with the sources: not run: it takes the kit
 docs/SECURITY / Proxying and caching (11.2): run: document rules_are_read
 docs/SECURITY / Multicast and broadcast: run: document rules_are_read
+docs/EMBEDDING / With a socket: no command
 """
+# What this list says of what no test runs, which a page with such commands says, too.
+LEFT = re.compile(r"not run: |; .*(aren't|isn't|nothing|no container)")
 
 
 def text_of(page):
@@ -120,10 +124,17 @@ def headings(page):
 
 
 def each_block_is_run_or_not(_):
-    told = [re.match(r"(.*?): (run: .|not run: .|no command$)", line) for line in BLOCKS.strip().splitlines()]
-    expect("whether each line of the list says what becomes of a block", True, all(told))
+    lines = BLOCKS.strip().splitlines()
+    told = [re.match(r"(.*?): (run: .|not run: .|no command$)", line) for line in lines]
+    expect("which lines of the list don't say what becomes of a block", [], [one for one, it in zip(lines, told) if not it])
     there = [it for page in PAGES for it in headings(page)]
     expect("under which headings a block stands", [it[1] for it in told], there)
+
+
+def a_page_says_what_no_test_runs(_):
+    pages = {line.partition(" / ")[0] for line in BLOCKS.strip().splitlines() if LEFT.search(line)}
+    silent = [page for page in sorted(pages) if "no test runs" not in text_of(page).lower()]
+    expect("which pages don't say what no test runs", [], silent)
 
 
 def calls(text):
@@ -253,7 +264,7 @@ def what_is_tried_with_libcoap_is_printed(program):
 
 def the_readme_s_server_is_answered_for(program):
     before, after = printed_alone(program, blocks_of("README", "In front of a server"))
-    expect("what the client prints of the server", True, any("</example_data>" in line for line in before))
+    expect_in("what the client prints of the server", "</example_data>", "\n".join(before))
     ages = [int(age) for line in after for age in re.findall(r"t:ACK c:2\.05 .*Max-Age:(\d+)", line)]
     expect(f"whether the cache answers once the server is stopped: {after}", True, len(ages) == 1 and ages[0] < 60)
 
@@ -302,6 +313,7 @@ def an_invariant_is_that_of_a_test(_):
 
 CASES = (
     each_block_is_run_or_not,
+    a_page_says_what_no_test_runs,
     options_exist,
     replays_print_what_stands_there,
     the_first_answer_is_printed,

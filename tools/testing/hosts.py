@@ -14,7 +14,7 @@ import time
 
 from testing import programs
 from testing.coap import CON, CONTENT, EMPTY, GET, NON, RST, message
-from testing.network import PATIENCE, Failed, Skipped, Stage, case_list, expect, expect_between, free_port
+from testing.network import PATIENCE, Failed, Skipped, Stage, case_list, expect, expect_between, expect_message, free_port
 from testing.statistics import metrics
 from testing.steps import T, TEMP, path
 
@@ -90,7 +90,7 @@ def a_clock_that_stands_still_is_said_once(program):
     with served(program, 0, "--stats", "86400") as (client, path):
         for _ in range(10_100):
             client.send(message(CON, EMPTY, client.new_id()))
-            expect("what it is answered", RST, client.receive("a Reset").message.kind)
+            expect_message("what a ping is answered", client.receive("a Reset"), kind=RST)
         with open(path, "rb") as said:
             expect("what is said", [STANDING], said.readlines())
 
@@ -159,7 +159,7 @@ def its_socket_waits_while_nothing_comes(program):
                     client.request(GET, [T, *path(name)], kind=NON)
                 origin.answer(origin.expect_request(GET, [TEMP, *path(name)]), CONTENT, [], b"21")
                 for client in (first, second):
-                    expect("what it is answered", CONTENT, client.receive("an answer").message.code)
+                    expect_message("what it is answered", client.receive("an answer"), code=CONTENT)
                 # Each wait is a second, and it takes one to be waiting.
                 time.sleep(0.3)
                 modes.append(fcntl.fcntl(its, fcntl.F_GETFL) & os.O_NONBLOCK)

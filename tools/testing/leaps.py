@@ -10,8 +10,10 @@ import time
 
 from testing.coap import ACK, CON, CONTENT, EMPTY, GATEWAY_TIMEOUT, GET, MAX_AGE, RST, message, number
 from testing.hosts import paced
-from testing.network import PATIENCE, Broken, Failed, Stage, case_list, expect, expect_between, expect_message, left
-from testing.recordings import replayed
+from testing.network import (
+    PATIENCE, Broken, Failed, Stage, case_list, expect, expect_between, expect_datagram, expect_message, left,
+)
+from testing.recordings import expect_sent, replayed
 from testing.steps import T, TEMP, max_age
 
 CASES, case = case_list()
@@ -72,7 +74,7 @@ class Years:
     def receive_again(self, peer, first, what):
         """What must come again once it is due."""
         self.leap_while_it_waits(4)
-        expect(what, first.data, self.receive(peer, what).data)
+        expect_datagram(what, first.data, self.receive(peer, what).data)
         self.counts["resent"] += 1
 
     def leap_while_it_waits(self, seconds):
@@ -84,7 +86,7 @@ class Years:
     def settle(self):
         """Has all be handled that was sent before: a ping is rejected."""
         self.pinging.send(message(CON, EMPTY, self.pinging.new_id()))
-        expect("what a ping is answered", RST, self.pinging.receive("a Reset").message.kind)
+        expect_message("what a ping is answered", self.pinging.receive("a Reset"), kind=RST)
 
     def ask(self, client, data):
         """A Confirmable GET, which is answered at once by what is fresh, or else asked anew. Returns the reply, and the
@@ -138,7 +140,7 @@ class Years:
         self.stored = Stored(payload, seconds, self.clock.now())
         self.origin.answer(asked, CONTENT, [max_age(seconds)], payload, kind=CON if way == 2 else ACK)
         if way == 2:
-            expect("an acknowledgement", EMPTY, self.receive(self.origin, "an acknowledgement").message.code)
+            expect_message("an acknowledgement", self.receive(self.origin, "an acknowledgement"), code=EMPTY)
         told = self.expect_told(client, data, CONTENT, payload)
         self.expect_left(told, self.stored.earliest, self.stored.latest)
 
@@ -159,7 +161,7 @@ class Years:
         that is remembered, and the moments before and after it."""
         if self.clock.now() - before < LIFETIME - PATIENCE:
             client.send(data)
-            expect("the reply again", reply, self.receive(client, "a reply").data)
+            expect_datagram("the reply again", reply, self.receive(client, "a reply").data)
             self.counts["again"] += 1
         elif self.clock.now() - after > LIFETIME + SLACK:
             reply, before, after = self.ask(client, data)
@@ -187,9 +189,7 @@ def expect_same_replay(program, path, seen, arranged=list):
         except Failed:
             # Its last line isn't whole yet.
             time.sleep(0.2)
-    for at, (one, other) in enumerate(zip(wanted, sent)):
-        expect(f"datagram {at} of the replay", one, other)
-    expect("how many datagrams the replay sends", len(wanted), len(sent))
+    expect_sent(wanted, sent)
 
 
 @case("MaxAgeKept", "AnswersFromMemory", "DuplicatesAreNew", "PayloadChanged")

@@ -1,10 +1,11 @@
 """What must hold with the client and the server of libcoap, where they are installed."""
 
+import math
 import shutil
 import subprocess
 import time
 
-from testing.network import Broken, Skipped, case_list, end, expect, free_port
+from testing.network import Broken, Skipped, case_list, end, expect, expect_between, expect_in, free_port
 
 CASES, case = case_list()
 # What the first resource of libcoap's server says.
@@ -55,7 +56,7 @@ def its_client_gets_what_its_server_has(stage):
     expect_welcome(stage, server, client(stage, proxy, ""))
     core = client(stage, proxy, ".well-known/core", "-N")
     expect("what the client printed of the resources", client(stage, server, ".well-known/core"), core)
-    expect("whether one is among them", True, b"</example_data>" in core)
+    expect_in("the resources", b"</example_data>", core)
 
 
 @case("AnswersFromMemory")
@@ -72,7 +73,7 @@ def its_asynchronous_resource_answers_separately(stage):
     proxy, _ = mapped(stage)
     started = time.monotonic()
     expect("what the client printed", b"done", client(stage, proxy, "async?1"))
-    expect("whether the server took its second", True, time.monotonic() - started > 0.9)
+    expect_between("seconds that it took", 0.9, math.inf, time.monotonic() - started)
 
 
 @case("NeverFromTheCache")

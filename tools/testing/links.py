@@ -3,6 +3,7 @@
 import socket
 import time
 
+from reading.messages import code_name
 from testing.coap import ACK, CON, CONTENT, EMPTY, GET, MAX_AGE, NON, message, number_bytes, read
 from testing.namespaces import join, namespaces, socket_in
 from testing.network import Stage, expect
@@ -59,7 +60,7 @@ def tokens_of_answers(client):
             answer = read(client.recv(2_000))
         except socket.timeout:
             break
-        expect("the code of an answer", CONTENT, answer.code)
+        expect("the code of an answer", code_name(CONTENT), code_name(answer.code))
         tokens.add(answer.token)
     return tokens
 

@@ -17,7 +17,7 @@ from testing import programs
 from testing.coap import (
     ACK, BLOCK2, CON, CONTENT, EMPTY, ETAG, GATEWAY_TIMEOUT, GET, NON, RST, URI_PATH, VALID, message,
 )
-from testing.network import PATIENCE, Failed, Stage, case_list, expect, expect_between, free_port
+from testing.network import PATIENCE, Failed, Stage, case_list, expect, expect_between, expect_message, free_port
 from testing.recordings import limited
 from testing.script import read
 from testing.steps import T, TEMP, max_age, path
@@ -68,7 +68,8 @@ class Log:
                 expect(f"how many lines {word}", count, len(found))
                 return found
             time.sleep(0.05)
-        raise Failed(f"expected {count} lines {word}, got {self.lines()}")
+        lines = (" ".join([first, *map("=".join, values.items())]) for first, values in self.lines())
+        raise Failed("\n  ".join([f"expected {count} lines {word}, got", *lines]))
 
     def await_dropped(self, count):
         """How many lines of dropped messages, and of who has most of their table, were written, and how many each other
@@ -331,7 +332,7 @@ def a_log_that_nobody_reads_takes_no_time(program):
                 begun = time.monotonic()
                 client.request(GET, [], kind=NON)
                 client.send(message(CON, EMPTY, client.new_id()))
-                expect("what a ping is answered", RST, client.receive("a Reset").message.kind)
+                expect_message("what a ping is answered", client.receive("a Reset"), kind=RST)
                 taken.append(time.monotonic() - begun)
             # The machine may be loaded in most of them, but not in all.
             expect_between("the shortest time for one, in seconds", 0, 0.04, min(taken))

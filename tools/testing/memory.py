@@ -13,10 +13,12 @@ import time
 from testing import programs, worked
 from testing.coap import ACK, CON, CONTENT, DELETED, EMPTY, GET, NON, PROXY_URI, message, read
 from testing.network import (
-    PATIENCE, RESULT, Came, Failed, Life, case_list, check_response, expect, expect_between, expect_message,
+    PATIENCE, RESULT, Came, Failed, Life, case_list, check_response, expect, expect_between, expect_datagram,
+    expect_message,
 )
 from testing.statistics import await_metric
 from testing.steps import path
+from testing.telling import line_text
 
 CASES, case = case_list()
 START, ORIGIN = b"coap-proxyd: out of memory\n", b"127.0.0.1:5690"
@@ -126,7 +128,7 @@ def check_refused(program, run, came):
     else:
         expect("status", 0, came[0])
         if came[1] not in (run.output, *RUNS[run.name]):
-            raise Failed(f"a run without a stored answer wrote {came[1]!r}")
+            raise Failed("\n  ".join(["a run without a stored answer wrote", *map(line_text, came[1].splitlines())]))
 
 
 def requests_of_start(refusals, run):
@@ -219,7 +221,7 @@ class Sequence:
         send = functools.partial(self.client.send, data)
         if kind == CON:
             came = self.effect(send, self.client, "an acknowledgement")
-            expect("the acknowledgement", message(ACK, EMPTY, request.message.message_id), came.data)
+            expect_datagram("the acknowledgement", message(ACK, EMPTY, request.message.message_id), came.data)
             asked = self.origin.receive("a request")
         else:
             asked = self.effect(send, self.origin, "a request")

@@ -4,6 +4,7 @@ import itertools
 import math
 import os
 import random
+import re
 import shutil
 import signal
 import socket
@@ -14,7 +15,7 @@ import time
 from collections import namedtuple
 
 from testing.coap import ACK, CON, EMPTY, MAX_AGE, NON, message, number, number_bytes, read
-from testing.telling import datagram_text, parts_text
+from testing.telling import datagram_text, difference_text, parts_text
 
 # How long a datagram that must come may take, and how long it is watched that none comes, in seconds. The machine may
 # be loaded.
@@ -69,8 +70,26 @@ def expect(what, wanted, came, *labels):
     if wanted == came:
         return
     parts = zip((f"{label}: " for label in labels), wanted, came) if labels else [("", wanted, came)]
-    told = (f"{label}expected {one!r}, got {other!r}" for label, one, other in parts if one != other)
+    told = (f"{label}{difference_text(one, other)}" for label, one, other in parts if one != other)
     raise Failed(f"{what}: {'; '.join(told)}")
+
+
+def expect_in(what, part, whole):
+    """Fails where a text or a list doesn't have this part."""
+    if part not in whole:
+        raise Failed(f"{what}: expected {part!r} in it, got {whole!r}")
+
+
+def expect_like(what, pattern, lines):
+    """Fails where none of these lines begins as a regular expression says."""
+    if not any(re.match(pattern, line) for line in lines):
+        raise Failed("\n  ".join([f"{what}: expected a line like {pattern!r}, got", *lines]))
+
+
+def expect_datagram(what, wanted, came):
+    """Fails where a datagram doesn't have these very bytes."""
+    if wanted != came:
+        raise Failed(f"{what}: expected {datagram_text(wanted)}; got {datagram_text(came)} (0x{wanted.hex()}, 0x{came.hex()})")
 
 
 def expect_message(what, came, **parts):
@@ -151,8 +170,7 @@ class Peer:
     def expect_bytes(self, what, data):
         """Has the next datagram be these very bytes."""
         came = self.receive(what)
-        if came.data != data:
-            raise Failed(f"{what}: expected {datagram_text(data)}; got {datagram_text(came.data)}")
+        expect_datagram(what, data, came.data)
         return came
 
     def expect_silence(self, what, seconds=SILENCE):

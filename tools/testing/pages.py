@@ -11,7 +11,7 @@ from drawing.summary import summary
 from testing.browser import Browser
 from testing.coap import ACK, CON, CONTENT, GET, MAX_AGE, NON, message
 from testing.drawn import LADDER, ODD, PICTURES, SLEEPING, counts_of_file, limits, odd_names, odd_run, rows_of, written
-from testing.network import expect, expect_between
+from testing.network import expect, expect_between, expect_in
 from testing.steps import T
 
 # In how many seconds a page of so many datagrams opens.
@@ -75,20 +75,17 @@ def a_pointer_shows_and_lights(program):
             "coap://192.0.2.50/goal",
             "0000  68 45 00 01 00 00 00 00",
         ):
-            expect(f"whether {part!r} is shown", True, part in shown)
+            expect_in("what is shown", part, shown)
         browser.click("#row-2")
         expect("what belongs to what is sent again", [0, 1, 2, 3, 4], browser.evaluate(LIT))
         browser.click("#row-5")
         expect("what belongs to a hit", [3, 5, 6], browser.evaluate(LIT))
-        expect("where it is from", True, "at 2.290" in panel(browser))
+        expect_in("where it is from", "at 2.290", panel(browser))
         browser.click("#row-9")
         expect("what belongs to a validation", [9, 10, 11, 12], browser.evaluate(LIT))
         expect("what is lit", 4, browser.evaluate("document.querySelectorAll('.shade').length"))
-        expect(
-            "what a screen reader is told",
-            True,
-            "phone to the proxy" in browser.evaluate("document.getElementById('said').textContent"),
-        )
+        told = browser.evaluate("document.getElementById('said').textContent")
+        expect_in("what a screen reader is told", "phone to the proxy", told)
 
 
 def keys_do_all_that_a_pointer_does(program):
@@ -150,11 +147,8 @@ def what_went_wrong_is_found_by_a_click(program):
     _, ladder = rows_of(program, os.path.join(PICTURES, "trying-incident.events"))
     with Opened(page.page(ladder)) as browser:
         told = panel(browser, "troubles")
-        expect(
-            "what is told",
-            True,
-            "5.03 Service Unavailable 127.0.0.1:40001" in told and "overloaded 5.03 exchanges 2/2" in told,
-        )
+        for part in ("5.03 Service Unavailable 127.0.0.1:40001", "overloaded 5.03 exchanges 2/2"):
+            expect_in("what is told", part, told)
         expect(
             "the worst kind",
             "5.03 Service Unavailable 1",
@@ -172,7 +166,8 @@ def what_went_wrong_is_found_by_a_click(program):
         browser.click(".kinds button")
         expect("what went wrong for another client", 1, browser.evaluate("troubles.groups.length"))
         told = panel(browser, "troubles")
-        expect("how often", True, "no answer 127.0.0.1:40007 × 2" in told and "2 targets · opened" in told)
+        for part in ("no answer 127.0.0.1:40007 × 2", "2 targets · opened"):
+            expect_in("how often", part, told)
 
 
 def a_long_run(folder):
@@ -236,7 +231,7 @@ def odd_bytes_stay_text_in_a_browser(program):
         expect("the title", ODD[0][1], browser.evaluate("document.title"))
     with Opened(summary(counts, limits(), None, ladder.names, ladder.title)) as browser:
         expect("scripts", 0, browser.evaluate("document.scripts.length"))
-        expect("whether a target is text", True, "%3C%2Fscript%3E" in browser.evaluate("document.body.innerText"))
+        expect_in("a target, as text", "%3C%2Fscript%3E", browser.evaluate("document.body.innerText"))
 
 
 def pages_fit_a_phone_and_follow_light_and_dark(program):
@@ -269,11 +264,7 @@ def a_picture_has_text_and_names(program):
             browser.evaluate("document.querySelector('desc').textContent"),
         )
         browser.evaluate("getSelection().selectAllChildren(document.documentElement)")
-        expect(
-            "whether its text can be selected",
-            True,
-            "ACK [0x7d34] 2.05 Content" in browser.evaluate("getSelection().toString()"),
-        )
+        expect_in("the text that can be selected", "ACK [0x7d34] 2.05 Content", browser.evaluate("getSelection().toString()"))
         expect(
             "a row",
             "20.000 s: phone to the proxy: CON [0x7d34] GET /goal; Token 0x71; hit, 42 s left",

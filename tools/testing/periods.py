@@ -7,7 +7,7 @@ import time
 from testing.coap import CON, EMPTY, GET, NON, PROXY_URI, message
 from testing.hosts import await_uptime, paced
 from testing.leaps import Clock
-from testing.network import PATIENCE, Failed, case_list, expect, expect_between
+from testing.network import PATIENCE, Failed, case_list, expect, expect_between, expect_in
 from testing.statistics import await_metric, metrics
 
 CASES, case = case_list()
@@ -107,7 +107,7 @@ def a_write_that_failed_is_tried_again(stage):
     until = time.monotonic() + PATIENCE
     while UNWRITTEN not in read_bytes(said) and time.monotonic() < until:
         time.sleep(0.05)
-    expect("whether it is said that nothing can be written", True, UNWRITTEN in read_bytes(said))
+    expect_in("what is said where nothing can be written", UNWRITTEN, read_bytes(said))
     time.sleep(1.1)
     expect("whether there is a file", False, os.path.exists(path))
     os.remove(f"{path}.tmp")

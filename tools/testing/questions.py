@@ -8,7 +8,7 @@ import textwrap
 import time
 
 from testing.coap import GATEWAY_TIMEOUT, GET, NON
-from testing.network import PATIENCE, Failed, Stage, case_list, expect
+from testing.network import PATIENCE, Failed, Stage, case_list, expect, expect_in
 from testing.script import TOP, read
 from testing.statistics import await_metric
 from testing.steps import expect_hit, fetch, path
@@ -95,7 +95,7 @@ def each_command_prints_what_the_page_says(program):
             found.append([" ".join(it.split()) for it in lines])
     why, silent_ones, hits, evicted, flooding = found
     expect("how many clients got 5.04", 1, len(why))
-    expect("the silent device", True, silent_ones[0].endswith(f'origin="{silent.authority}"}} 1'))
+    expect_in("the silent device", f'origin="{silent.authority}"}} 1', silent_ones[0])
     expect("the hits", ["0 of 1 /d7", "1 of 3 /d1"], hits)
     expect("what made room", ["evicted=1 evicted_fresh=1"], [" ".join(it.split(" ")[:2]) for it in evicted])
     expect("who floods", [f"address={FLOODING} has=4 ports=1"], [it.partition("/4096 ")[2] for it in flooding])

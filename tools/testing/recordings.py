@@ -13,7 +13,7 @@ import time
 from datetime import datetime, timedelta
 
 from testing.coap import CON, CONTENT, GET, NON, NOT_SUPPORTED, PROXY_URI, message
-from testing.network import FAULT, PATIENCE, RESULT, Life, case_list, expect, free_port
+from testing.network import FAULT, PATIENCE, RESULT, Life, case_list, expect, expect_datagram, free_port
 from testing.statistics import await_metric
 from testing.steps import T, TEMP, expect_hit, max_age
 
@@ -44,6 +44,13 @@ def replayed(program, path, words=None):
     return [data for data in sent if not data.startswith("70")]
 
 
+def expect_sent(wanted, sent):
+    """Fails where a replay doesn't send these datagrams, in hexadecimal digits."""
+    for at, (one, other) in enumerate(zip(wanted, sent), 1):
+        expect_datagram(f"datagram {at} of the replay", bytes.fromhex(one), bytes.fromhex(other))
+    expect("how many datagrams the replay sends", len(wanted), len(sent))
+
+
 @case("PayloadChanged")
 def a_replay_of_a_recording_sends_the_same(stage):
     origin, path = stage.peer(), os.path.join(stage.folder, "run.events")
@@ -60,7 +67,7 @@ def a_replay_of_a_recording_sends_the_same(stage):
     until = time.monotonic() + PATIENCE
     while replayed(stage.program, path) != seen and time.monotonic() < until:
         time.sleep(0.2)
-    expect("what the replay sends", seen, replayed(stage.program, path))
+    expect_sent(seen, replayed(stage.program, path))
 
 
 @case("OtherFirstId")
@@ -89,7 +96,7 @@ def a_recording_says_how_its_run_was_started(stage):
     until = time.monotonic() + PATIENCE
     while replayed(stage.program, path, again) != seen and time.monotonic() < until:
         time.sleep(0.2)
-    expect("what the replay sends", seen, replayed(stage.program, path, again))
+    expect_sent(seen, replayed(stage.program, path, again))
     with open(path, encoding="utf-8") as file:
         first, *lines = file.read().split("\n")
     at = f" --config={stage.folder}/{shown}{'.inner' if config.endswith('.inner') else ''})\""

@@ -8,7 +8,7 @@ import shutil
 import subprocess
 import tempfile
 
-from testing.network import FAULT, RESULT, expect
+from testing.network import FAULT, RESULT, expect, expect_in
 
 TOP = os.path.dirname(os.path.dirname(os.path.dirname(os.path.abspath(__file__))))
 # A line of the help: an option by its letter, by its name, or both, and perhaps what stands behind it.
@@ -144,7 +144,7 @@ def check_stale(program):
 def check_installed(program, prefix):
     """Has no file that was installed name a place elsewhere, and its configuration and its tools work there."""
     unit = read(prefix, "lib", "systemd", "system", "coap-proxyd.service")
-    expect("where the unit has it", True, f"\nExecStart={prefix}/sbin/coap-proxyd " in unit)
+    expect_in("the unit", f"\nExecStart={prefix}/sbin/coap-proxyd ", unit)
     texts = {name: read(prefix, name) for name in left_in(prefix) if name.endswith((".conf", ".service", ".8", ".md"))}
     expect("who names another prefix", [], [name for name, text in texts.items() if "/usr/local/" in text])
     config = os.path.join(prefix, "etc", "coap-proxyd.toml")

@@ -9,7 +9,7 @@ from testing import programs
 from testing.coap import CON, EMPTY, GET, NON, PROXY_URI, RST, message
 from testing.links import HERE, PORT, wait_until_ready
 from testing.namespaces import namespaces, socket_in
-from testing.network import PATIENCE, Failed, Stage, case_list, expect
+from testing.network import PATIENCE, Failed, Stage, case_list, expect, expect_message
 from testing.statistics import metrics
 from testing.steps import path
 
@@ -47,7 +47,7 @@ def await_counts(counts, is_wanted):
 def settle(client):
     """Has all be handled that was sent before: a ping is rejected."""
     client.send(message(CON, EMPTY, client.new_id()))
-    expect("what a ping is answered", RST, client.receive("a Reset").message.kind)
+    expect_message("what a ping is answered", client.receive("a Reset"), kind=RST)
 
 
 @case("NonConfirmablesTwice")

@@ -6,7 +6,7 @@ import subprocess
 import tempfile
 import time
 
-from testing.network import FAULT, expect, expect_between, free_port
+from testing.network import FAULT, expect, expect_between, expect_in, free_port
 
 TOP = os.path.dirname(os.path.dirname(os.path.dirname(os.path.abspath(__file__))))
 RECORDED = re.compile(r"RECORD=--record (.*-[0-9]{4}-[01][0-9]-[0-3][0-9]T[0-2][0-9]\.[0-5][0-9]\.[0-6][0-9]Z\.events)\n")
@@ -65,7 +65,7 @@ def each_recording_has_a_name(_):
         expect("what there is", {said, *names}, {os.path.join(folder, name) for name in os.listdir(folder)})
         status, text = run_script("name-recording", os.path.join(folder, "nowhere", "east"), said)
         expect("the status where none can be written", 0, status)
-        expect("what is said then", True, text.startswith("coap-proxyd: nothing is recorded: "))
+        expect_in("what is said then", "coap-proxyd: nothing is recorded: ", text)
         with open(said) as file:
             expect("the words then", "RECORD=\n", file.read())
 

@@ -8,7 +8,7 @@ from testing.coap import CON, CONTENT, EMPTY, GATEWAY_TIMEOUT, GET, NON, NOT_FOU
 from testing.hosts import paced
 from testing.leaps import Clock
 from testing.logs import Log, authority
-from testing.network import PATIENCE, Stage, case_list, expect, expect_between
+from testing.network import PATIENCE, Stage, case_list, expect, expect_between, expect_message
 from testing.steps import T, TEMP, max_age, path
 
 CASES, case = case_list()
@@ -27,7 +27,7 @@ class Leaping(Log):
     def settle(self):
         """Has all be handled that was sent before: a ping is rejected."""
         self.pinging.send(message(CON, EMPTY, self.pinging.new_id()))
-        expect("what a ping is answered", RST, self.pinging.receive("a Reset").message.kind)
+        expect_message("what a ping is answered", self.pinging.receive("a Reset"), kind=RST)
 
     def leap(self, seconds, ends=()):
         """Sets the clock ahead, until some clients were sent that no answer came, each so many times."""
@@ -36,7 +36,7 @@ class Leaping(Log):
         self.settle()
         for client, count in ends:
             for _ in range(count):
-                expect("what a client is sent", GATEWAY_TIMEOUT, client.receive("an answer").message.code)
+                expect_message("what a client is sent", client.receive("an answer"), code=GATEWAY_TIMEOUT)
 
     def ask(self, uri):
         """Asks for what an origin has under a URI."""
@@ -49,7 +49,7 @@ class Leaping(Log):
         while (asked := origin.receive("a request")).message.options != wanted:
             pass
         origin.answer(asked, CONTENT, [max_age(0)], b"21")
-        expect("what the client is sent", CONTENT, self.client.receive("an answer").message.code)
+        expect_message("what the client is sent", self.client.receive("an answer"), code=CONTENT)
 
 
 @contextlib.contextmanager
@@ -71,7 +71,7 @@ def each_exchange_that_is_given_up_at_one_moment_has_its_own_cause(program):
         first.request(GET, [T, *path("b")], kind=NON)
         asked = origin.expect_request(GET, [TEMP, *path("b")])
         log.leap(4)
-        expect("what is sent again", asked.data, origin.receive("the request again").data)
+        origin.expect_bytes("the request again", asked.data)
         # Two requests that it hasn't acknowledged may be outstanding, so that the last one has to wait.
         for name in ("c", "d"):
             first.request(GET, [T, *path(name)], kind=NON)
@@ -181,7 +181,7 @@ def give_ids(log, count):
         while sent < min(count, came + 32):
             log.client.request(GET, [], kind=NON)
             sent += 1
-        expect("what it is answered", NOT_FOUND, log.client.receive("a refusal").message.code)
+        expect_message("what it is answered", log.client.receive("a refusal"), code=NOT_FOUND)
         came += 1
 
 
@@ -210,7 +210,7 @@ def an_exchange_has_its_own_cause_though_another_had_its_id(program):
         log.leap(300)
         log.client.request(GET, [T], kind=NON)
         again = log.origin.expect_request(GET, [TEMP])
-        expect("the Message ID of the request", asked.message.message_id, again.message.message_id)
+        expect_message("the next request", again, message_id=asked.message.message_id)
         log.origin.acknowledge(again, kind=RST)
         log.client.receive("an answer")
         log.expect_line("failed", 2, client=authority(log.client), code="5.02", target=log.target, cause="reset",

@@ -7,6 +7,7 @@ import sys
 import time
 
 from testing import links, namespaces
+from reading.messages import code_name
 from testing.coap import ACK, CON, CONTENT, EMPTY, GET, MAX_AGE, message, read
 from testing.network import Broken, Skipped, Stage, end, expect
 from testing.steps import T
@@ -83,7 +84,7 @@ class Spread:
             self.answer_origin()
             data = client.recv(2_000)
             client.send(message(ACK, EMPTY, read(data).message_id))
-        expect("the code of an answer", CONTENT, read(data).code)
+        expect("the code of an answer", code_name(CONTENT), code_name(read(data).code))
         return data
 
     def ask(self, number, message_id):

@@ -9,7 +9,9 @@ import time
 from testing.coap import (
     ACK, BLOCK2, CHANGED, CON, CONTENT, EMPTY, GATEWAY_TIMEOUT, GET, NON, PROXY_URI, PUT, URI_PATH, message,
 )
-from testing.network import PATIENCE, Failed, case_list, expect, expect_between, expect_message, free_port
+from testing.network import (
+    PATIENCE, Failed, case_list, expect, expect_between, expect_in, expect_like, expect_message, free_port,
+)
 from testing.steps import T, TEMP, change, expect_hit, fetch
 
 CASES, case = case_list()
@@ -37,10 +39,10 @@ def metrics(path):
             if line.startswith("# "):
                 said.add((words[1], words[2]))
                 kind = "counter" if words[2].endswith("_total") else "histogram" if words[2] == TIMES else "gauge"
-                expect("the type of a metric", True, words[1] != "TYPE" or words[3:] == [kind])
+                expect(f"the type of {words[2]}", kind, words[3] if words[1] == "TYPE" else kind)
                 continue
             name = re.sub(f"^{TIMES}_(bucket|sum|count)$", TIMES, words[0].split("{")[0])
-            expect("the help and the type of a metric", True, {("HELP", name), ("TYPE", name)} <= said)
+            expect(f"what {name} lacks", set(), {("HELP", name), ("TYPE", name)} - said)
             listen, labels = re.fullmatch(r'[a-z_]+\{listen="([^"]*)"(?:,(.*))?\}', words[0]).groups()
             listens.add(listen)
             name = words[0].split("{")[0]
@@ -103,7 +105,7 @@ def who_has_most_of_a_full_table(stage):
     # A stand-in has clients at another address.
     [name] = [it for it in numbers if it.startswith("coap_proxyd_table_holder_entries{")]
     labels = name.partition("{")[2]
-    expect("whether the table is told", True, labels.startswith('table="con_records",address="127.'))
+    expect_in("the labels", 'table="con_records",address="127.', labels)
     expect("what the client has", 2, numbers[name])
     expect("its ports", 1, numbers[f"coap_proxyd_table_holder_ports{{{labels}"])
     expect_between("since when", 0, 20, numbers[f"coap_proxyd_table_holder_seconds_since{{{labels}"])
@@ -158,13 +160,13 @@ def each_number_stands_behind_its_name(stage):
     for key, limit in LIMITS.values():
         expect(f"what is held of {key}", held[key], numbers[f'coap_proxyd_held{{what="{key}"}}'])
         expect(f"the limit of {key}", limit, numbers[f'coap_proxyd_limit{{what="{key}"}}'])
-    expect("what is sent again", asked.data, origin.receive("the request again").data)
+    origin.expect_bytes("the request again", asked.data)
     # All are told that no answer came, and the last one acknowledges it when it comes again.
     first.expect_response(requests[0], GATEWAY_TIMEOUT)
     second.expect_separate(requests[1], GATEWAY_TIMEOUT)
     told = third.receive("an answer")
     expect_message("the answer", told, kind=CON, code=GATEWAY_TIMEOUT)
-    expect("the answer again", told.data, third.receive("the answer again").data)
+    third.expect_bytes("the answer again", told.data)
     third.send(message(ACK, EMPTY, told.message.message_id))
     names = {key: f"coap_proxyd_{name}_total" for key, (name, _) in TRAFFIC.items()}
     numbers = await_metric(path, names["received"], before[names["received"]] + 8)
@@ -225,7 +227,7 @@ def an_answer_takes_since_its_request_was_sent(stage):
         client.receive("an answer")
     numbers = await_metric(path, 'coap_proxyd_answers_total{storing="kept"}', 2)
     times = {re.search('le="([^"]*)"', name).group(1): count for name, count in numbers.items() if "_bucket{" in name}
-    expect("how many came at once, and how many in all", (1, 2), (times["0.25"], times["+Inf"]))
+    expect("how many answers came", (1, 2), (times["0.25"], times["+Inf"]), "at once", "in all")
 
 
 @case("NotCounted")
@@ -285,8 +287,8 @@ def run_a_turn(program, *words):
 def a_line_is_written_at_the_end_of_the_turns(program):
     lines = run_a_turn(program, "--stats", "86400")
     expect("how many lines", 1, len(lines))
-    expect("the words of the line", True, LINE.fullmatch(lines[0]) is not None)
-    expect("what came", True, " received=0 sent=0 " in lines[0])
+    expect_like("the line", f"{LINE.pattern}$", lines)
+    expect_in("what came", " received=0 sent=0 ", lines[0])
 
 
 def what_cannot_be_written_is_said_once(program):

@@ -1,7 +1,7 @@
 """What cases over a socket have in common: requests, and what must come of them."""
 
 from testing.coap import CON, CONTENT, GET, MAX_AGE, URI_PATH, number_bytes
-from testing.network import Life, expect, expect_between
+from testing.network import Life, expect_between, expect_datagram
 
 T, TEMP = (URI_PATH, b"t"), (URI_PATH, b"temp")
 # How long the first retransmission takes (RFC 7252, 4.2), in seconds, on a machine that may be loaded.
@@ -21,7 +21,7 @@ def max_age(seconds):
 def expect_wait(first, then):
     """Has the first retransmission come in its time, and be the same bytes."""
     expect_between("seconds until it was sent again", *FIRST_TIMEOUT, then.at - first.at)
-    expect("what was sent again", first.data, then.data)
+    expect_datagram("what was sent again", first.data, then.data)
 
 
 def fetch(client, origin, payload=b"21", seconds=60, tags=(), kind=CON, here=(T,), there=(TEMP,), proxies=1):

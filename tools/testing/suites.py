@@ -1,8 +1,9 @@
 """The suite of tools/conformance and the programs of tools/bench: that the cases are those that the page of RFC 7252
-names, what the output is, that stand-ins are told apart, and that a load finds wrong answers."""
+names, what the output is, that stand-ins are told apart, and that a load finds wrong answers; and tools/compare."""
 
 import json
 import os
+import shlex
 import shutil
 import subprocess
 import sys
@@ -150,6 +151,24 @@ def a_load_finds_wrong_answers():
             for process in (origin, echo):
                 process.terminate()
                 process.wait()
+
+
+def builds_are_compared(program):
+    """Random traffic shows no difference between a program and itself, and one between it and a stand-in that changes
+    what a replay writes."""
+    stand_in = os.path.join(TOOLS, "testing", "stand_in")
+    wrong = [sys.executable, "-S", stand_in, "DigitChanged", *program]
+    with tempfile.TemporaryDirectory(prefix="coap-proxyd-test-") as folder:
+        for name, words in (("old", program), ("wrong", wrong)):
+            with open(os.path.join(folder, name), "w") as file:
+                file.write(f'#!/bin/sh\nexec {shlex.join(words)} "$@"\n')
+            os.chmod(file.name, 0o755)
+        for new, status, told in (("old", 0, "2 runs, 0 differ"), ("wrong", 1, "2 runs, 2 differ")):
+            command = [sys.executable, os.path.join(TOOLS, "compare"), "old", new, "2", "300"]
+            done = subprocess.run(command, cwd=folder, stdout=subprocess.PIPE, text=True, timeout=60)
+            came = done.returncode, done.stdout.splitlines()[-1]
+            expect(f"how a comparison with the {new} one ends", (status, told), came, "the status", "the last line")
+        expect("which files are left", ["compare-1", "compare-2"], sorted({it[:9] for it in os.listdir(folder) if "-" in it}))
 
 
 CASES = (
