@@ -25,7 +25,7 @@ from testing.steps import T, TEMP, max_age, path
 # Functions that try a program, and the stand-ins that they must find wrong.
 CASES, case = case_list()
 # Some codes of responses that a client is sent in place of an answer.
-BAD_GATEWAY, UNAVAILABLE = 0xA2, 0xA3
+SERVER_ERROR, BAD_GATEWAY, UNAVAILABLE = 0xA0, 0xA2, 0xA3
 # A line: a word, and keys with values. No value has a blank, a quotation mark or an equals sign.
 LINE = re.compile(r'[a-z_]+( [a-z_]+=[!#-<>-~]+)+')
 F_SETPIPE_SZ = 1031
@@ -170,6 +170,10 @@ def answers_that_a_client_does_not_get(program):
         origin.answer(origin.expect_request(GET, [TEMP]), UNAVAILABLE, [max_age(7)])
         client.receive("5.03")
         log.expect_line("failed", 4, code="5.03", cause="origin", **about)
+        # another error of its origin, of which no line speaks
+        request = client.request(GET, [T, (URI_PATH, b"y")], kind=NON)
+        origin.answer(origin.expect_request(GET, [TEMP, (URI_PATH, b"y")]), SERVER_ERROR, [max_age(0)])
+        client.expect_response(request, SERVER_ERROR, [max_age(0)])
         # valid, though no tag was sent
         request = client.request(GET, [T, (URI_PATH, b"x")], kind=NON)
         origin.answer(origin.expect_request(GET, [TEMP, (URI_PATH, b"x")]), VALID, [(ETAG, b"\x01")])
