@@ -236,6 +236,30 @@ def who_has_most_of_a_full_table(program):
         expect("how often it is said", 1, len(log.await_lines("full")))
 
 
+@case("PortsUncounted", "LinesTwice")
+def who_has_most_of_the_greatest_table(program):
+    with Stage(program) as stage:
+        log = Log(stage, "con_records = 65536\nclient_con_records = 1")
+        for _ in range(2):
+            log.client.request(GET, path("nowhere"))
+        about = {"count": "1/65536", "address": log.client.host, "has": 1, "ports": 1}
+        log.expect_line("full", 1, table="con_records", **about)
+
+
+@case("PortsUncounted", "LinesTwice")
+def of_two_that_have_as_much_the_lower_address_is_told(program):
+    with Stage(program) as stage:
+        log = Log(stage, "con_records = 4\nclient_con_records = 4")
+        low, high = (f"127.{it}.{random.randrange(1, 255)}.{random.randrange(1, 255)}" for it in (1, 2))
+        clients = [stage.peer(host=host, to=log.address) for host in (high, low, low)]
+        for client in (clients[0], *clients):
+            client.request(GET, path("nowhere"))
+            client.receive("a refusal")
+        log.client.request(GET, path("nowhere"))
+        about = {"count": "4/4", "address": low, "has": 2, "ports": 2}
+        log.expect_line("full", 1, table="con_records", **about)
+
+
 @case("PortsUncounted", "ClientIsTheFirst")
 def who_has_most_of_the_exchanges(program):
     with Stage(program) as stage:

@@ -95,7 +95,7 @@ def the_file_has_what_was_sent(stage):
 @case("NotCounted")
 def who_has_most_of_a_full_table(stage):
     path = os.path.join(stage.folder, "counts.prom")
-    limits = "[limits]\ncon_records = 8\nclient_con_records = 2\n"
+    limits = "[limits]\ncon_records = 65536\nclient_con_records = 2\n"
     client = stage.peer(to=stage.proxy("--stats", "1", "--stats-file", path, config=limits, version=2))
     for _ in range(3):
         client.request(GET, [T])
