@@ -9,7 +9,7 @@ import time
 from testing.coap import (
     ACK, BLOCK2, CHANGED, CON, CONTENT, EMPTY, GATEWAY_TIMEOUT, GET, NON, PROXY_URI, PUT, URI_PATH, message,
 )
-from testing.network import PATIENCE, Failed, case_list, expect, expect_between, expect_message, free_port
+from testing.network import PATIENCE, Failed, case_list, expect, expect_between, expect_message, free_port, has_ipv6
 from testing.steps import T, TEMP, change, expect_hit, fetch
 
 CASES, case = case_list()
@@ -271,9 +271,11 @@ def an_answer_that_is_too_large_counts_as_that(stage):
         expect(storing, 0, numbers[f'coap_proxyd_answers_total{{storing="{storing}"}}'])
 
 
-def run_a_turn(program, *words):
-    """What a program with these words writes to standard error for a few turns of a socket."""
-    usual = [*program, "-A", "127.0.0.1", "-p", str(free_port()), "--turns", "2", *words]
+def run_a_turn(program, *words, at=None):
+    """What a program with these words writes to standard error for a few turns of a socket, at this address and port if one
+    is given."""
+    host, port = at or ("127.0.0.1", free_port())
+    usual = [*program, "-A", host, "-p", str(port), "--turns", "2", *words]
     done = subprocess.run(usual, stdin=subprocess.DEVNULL, stdout=subprocess.PIPE, stderr=subprocess.PIPE, timeout=20)
     lines = done.stderr.decode().splitlines()
     if done.returncode != 0:
@@ -322,7 +324,18 @@ def a_map_has_its_path_as_a_label(program):
         expect("where requests go", {prefix, "forward", "next", "none"}, ways)
 
 
+def numbers_say_where_it_listens(program):
+    for host, shown in (("127.0.0.1", "127.0.0.1"), *([("::1", "[::1]")] if has_ipv6() else [])):
+        with tempfile.TemporaryDirectory(prefix="coap-proxyd-test-") as folder:
+            path, port = os.path.join(folder, "counts.prom"), free_port()
+            run_a_turn(program, "--stats-file", path, at=(host, port))
+            expect("the files", ["counts.prom"], os.listdir(folder))
+            with open(path, encoding="ascii") as file:
+                listens = set(re.findall('listen="([^"]*)"', file.read()))
+            expect("where it listens", {f"{shown}:{port}"}, listens)
+
+
 ENDS = (
     a_line_is_written_at_the_end_of_the_turns, what_cannot_be_written_is_said_once, a_file_alone_brings_no_lines,
-    a_map_of_all_paths_has_a_label, a_map_has_its_path_as_a_label,
+    a_map_of_all_paths_has_a_label, a_map_has_its_path_as_a_label, numbers_say_where_it_listens,
 )
