@@ -71,6 +71,14 @@ def draws_differ_from_run_to_run(program):
 
 
 @case("DrawsRepeat")
+def draws_are_any_of_a_second(program):
+    draws = [int(line.split()[1]) for line in recorded(program, 80) if not line.startswith("#")]
+    # Of a right program's so many draws none is in one of three parts once in 10^13 tries.
+    parts = {draw * 3 // 1001 for draw in draws}
+    expect("in which parts of a second there are draws", {0, 1, 2}, parts)
+
+
+@case("DrawsRepeat")
 def each_bit_of_the_seed_makes_other_draws(program):
     settings, shimmed = programs.shimmed(program[-1], programs.DRAWING)
 
