@@ -9,7 +9,8 @@ from testing.ranges import Script
 
 CASES = []
 WORD = (1 << 64) - 1
-# How many parts an index for 4,096 exchanges has, and what spreads IPv4 endpoints over 64 bits.
+# Of how many parts of an index one is chosen, in which there is room for few of them, and what spreads IPv4 endpoints over 64
+# bits.
 PARTS, SPREAD = 129, 0x9E3779B97F4A7C15
 # How many endpoints are chosen, and how often each of them asks.
 MANY, ROUNDS = 4000, 4
@@ -47,13 +48,14 @@ def sip_hash(word):
 
 
 def factor_of(salt):
-    """What would spread IPv4 endpoints over an index if the salt did."""
-    return SPREAD * (sip_hash(salt) | 1) & WORD
+    """What would spread keys over an index if the salt did."""
+    return sip_hash(salt) | 1
 
 
 def part_of(number, factor):
     """In which part of an index an endpoint with this address and port would be, spread by such a factor."""
-    return (number * factor & WORD) * PARTS >> 64
+    once = number * SPREAD * factor & WORD
+    return ((once ^ once >> 32) * factor & WORD) * PARTS >> 64
 
 
 def endpoints(network, salt):
