@@ -1,7 +1,8 @@
-"""Endpoints that somebody chose who knows the salt, which an origin reads off its tokens."""
+"""Endpoints that somebody chose who knows the salt, which an origin reads off its tokens, or a secret."""
 
 import random
 
+from testing import programs
 from testing.coap import ACK, CONTENT, GET, NON, PROXY_URI, message
 from testing.costs import seconds
 from testing.network import expect_between
@@ -87,13 +88,30 @@ def rounds(clients, origins):
     return "".join(script.events).encode()
 
 
+def all_rounds(known):
+    """Rounds of endpoints that would meet if this number spread them, and of any others."""
+    return [rounds(endpoints(0x0A01_0000, it), endpoints(0x0A02_0000, it)) for it in (known, None)]
+
+
+def times_as_long(words, of_both):
+    """How many times as long the first rounds take as the others."""
+    times = [[seconds(words, events) for events in of_both] for _ in range(8)]
+    first, others = (min(it) for it in zip(*times))
+    return first / others
+
+
 @case("SpreadByTheSalt")
 def who_knows_the_salt_chooses_no_endpoints_that_meet(program):
-    words = [*program, "--salt", "0"]
-    of_salts = [
-        rounds(endpoints(0x0A01_0000, salt), endpoints(0x0A02_0000, salt)) for salt in (0, None)
-    ]
     # They take as many instructions, within a thousandth. When the salt spread them, these took half as long again.
-    times = [[seconds(words, events) for events in of_salts] for _ in range(8)]
-    chosen, drawn = (min(it) for it in zip(*times))
-    expect_between("how many times as long chosen endpoints take", 0.5, 1.3, chosen / drawn)
+    taken = times_as_long([*program, "--salt", "0"], all_rounds(0))
+    expect_between("how many times as long chosen endpoints take", 0.5, 1.3, taken)
+
+
+@case("DrawsAnyway")
+def endpoints_that_are_chosen_would_meet(program):
+    """A program to which the system gives no random bit has a secret that is known, and spreads them by that: so it is seen
+    here if an index spreads them otherwise, and the case above says nothing any more."""
+    settings, shimmed = programs.shimmed(program[-1], programs.DRAWING)
+    words = ["env", *settings, "DRAWN_BIT=-1", *program[:-1], shimmed]
+    taken = times_as_long(words, all_rounds(sip_hash(0)))
+    expect_between("how many times as long chosen endpoints take where the secret is known", 1.15, 9, taken)
