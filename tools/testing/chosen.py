@@ -1,11 +1,14 @@
 """Endpoints that somebody chose who knows the salt, which an origin reads off its tokens, or a secret."""
 
 import random
+import shutil
+from concurrent.futures import ThreadPoolExecutor
 
 from testing import programs
 from testing.coap import ACK, CONTENT, GET, NON, PROXY_URI, message
 from testing.costs import seconds
-from testing.network import expect_between
+from testing.instructions import of_replay
+from testing.network import Skipped, expect_between
 from testing.ranges import Script
 
 CASES = []
@@ -59,10 +62,10 @@ def part_of(number, factor):
     return ((once ^ once >> 32) * factor & WORD) * PARTS >> 64
 
 
-def endpoints(network, salt):
-    """Endpoints of a network of 65,536 addresses: all in one part, or any, without a salt."""
+def endpoints(network, salt, many):
+    """So many endpoints of a network of 65,536 addresses: all in one part, or any, without a salt."""
     draw, found, factor = random.Random(1), {}, salt is not None and factor_of(salt)
-    while len(found) < MANY:
+    while len(found) < many:
         number = network << 16 | draw.getrandbits(32)
         if number & 0xFFFF >= 1024 and (salt is None or part_of(number, factor) == 5):
             address = ".".join(str(it) for it in (number >> 16).to_bytes(4, "big"))
@@ -70,27 +73,27 @@ def endpoints(network, salt):
     return list(found)
 
 
-def rounds(clients, origins):
-    """A replay in which each client asks its origin for something new in each round. All of a round
+def rounds(count, clients, origins):
+    """A replay in which each client asks its origin for something new in so many rounds. All of a round
     are in progress at once."""
-    script = Script()
-    for turn in range(ROUNDS):
+    script, many = Script(), len(clients)
+    for turn in range(count):
         for n, (client, origin) in enumerate(zip(clients, origins)):
             uri = f"coap://{origin}/{turn}".encode()
-            message_id = turn * MANY + n
+            message_id = turn * many + n
             script.come(0, client, message(NON, GET, message_id, b"", [(PROXY_URI, uri)]))
             script.tick(0)
-        first = 1 + 2 * turn * MANY
+        first = 1 + 2 * turn * many
         for n, origin in enumerate(origins):
-            token = (1 + turn * MANY + n).to_bytes(8, "big")
+            token = (1 + turn * many + n).to_bytes(8, "big")
             script.come(0, origin, message(ACK, CONTENT, first + n, token, [], b"21"))
             script.tick(0)
     return "".join(script.events).encode()
 
 
-def all_rounds(known):
-    """Rounds of endpoints that would meet if this number spread them, and of any others."""
-    return [rounds(endpoints(0x0A01_0000, it), endpoints(0x0A02_0000, it)) for it in (known, None)]
+def all_rounds(known, count=ROUNDS, many=MANY):
+    """So many rounds of endpoints that would meet if this number spread them, and of any others."""
+    return [rounds(count, *(endpoints(it, salt, many) for it in (0x0A01_0000, 0x0A02_0000))) for salt in (known, None)]
 
 
 def times_as_long(words, of_both):
@@ -115,3 +118,16 @@ def endpoints_that_are_chosen_would_meet(program):
     words = ["env", *settings, "DRAWN_BIT=-1", *program[:-1], shimmed]
     taken = times_as_long(words, all_rounds(sip_hash(0)))
     expect_between("how many times as long chosen endpoints take where the secret is known", 1.15, 9, taken)
+
+
+def no_index_has_a_seed_of_zero(program):
+    """Endpoints that would meet in one index of several take a hundredth more instructions, whatever else the machine does.
+    The salt is zero, too."""
+    if not shutil.which("valgrind"):
+        raise Skipped("valgrind isn't installed")
+    if programs.is_emulated(program[-1]):
+        raise Skipped("valgrind runs programs for this processor")
+    with ThreadPoolExecutor(2) as pool:
+        lines = [events.decode().splitlines() for events in all_rounds(0, 1, 400)]
+        chosen, others = pool.map(lambda it: of_replay(program[-1], 65_536, it), lines)
+    expect_between("how many times as many instructions chosen endpoints take", 0.99, 1.005, chosen / others)
