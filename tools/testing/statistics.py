@@ -44,7 +44,9 @@ def metrics(path):
             listen, labels = re.fullmatch(r'[a-z_]+\{listen="([^"]*)"(?:,(.*))?\}', words[0]).groups()
             listens.add(listen)
             name = words[0].split("{")[0]
-            numbers[f"{name}{{{labels}}}" if labels else name] = float(words[1]) if "." in words[1] else int(words[1])
+            name = f"{name}{{{labels}}}" if labels else name
+            expect(f"whether {name} is there already", False, name in numbers)
+            numbers[name] = float(words[1]) if "." in words[1] else int(words[1])
     expect("where it listens", True, len(listens) == 1 and LISTEN.fullmatch(listens.pop()) is not None)
     return numbers
 
@@ -324,6 +326,17 @@ def a_map_has_its_path_as_a_label(program):
         expect("where requests go", {prefix, "forward", "next", "none"}, ways)
 
 
+def two_maps_with_one_prefix_are_counted_together(program):
+    with tempfile.TemporaryDirectory(prefix="coap-proxyd-test-") as folder, tempfile.TemporaryDirectory() as another:
+        path, config = os.path.join(folder, "counts.prom"), os.path.join(another, "proxy.toml")
+        with open(config, "w", encoding="ascii") as file:
+            file.write("version = 1\n" + "[[map]]\nprefix = '/t'\norigin = 'coap://192.0.2.7'\n" * 2)
+        run_a_turn(program, "--stats-file", path, "--map", "/t=coap://192.0.2.8", "--config", config)
+        expect("the files", ["counts.prom"], os.listdir(folder))
+        ways = [it for name in metrics(path) for it in re.findall('map="([^"]*)",outcome="hit"', name)]
+        expect("where requests go", ["/t", "forward", "next", "none"], ways)
+
+
 def numbers_say_where_it_listens(program):
     for host, shown in (("127.0.0.1", "127.0.0.1"), *([("::1", "[::1]")] if has_ipv6() else [])):
         with tempfile.TemporaryDirectory(prefix="coap-proxyd-test-") as folder:
@@ -338,4 +351,5 @@ def numbers_say_where_it_listens(program):
 ENDS = (
     a_line_is_written_at_the_end_of_the_turns, what_cannot_be_written_is_said_once, a_file_alone_brings_no_lines,
     a_map_of_all_paths_has_a_label, a_map_has_its_path_as_a_label, numbers_say_where_it_listens,
+    two_maps_with_one_prefix_are_counted_together,
 )
