@@ -27,7 +27,8 @@ def recorded(program, turns, settings=()):
         how = {"stderr": subprocess.DEVNULL, "env": {**os.environ, **dict(it.split("=", 1) for it in settings)}}
         process, until = subprocess.Popen([*program, *words], **how), time.monotonic() + 3 * PATIENCE
         while process.poll() is None and time.monotonic() < until:
-            peer.sendto(message(CON, EMPTY, 1), ("127.0.0.1", port))
+            for _ in range(1 + turns // 10):
+                peer.sendto(message(CON, EMPTY, 1), ("127.0.0.1", port))
             time.sleep(0.01)
         if process.poll() is None:
             process.kill()
