@@ -8,7 +8,7 @@ import tempfile
 
 from testing import memory, programs, worked
 from testing.coap import (
-    CON, CONTENT, EMPTY, ETAG, GET, NON, PROXY_URI, RST, UNAVAILABLE, URI_PATH, URI_QUERY, message,
+    ACK, CON, CONTENT, EMPTY, ETAG, GET, NON, PROXY_URI, RST, UNAVAILABLE, URI_PATH, URI_QUERY, message,
 )
 from testing.network import RESULT, Skipped, expect, expect_between
 from testing.ranges import CLIENT, KEPT, ORIGIN, Script, endpoint
@@ -133,7 +133,8 @@ def exchanges_that_come_and_go_take_no_memory_for_their_tables(program):
             start = memory.requests_of_start(memory.Refusals(folder, program), run)
         made.append(requests_of(program, run) - start)
     expect("how many requests for memory they make in tables that are almost full, and in others", made[1], made[0])
-    expect_between("how many requests for memory they make", 0, 6 * 427, made[0])
+    # Five for each, and some for what is made once: what is shared is copied for nobody.
+    expect_between("how many requests for memory they make", 0, 5 * 427 + 100, made[0])
 
 
 # Address space
@@ -211,3 +212,29 @@ def an_event_takes_no_longer_next_to_requests_that_wait(program):
 def an_event_takes_no_longer_next_to_requests_that_are_due(program):
     reset = message(RST, EMPTY, 1).hex()
     expect_the_same(program, lambda count: asked(count, count), f"0 0 {CLIENT} {reset}\n")
+
+
+def shared(rounds, clients):
+    """Lines in which an origin answers so many requests, each for so many clients that wait."""
+    script = Script()
+    for turn in range(rounds):
+        for n in range(clients):
+            uri = f"coap://{ORIGIN}/{turn}".encode()
+            script.come(0, endpoint(n), message(NON, GET, turn, b"", [(PROXY_URI, uri)]))
+        script.tick(0)
+        asked = script.ids + 1
+        script.ids += 1 + clients
+        answer = message(ACK, CONTENT, asked % 0x10000, (1 + turn).to_bytes(8, "big"), [max_age(0)], b"21")
+        script.come(0, ORIGIN, answer)
+        for _ in range(clients):
+            script.tick(0)
+    return "".join(script.events).encode()
+
+
+@case("MovesTheOthers")
+def a_client_is_answered_in_the_same_time_however_many_wait(program):
+    """If each that was answered moved all that are still to be, they would take three times as long."""
+    events = shared(16, 1000), shared(1, 16_000)
+    times = [[seconds(program, it) for it in events] for _ in range(4)]
+    few, many = (min(it) for it in zip(*times))
+    expect_between("how many times as long 16,000 take at once", 0.2, 2, many / few)

@@ -27,7 +27,8 @@ def recorded(program, turns, settings=()):
         how = {"stderr": subprocess.DEVNULL, "env": {**os.environ, **dict(it.split("=", 1) for it in settings)}}
         process, until = subprocess.Popen([*program, *words], **how), time.monotonic() + 3 * PATIENCE
         while process.poll() is None and time.monotonic() < until:
-            peer.sendto(message(CON, EMPTY, 1), ("127.0.0.1", port))
+            for _ in range(1 + turns // 10):
+                peer.sendto(message(CON, EMPTY, 1), ("127.0.0.1", port))
             time.sleep(0.01)
         if process.poll() is None:
             process.kill()
@@ -68,6 +69,14 @@ def draws_differ_from_run_to_run(program):
     runs = [[line.split()[1] for line in recorded(program, 8) if not line.startswith("#")] for _ in range(2)]
     expect("how many draws there are", [8, 8], [len(draws) for draws in runs])
     expect("whether both runs have the same", False, runs[0] == runs[1])
+
+
+@case("DrawsRepeat")
+def draws_are_any_of_a_second(program):
+    draws = [int(line.split()[1]) for line in recorded(program, 80) if not line.startswith("#")]
+    # Of a right program's so many draws none is in one of three parts once in 10^13 tries.
+    parts = {draw * 3 // 1001 for draw in draws}
+    expect("in which parts of a second there are draws", {0, 1, 2}, parts)
 
 
 @case("DrawsRepeat")

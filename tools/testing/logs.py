@@ -25,7 +25,7 @@ from testing.steps import T, TEMP, max_age, path
 # Functions that try a program, and the stand-ins that they must find wrong.
 CASES, case = case_list()
 # Some codes of responses that a client is sent in place of an answer.
-BAD_GATEWAY, UNAVAILABLE = 0xA2, 0xA3
+SERVER_ERROR, BAD_GATEWAY, UNAVAILABLE = 0xA0, 0xA2, 0xA3
 # A line: a word, and keys with values. No value has a blank, a quotation mark or an equals sign.
 LINE = re.compile(r'[a-z_]+( [a-z_]+=[!#-<>-~]+)+')
 F_SETPIPE_SZ = 1031
@@ -171,6 +171,10 @@ def answers_that_a_client_does_not_get(program):
         origin.answer(origin.expect_request(GET, [TEMP]), UNAVAILABLE, [max_age(7)])
         client.receive("5.03")
         log.expect_line("failed", 4, code="5.03", cause="origin", **about)
+        # another error of its origin, of which no line speaks
+        request = client.request(GET, [T, (URI_PATH, b"y")], kind=NON)
+        origin.answer(origin.expect_request(GET, [TEMP, (URI_PATH, b"y")]), SERVER_ERROR, [max_age(0)])
+        client.expect_response(request, SERVER_ERROR, [max_age(0)])
         # valid, though no tag was sent
         request = client.request(GET, [T, (URI_PATH, b"x")], kind=NON)
         origin.answer(origin.expect_request(GET, [TEMP, (URI_PATH, b"x")]), VALID, [(ETAG, b"\x01")])
@@ -231,6 +235,30 @@ def who_has_most_of_a_full_table(program):
         first.request(GET, [T, (URI_PATH, b"x")], kind=NON)
         log.await_lines("failed", 1)
         expect("how often it is said", 1, len(log.await_lines("full")))
+
+
+@case("PortsUncounted", "LinesTwice")
+def who_has_most_of_the_greatest_table(program):
+    with Stage(program) as stage:
+        log = Log(stage, "con_records = 65536\nclient_con_records = 1")
+        for _ in range(2):
+            log.client.request(GET, path("nowhere"))
+        about = {"count": "1/65536", "address": log.client.host, "has": 1, "ports": 1}
+        log.expect_line("full", 1, table="con_records", **about)
+
+
+@case("PortsUncounted", "LinesTwice")
+def of_two_that_have_as_much_the_lower_address_is_told(program):
+    with Stage(program) as stage:
+        log = Log(stage, "con_records = 4\nclient_con_records = 4")
+        low, high = (f"127.{it}.{random.randrange(1, 255)}.{random.randrange(1, 255)}" for it in (1, 2))
+        clients = [stage.peer(host=host, to=log.address) for host in (high, low, low)]
+        for client in (clients[0], *clients):
+            client.request(GET, path("nowhere"))
+            client.receive("a refusal")
+        log.client.request(GET, path("nowhere"))
+        about = {"count": "4/4", "address": low, "has": 2, "ports": 2}
+        log.expect_line("full", 1, table="con_records", **about)
 
 
 @case("PortsUncounted", "ClientIsTheFirst")

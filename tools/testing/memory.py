@@ -11,7 +11,7 @@ import tempfile
 import time
 
 from testing import programs, worked
-from testing.coap import ACK, CON, CONTENT, DELETED, EMPTY, GET, NON, PROXY_URI, message, read
+from testing.coap import ACK, CON, CONTENT, DELETED, EMPTY, GATEWAY_TIMEOUT, GET, NON, PROXY_URI, message, read
 from testing.network import (
     PATIENCE, RESULT, Came, Failed, Life, case_list, check_response, expect, expect_between, expect_datagram,
     expect_message,
@@ -26,6 +26,8 @@ START, ORIGIN = b"coap-proxyd: out of memory\n", b"127.0.0.1:5690"
 MANY = 1 << 40
 # How many origins are counted by themselves, besides those of maps, and the count of requests that were forwarded.
 ORIGINS, OPENED = 256, 'coap_proxyd_requests_total{outcome="opened"}'
+# How many segments of 255 bytes a long prefix has: its numbers take more room than there is for those of origins.
+PREFIX = 800
 # The worked runs that are played, and what each must write where an answer isn't stored for want of memory, which
 # ends nothing: one text for each such answer that shows. They came from the program and were checked by hand.
 RUNS = {
@@ -329,5 +331,52 @@ def counts_are_written_into_memory_that_is_there(stage):
     client.send(message(CON, EMPTY, client.new_id()))
     client.receive("a Reset")
     left = refusals.numbers[0]
-    await_metric(path, OPENED, ORIGINS)
+    numbers = await_metric(path, OPENED, ORIGINS)
     expect("how many requests for memory that takes", 0, left - refusals.numbers[0])
+    # No place is free, so that there might be others. A stand-in has clients and origins at other ports.
+    sent = [count for name, count in numbers.items() if name.startswith("coap_proxyd_origin_requests_total{")]
+    expect("how many origins are told of", ORIGINS + 1, len(sent))
+    expect("what all others were sent", 0, numbers['coap_proxyd_origin_requests_total{origin="other"}'])
+
+
+@case("NotCounted")
+def a_map_with_a_long_prefix_is_counted_in_memory_that_is_there(stage):
+    refusals, path = Refusals(stage.folder, stage.program), os.path.join(stage.folder, "counts.prom")
+    stage.program = refusals.program
+    refusals.refuse(MANY)
+    prefix = PREFIX * ("/" + "%01" * 255)
+    config = f"[[map]]\nprefix = '{prefix}'\norigin = 'coap://192.0.2.7'\n"
+    stage.proxy("--stats", "4", "--stats-file", path, config=config)
+    left = refusals.numbers[0]
+    expect("whether its requests for memory are counted", True, left < MANY)
+    expect("whether its counts were written by then", False, os.path.exists(path))
+    numbers = await_metric(path, "coap_proxyd_lost_turns_total", 0)
+    expect("how many requests for memory that takes", 0, left - refusals.numbers[0])
+    ways = [name for name in numbers if name.startswith("coap_proxyd_map_requests_total{") and prefix in name]
+    expect("how many numbers of the map there are", 13, len(ways))
+
+
+# Lines of a log
+
+
+@case("CodeChanged")
+def lines_are_written_into_memory_that_is_there(stage):
+    """Also of a target that is cut. What a step takes memory for it takes without a log, too."""
+    taken = []
+    for words in ((), ("--log",)):
+        refusals, origin, said = Refusals(stage.folder, stage.program), stage.peer(), stage.file("said.txt", "")
+        limits = f"[limits]\nexchange_ms = 1000\n[[map]]\nprefix = '/t'\norigin = 'coap://{origin.authority}/temp'\n"
+        program, stage.program = stage.program, refusals.program
+        with open(said, "wb") as output:
+            client = stage.peer(to=stage.proxy(*words, config=limits, output=output))
+        stage.program = program
+        refusals.refuse(MANY)
+        request = client.request(GET, path("t", *(4 * ["\n" * 255])), kind=NON)
+        origin.receive("a request")
+        client.expect_response(request, GATEWAY_TIMEOUT)
+        taken.append(MANY - refusals.numbers[0])
+    expect_between("how many requests for memory there are", 1, 99, taken[0])
+    expect("how many there are with a log", *taken)
+    with open(said, encoding="ascii") as file:
+        text = file.read()
+    expect("how many lines end a target", 2, text.count("... cause=unacknowledged"))

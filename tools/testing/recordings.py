@@ -254,6 +254,7 @@ def an_account_has_the_time_of_day_however_its_head_comes(program):
         ("parts of a line", (first[:1], first[1:] + since[:20], since[20:-1], since[-1:])),
         ("more than one read takes", (first + "".join(config) + since,)),
         ("a line at once, and many of them", (first, *config, since)),
+        ("a megabyte", (first, 60 * "".join(config), since)),
     ):
         # The number of a line that is wrong counts those of the head.
         bad = "".join(head).count("\n") + 2

@@ -4,7 +4,7 @@ import contextlib
 import tempfile
 import time
 
-from testing.coap import CON, CONTENT, EMPTY, GATEWAY_TIMEOUT, GET, NON, NOT_FOUND, PROXY_URI, RST, URI_PATH, message
+from testing.coap import ACK, CON, CONTENT, EMPTY, GATEWAY_TIMEOUT, GET, NON, NOT_FOUND, PROXY_URI, RST, URI_PATH, message
 from testing.hosts import paced
 from testing.leaps import Clock
 from testing.logs import Log, authority
@@ -118,16 +118,35 @@ def each_origin_that_was_silent_answers_again_once(program):
 def the_silent_origins_that_are_known_are_the_last_ones(program):
     limits = "".join(f"{key} = 512\nclient_{key} = 512\n" for key in ("exchanges", "waiters", "non_records"))
     with leaping(program, f"exchange_ms = 60000\n{limits}", NAMES) as log:
-        first, last = log.stage.peer(), log.stage.peer()
-        others = [f"127.250.{number // 250}.{number % 250}:9" for number in range(KNOWN - 1)]
-        for some in ([authority(first)], others, [authority(last)]):
+        first, second, last = (log.stage.peer() for _ in range(3))
+        others = [f"127.250.{number // 250}.{number % 250}:9" for number in range(KNOWN - 2)]
+        for some in ([authority(first)], [authority(second)], others, [authority(last)]):
             for at in some:
                 log.ask(f"coap://{at}/a")
                 log.settle()
             log.leap(61, [(log.client, len(some))])
-        for origin in (first, last):
+        for origin in (first, second, last):
             log.serve(origin, "b")
-        expect("which answers again", [authority(last)], [it["origin"] for it in log.await_lines("answers_again")])
+        told = [it["origin"] for it in log.await_lines("answers_again", 2)]
+        expect("which answer again", [authority(second), authority(last)], told)
+
+
+@case("LinesTwice")
+def what_nothing_awaits_is_no_answer_of_a_silent_origin(program):
+    with leaping(program, "exchange_ms = 60000", NAMES) as log:
+        origin = log.stage.peer()
+        log.ask(f"coap://{authority(origin)}/a")
+        asked = origin.receive("a request")
+        log.leap(61, [(log.client, 1)])
+        # A late response, alone and in the acknowledgement; a ping; and a request of its own, which is refused.
+        for kind in (NON, ACK):
+            origin.answer(asked, CONTENT, kind=kind)
+        for code in (EMPTY, GET):
+            origin.send(message(CON, code, origin.new_id()), log.address)
+        log.settle()
+        expect("what is said", [], [word for word, _ in log.lines() if word == "answers_again"])
+        log.serve(origin, "b")
+        expect("which answers again", [authority(origin)], [it["origin"] for it in log.await_lines("answers_again")])
 
 
 @case("LinesTwice", "PortsUncounted")

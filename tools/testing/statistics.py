@@ -10,7 +10,7 @@ from testing.coap import (
     ACK, BLOCK2, CHANGED, CON, CONTENT, EMPTY, GATEWAY_TIMEOUT, GET, NON, PROXY_URI, PUT, URI_PATH, message,
 )
 from testing.network import (
-    PATIENCE, Failed, case_list, expect, expect_between, expect_in, expect_like, expect_message, free_port,
+    PATIENCE, Failed, case_list, expect, expect_between, expect_in, expect_like, expect_message, free_port, has_ipv6,
 )
 from testing.steps import T, TEMP, change, expect_hit, fetch
 
@@ -46,7 +46,9 @@ def metrics(path):
             listen, labels = re.fullmatch(r'[a-z_]+\{listen="([^"]*)"(?:,(.*))?\}', words[0]).groups()
             listens.add(listen)
             name = words[0].split("{")[0]
-            numbers[f"{name}{{{labels}}}" if labels else name] = float(words[1]) if "." in words[1] else int(words[1])
+            name = f"{name}{{{labels}}}" if labels else name
+            expect(f"whether {name} is there already", False, name in numbers)
+            numbers[name] = float(words[1]) if "." in words[1] else int(words[1])
     expect("where it listens", True, len(listens) == 1 and LISTEN.fullmatch(listens.pop()) is not None)
     return numbers
 
@@ -97,7 +99,7 @@ def the_file_has_what_was_sent(stage):
 @case("NotCounted")
 def who_has_most_of_a_full_table(stage):
     path = os.path.join(stage.folder, "counts.prom")
-    limits = "[limits]\ncon_records = 8\nclient_con_records = 2\n"
+    limits = "[limits]\ncon_records = 65536\nclient_con_records = 2\n"
     client = stage.peer(to=stage.proxy("--stats", "1", "--stats-file", path, config=limits, version=2))
     for _ in range(3):
         client.request(GET, [T])
@@ -273,9 +275,11 @@ def an_answer_that_is_too_large_counts_as_that(stage):
         expect(storing, 0, numbers[f'coap_proxyd_answers_total{{storing="{storing}"}}'])
 
 
-def run_a_turn(program, *words):
-    """What a program with these words writes to standard error for a few turns of a socket."""
-    usual = [*program, "-A", "127.0.0.1", "-p", str(free_port()), "--turns", "2", *words]
+def run_a_turn(program, *words, at=None):
+    """What a program with these words writes to standard error for a few turns of a socket, at this address and port if one
+    is given."""
+    host, port = at or ("127.0.0.1", free_port())
+    usual = [*program, "-A", host, "-p", str(port), "--turns", "2", *words]
     done = subprocess.run(usual, stdin=subprocess.DEVNULL, stdout=subprocess.PIPE, stderr=subprocess.PIPE, timeout=20)
     lines = done.stderr.decode().splitlines()
     if done.returncode != 0:
@@ -324,7 +328,30 @@ def a_map_has_its_path_as_a_label(program):
         expect("where requests go", {prefix, "forward", "next", "none"}, ways)
 
 
+def two_maps_with_one_prefix_are_counted_together(program):
+    with tempfile.TemporaryDirectory(prefix="coap-proxyd-test-") as folder, tempfile.TemporaryDirectory() as another:
+        path, config = os.path.join(folder, "counts.prom"), os.path.join(another, "proxy.toml")
+        with open(config, "w", encoding="ascii") as file:
+            file.write("version = 1\n" + "[[map]]\nprefix = '/t'\norigin = 'coap://192.0.2.7'\n" * 2)
+        run_a_turn(program, "--stats-file", path, "--map", "/t=coap://192.0.2.8", "--config", config)
+        expect("the files", ["counts.prom"], os.listdir(folder))
+        ways = [it for name in metrics(path) for it in re.findall('map="([^"]*)",outcome="hit"', name)]
+        expect("where requests go", ["/t", "forward", "next", "none"], ways)
+
+
+def numbers_say_where_it_listens(program):
+    for host, shown in (("127.0.0.1", "127.0.0.1"), *([("::1", "[::1]")] if has_ipv6() else [])):
+        with tempfile.TemporaryDirectory(prefix="coap-proxyd-test-") as folder:
+            path, port = os.path.join(folder, "counts.prom"), free_port()
+            run_a_turn(program, "--stats-file", path, at=(host, port))
+            expect("the files", ["counts.prom"], os.listdir(folder))
+            with open(path, encoding="ascii") as file:
+                listens = set(re.findall('listen="([^"]*)"', file.read()))
+            expect("where it listens", {f"{shown}:{port}"}, listens)
+
+
 ENDS = (
     a_line_is_written_at_the_end_of_the_turns, what_cannot_be_written_is_said_once, a_file_alone_brings_no_lines,
-    a_map_of_all_paths_has_a_label, a_map_has_its_path_as_a_label,
+    a_map_of_all_paths_has_a_label, a_map_has_its_path_as_a_label, numbers_say_where_it_listens,
+    two_maps_with_one_prefix_are_counted_together,
 )
