@@ -1,6 +1,7 @@
 """The instructions that the program takes for an event, by valgrind's callgrind, and how many it may take."""
 
 import functools
+import os
 import re
 import shutil
 import subprocess
@@ -10,8 +11,9 @@ from concurrent.futures import ThreadPoolExecutor
 from testing import programs
 from testing.network import Failed, Skipped
 
-KINDS = ("miss", "conmiss", "con", "non", "again", "tick")
-CONFIG = """version = 2
+KINDS = ("miss", "conmiss", "queued", "con", "non", "again", "tick")
+NSTART = 16
+CONFIG = f"""version = 2
 names = ["proxy.test"]
 [limits]
 exchanges = 4096
@@ -20,23 +22,25 @@ con_records = 65536
 non_records = 65536
 cache_entries = 65536
 cache_bytes = 268435456
-nstart = 16
+nstart = {NSTART}
 client_exchanges = 4096
 client_waiters = 16384
 client_non_records = 65536
-client_con_records = {}
+client_con_records = {{}}
 """
 STORED = "coap://10.200.0.1/stored"
 LIFETIME = 247_000
-# What was measured last, for events of a kind next to so many open exchanges: the greater number of the program that is
-# built here and of that in bin/. Once events take less, `tools/instructions --bars` of both says what to put here; where
-# one takes more for a reason, that belongs into the message of the commit.
+# What was measured last of the program in bin/, for events of a kind next to so many open exchanges. Once events take
+# less, `tools/instructions --bars bin/coap-proxyd-x86_64` says what to put here; where one takes more for a reason, that
+# belongs into the message of the commit.
 MEASURED = {
-    ("miss", 1): 22_406, ("miss", 256): 22_566, ("conmiss", 1): 25_281, ("con", 1): 8486, ("non", 1): 8135,
-    ("again", 1): 1968, ("tick", 1): 635,
+    ("miss", 1): 19_102, ("miss", 256): 19_273, ("conmiss", 1): 21_549, ("queued", 256): 23_049, ("con", 1): 6985,
+    ("non", 1): 6643, ("again", 1): 1805, ("tick", 1): 665,
 }
-# How much more may be taken: another C library, and what a change costs at most of which nobody has to speak.
+# How much more may be taken: what a change costs at most of which nobody has to speak. What the kit builds in a folder
+# `out` has another C library, and fewer bodies in place of calls (tools/platforms/compile).
 MORE = 1.04
+MORE_IN_OUT = 1.26
 # How many events one number is the average of: what comes before them takes more or less with each start's secrets.
 FEW = 300
 
@@ -80,8 +84,27 @@ def hits(records, endpoints, expires, many):
         yield f"{n * step if n < records else LIFETIME + (n - records) * step} 0 {client} {get(True, n, STORED)}"
 
 
+def queued(opened, many):
+    """The lines of a replay: a stored response, `opened` requests to one origin, and for each of `many` more the answer
+    of the first that it was sent: two ticks send it the next one, and its answer to the client."""
+    yield from response(200)
+    for n in range(opened):
+        yield f"0 0 10.251.{n >> 8}.{n & 255}:40001 {get(False, n, f'coap://{origin(0)}/open{n:04}')}"
+        yield "0 0 tick"
+    sent = min(opened, NSTART)
+    for n in range(many):
+        message_id = 3 + n if n < sent else 3 + sent + 2 * (n - sent)
+        yield f"1 0 10.252.{n >> 8}.{n & 255}:40001 {get(False, n, f'coap://{origin(0)}/queued{n:04}')}"
+        yield f"1 0 {origin(0)}:5683 {content(message_id, 2 + n, 10)}"
+        yield "1 0 tick"
+        yield "1 0 tick"
+
+
 def events(kind, opened, many):
     """The lines of a replay: a stored response, `opened` requests that no origin answers, and `many` of the kind."""
+    if kind == "queued":
+        yield from queued(opened, many)
+        return
     yield from response(200)
     for n in range(opened):
         yield f"0 0 10.251.{n >> 8}.{n & 255}:40001 {get(False, n, f'coap://{origin(n)}/open{n:04}')}"
@@ -165,9 +188,10 @@ def each(program, client_records, lines, many):
     return (more - less) // many
 
 
-def most(kind, opened):
-    """How many instructions an event of a kind may take next to so many open exchanges."""
-    return int(MEASURED[kind, opened] * MORE)
+def most(program, kind, opened):
+    """How many instructions an event of a kind may take in a program next to so many open exchanges."""
+    is_in_out = os.path.basename(os.path.dirname(os.path.realpath(program))) == "out"
+    return int(MEASURED[kind, opened] * (MORE_IN_OUT if is_in_out else MORE))
 
 
 def measured(program):
@@ -187,6 +211,6 @@ def an_event_takes_no_more_instructions_than_it_may(program):
     if programs.is_emulated(program[-1]):
         raise Skipped("valgrind runs programs for this processor")
     for (kind, opened), number in measured(program[-1]).items():
-        if number > most(kind, opened):
-            wanted = f"at most {most(kind, opened)}, got {number}"
+        if number > most(program[-1], kind, opened):
+            wanted = f"at most {most(program[-1], kind, opened)}, got {number}"
             raise Failed(f"instructions for {kind} next to {opened} open exchanges: {wanted}")
