@@ -9,6 +9,7 @@ import tempfile
 import time
 
 from reading.messages import KINDS, code_name
+from testing import programs
 from testing.coap import ACK, CON, CONTENT, EMPTY, GATEWAY_TIMEOUT, GET, MAX_AGE, message, number, read
 from testing.hosts import paced
 from testing.leaps import AGES, LIFETIME, SLACK, Clock, expect_same_replay
@@ -21,6 +22,9 @@ CASES, case = case_list()
 # How fast the clock goes, for how many seconds there are requests, after how many the clients look whether they ask, and
 # how far the clock is set ahead then, if it is.
 SPEED, LASTS, PAUSE, LEAPS = 1_000, 1.0, 0.002, (1, 10, 100, 600, 86_400, 5 * 86_400)
+# How far a moment may be off that a program tells which is run by an emulator: two thousandths of a second were seen, which
+# are two seconds of its clock.
+SLACK_EMULATED = 10
 # How many days there are at least, and requests of each kind; for how many seconds it goes on for these; and the first
 # byte of a Reset.
 ENOUGH, LONGEST, RESET = 10, 5 * PATIENCE, 0x70
@@ -49,7 +53,8 @@ class Asking:
 class Days:
     """A proxy with a fast clock, which is recorded, its clients and its origin, and what all of them got."""
 
-    def __init__(self, stage, clock):
+    def __init__(self, stage, clock, slack):
+        self.slack = slack
         self.clock, self.rand, self.seen, self.answers, self.given = clock, random.Random(7252), [], {}, {}
         self.origin, self.recording = stage.peer(), os.path.join(stage.folder, "run.events")
         words = ("--map", f"/t=coap://{self.origin.authority}/temp", "--record", self.recording)
@@ -140,7 +145,7 @@ class Days:
         """Whether a reply is that of a duplicate: it must be the same while the request is remembered."""
         if client.reply is None:
             return False
-        if now - client.before < LIFETIME - SLACK:
+        if now - client.before < LIFETIME - self.slack:
             expect_datagram("the reply again", client.reply, data)
         self.counts["again"] += client.reply == data
         return client.reply == data
@@ -151,7 +156,7 @@ class Days:
         if came.code == EMPTY:
             self.counts["asked"] += 1
             client.awaits = client.data[4:6]
-            if last and last.seen < client.asked and now - last.sent + SLACK < last.seconds:
+            if last and last.seen < client.asked and now - last.sent + self.slack < last.seconds:
                 raise Failed(f"an answer of {last.seconds} s wasn't used {now - last.sent} s later")
             return
         self.counts["hit"] += 1
@@ -175,10 +180,10 @@ class Days:
         expect("a reply", (code_name(CONTENT), True), told, "the code", "whether the origin has sent it")
         answer, values = self.answers[came.payload], [number(it) for option, it in came.options if option == MAX_AGE]
         expect("how many Max-Age it has", 1, len(values))
-        if before - answer.seen - SLACK > answer.seconds:
+        if before - answer.seen - self.slack > answer.seconds:
             raise Failed(f"an answer of {answer.seconds} s was used {before - answer.seen} s later")
-        shortest = max(0, before - answer.seen - SLACK)
-        expect_between("Max-Age", left(answer.seconds, now - answer.sent + SLACK), left(answer.seconds, shortest), values[0])
+        shortest = max(0, before - answer.seen - self.slack)
+        expect_between("Max-Age", left(answer.seconds, now - answer.sent + self.slack), left(answer.seconds, shortest), values[0])
         answer.seen = min(answer.seen, now)
         return answer
 
@@ -188,7 +193,7 @@ def days_go_by_in_seconds(program):
     with tempfile.TemporaryDirectory(prefix="coap-proxyd-test-") as folder:
         clock = Clock(folder, SPEED)
         with Stage(paced(program, SPEED, f"CLOCK_AHEAD={clock.path}")) as stage:
-            days = Days(stage, clock)
+            days = Days(stage, clock, SLACK_EMULATED if programs.is_emulated(program[-1]) else SLACK)
             days.play()
             if days.is_little():
                 raise Broken(f"this tries little: {clock.ahead} s, {days.counts}")
