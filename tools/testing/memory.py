@@ -377,6 +377,10 @@ def lines_are_written_into_memory_that_is_there(stage):
         taken.append(MANY - refusals.numbers[0])
     expect_between("how many requests for memory there are", 1, 99, taken[0])
     expect("how many there are with a log", *taken)
-    with open(said, encoding="ascii") as file:
-        text = file.read()
-    expect("how many lines end a target", 2, text.count("... cause=unacknowledged"))
+    # The last line is written after the response is sent.
+    until, found = time.monotonic() + PATIENCE, 0
+    while found < 2 and time.monotonic() < until:
+        time.sleep(0.02)
+        with open(said, encoding="ascii") as file:
+            found = file.read().count("... cause=unacknowledged")
+    expect("how many lines end a target", 2, found)
