@@ -1,39 +1,51 @@
 //! Cache keys that are found by their digests.
-ghost use Rattle.std.specs.Prelude.{◌≡◌, IfOk, OnOk};
+ghost use Rattle.std.specs.Prelude.{◌≡◌, min, IfOk, OnOk};
 ghost use Rattle.std.specs.Cmp.{partial_equiv_from_equiv};
 ghost use Rattle.coap_store.specs.DigestedAlike.{digested_equiv, digested_fed};
 ghost use Rattle.coap_store.specs.Digested.{digested, fed_digested, same_digested};
 ghost use Rattle.coap_store.specs.Digests.{digests_of};
+ghost use Rattle.coap_store.specs.Sizes.{key_size};
 
 use crate::digests::{Digests, digests_of};
 use crate::key::CacheKey;
 use crate::shared_key::KeySource;
+use crate::size::bytes_of_key;
 use coap_message::OutOfMemory;
 use std::alloc::Global;
 use std::hash::{Hash, Hasher};
 use std::marker::Model;
 use std::rc::Rc;
 
-/// A cache key that all who need it share, with its digest and that of its target. It is hashed as
-/// its digest, so those who don't know the secret can't choose keys that meet in a map. A contract
-/// sees the key, and the secret that the digests were made with.
+/// A cache key that all who need it share, with what it counts for, its digest and that of its
+/// target. It is hashed as its digest, so those who don't know the secret can't choose keys that
+/// meet in a map. A contract sees the key, and the secret that the digests were made with.
 #[derive(Drop)]
 pub struct DigestedKey {
-    shared: Rc<CacheKey>,
+    shared: Rc<CountedKey>,
     secret: u64,
     digests: Digests,
 }
 
+/// A cache key, and the number of bytes that it counts for in an entry.
+#[derive(Drop)]
+struct CountedKey {
+    key: CacheKey,
+    bytes: u64,
+}
+
 impl Model for DigestedKey {
-    ghost use Rattle.std.specs.Prelude.{◌≡◌};
+    ghost use Rattle.std.specs.Prelude.{◌≡◌, ◌^◌, ◌-◌, min};
     ghost use Rattle.coap_store.specs.Digested.{Digested, digested};
     ghost use Rattle.coap_store.specs.Digests.{digests_of};
+    ghost use Rattle.coap_store.specs.Sizes.{key_size};
 
     ghost Value = { Digested };
 
-    ghost view = { λ d. digested d.secret d.shared.value };
+    ghost view = { λ d. digested d.secret d.shared.value.key };
 
-    ghost invariant = { λ d. d.digests ≡ digests_of d.secret d.shared.value };
+    ghost invariant = { λ d.
+        (d.digests ≡ digests_of d.secret d.shared.value.key)
+        × (d.shared.value.bytes ≡ min (key_size d.shared.value.key) (2 ^ 64 - 1)) };
 }
 
 impl DigestedKey {
@@ -45,8 +57,9 @@ impl DigestedKey {
         ensures { IfOk result (λ made. made ≡ digested secret key) }
     {
         let digests = digests_of(secret, &key);
+        let bytes = bytes_of_key(&key);
         Ok(DigestedKey {
-            shared: Rc::new(alloc, key)?,
+            shared: Rc::new(alloc, CountedKey { key, bytes })?,
             secret,
             digests,
         })
@@ -56,7 +69,7 @@ impl DigestedKey {
     pub fn key(&self) -> &CacheKey
         ensures { result.now ≡ self.now.key }
     {
-        self.shared.as_ref()
+        &self.shared.as_ref().key
     }
 
     /// The secret that its digests were made with.
@@ -71,6 +84,14 @@ impl DigestedKey {
         ensures { result ≡ digests_of self.now.secret self.now.key }
     {
         self.digests
+    }
+
+    /// How many of the bytes of its entry the key counts for, of which there are at most
+    /// `u64::MAX`.
+    pub fn bytes(&self) -> u64
+        ensures { result ≡ min (key_size self.now.key) u64.MAX }
+    {
+        self.shared.as_ref().bytes
     }
 
     /// The same key for one more who needs it. Doesn't allocate.
@@ -94,8 +115,12 @@ impl DigestedKey {
     pub(crate) fn copied(&self, alloc: Global) -> Result<DigestedKey, OutOfMemory>
         ensures { IfOk result (λ copy. copy ≡ self.now) }
     {
+        let copy = CountedKey {
+            key: self.key().copied()?,
+            bytes: self.bytes(),
+        };
         Ok(DigestedKey {
-            shared: Rc::new(alloc, self.key().copied()?)?,
+            shared: Rc::new(alloc, copy)?,
             secret: self.secret,
             digests: self.digests,
         })
@@ -134,11 +159,26 @@ impl DigestedKey {
         ensures { OnOk result (self.new ≡ digested secret (S.made source.now)) }
     {
         let written = match Rc::get_mut(&mut self.shared) {
-            Some(key) => source.write_to(key),
+            Some(counted) => counted.overwrite(source),
             None => Err(OutOfMemory),
         };
         self.secret = secret;
-        self.digests = digests_of(secret, self.shared.as_ref());
+        self.digests = digests_of(secret, &self.shared.as_ref().key);
+        written
+    }
+}
+
+impl CountedKey {
+    /// Overwrites the key, and counts it.
+    ///
+    /// # Errors
+    /// Out of memory. The key may then hold parts of both.
+    fn overwrite<S: KeySource>(&mut self, source: &S) -> Result<(), OutOfMemory>
+        ensures key { OnOk result (self.new.key ≡ S.made source.now) }
+        ensures counted { self.new.bytes ≡ min (key_size self.new.key) u64.MAX }
+    {
+        let written = source.write_to(&mut self.key);
+        self.bytes = bytes_of_key(&self.key);
         written
     }
 }

@@ -58,7 +58,7 @@ pub use shared_key::{KeySource, SharedKey};
 pub use shared_message::SharedMessage;
 pub use show::{is_cacheable, put_max_age, put_response, show_into};
 pub use showing::shown;
-pub use size::bytes_of;
+pub use size::{bytes_of, bytes_with};
 pub use store::{Put, Store};
 pub use stored::{EventNumber, Stored, left_at};
 pub use tag::tag_of;

@@ -1,10 +1,11 @@
 //! Cache keys that are shared.
-ghost use Rattle.std.specs.Prelude.{◌≡◌, IfOk, OnOk};
+ghost use Rattle.std.specs.Prelude.{◌≡◌, min, IfOk, OnOk};
 ghost use Rattle.std.specs.Cmp.{partial_equiv_from_equiv};
 ghost use Rattle.coap_store.specs.Alike.{keys_equiv};
 ghost use Rattle.coap_store.specs.Digested.{digested};
 ghost use Rattle.coap_store.specs.Digests.{digests_of};
 ghost use Rattle.coap_store.specs.Keys.{same_key};
+ghost use Rattle.coap_store.specs.Sizes.{key_size};
 
 use crate::digested_key::DigestedKey;
 use crate::digests::{Digests, digests_of};
@@ -90,6 +91,14 @@ impl SharedKey {
         } else {
             digests_of(secret, self.key())
         }
+    }
+
+    /// How many of the bytes of its entry the key counts for, of which there are at most
+    /// `u64::MAX`.
+    pub fn bytes(&self) -> u64
+        ensures { result ≡ min (key_size self.now) u64.MAX }
+    {
+        self.digested.bytes()
     }
 
     /// The same key for one more who needs it. Doesn't allocate.

@@ -1,6 +1,7 @@
 //! How many bytes an entry counts for.
 ghost use Rattle.std.specs.Prelude.{◌≡◌, ◌+◌, min};
-ghost use Rattle.coap_store.specs.Sizes.{options_size, size_of, value_size, values_size};
+ghost use Rattle.coap_store.specs.declared.key.CacheKey.{CacheKey};
+ghost use Rattle.coap_store.specs.Sizes.{key_size, options_size, size_of, value_size, values_size};
 
 use crate::key::CacheKey;
 use crate::stored::Stored;
@@ -15,16 +16,31 @@ use coap_message::{OptionList, Pieces};
 pub fn bytes_of(key: &CacheKey, stored: &Stored) -> u64
     ensures { result ≡ min (size_of key.now stored.now) u64.MAX }
 {
-    let response = stored.response.message();
-    let bytes = (response.payload.len() as u64).saturating_add(64);
+    bytes_with(bytes_of_key(key), stored)
+}
+
+/// How many of the bytes that an entry counts for are those of its key, which saturate likewise.
+pub(crate) fn bytes_of_key(key: &CacheKey) -> u64
+    ensures exact { result ≡ min (key_size key.now) u64.MAX }
+{
     let bytes = match &key.target.host {
-        Some(host) => with_value(bytes, host.as_slice()),
-        None => bytes,
+        Some(host) => with_value(0, host.as_slice()),
+        None => 0,
     };
     let bytes = with_values(bytes, &key.target.path);
     let bytes = with_values(bytes, &key.target.query);
-    let bytes = with_options(bytes, &key.options);
-    with_options(bytes, &response.options)
+    with_options(bytes, &key.options)
+}
+
+/// `bytes_of` an entry of which the key counts for so many. Doesn't allocate.
+pub fn bytes_with(key_bytes: u64, stored: &Stored) -> u64
+    ensures exact { (key : CacheKey)
+        → key_bytes ≡ min (key_size key) u64.MAX
+        → result ≡ min (size_of key stored.now) u64.MAX }
+{
+    let response = stored.response.message();
+    let bytes = (response.payload.len() as u64).saturating_add(64);
+    with_options(bytes.saturating_add(key_bytes), &response.options)
 }
 
 /// Adds a value to the count.

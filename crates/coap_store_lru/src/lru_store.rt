@@ -17,7 +17,7 @@ use crate::recent::Recent;
 use crate::target_index::TargetIndex;
 use coap_endpoint::Target;
 use coap_message::{Moment, OutOfMemory};
-use coap_store::{CacheKey, DigestedKey, Evictions, Put, SharedKey, Store, Stored};
+use coap_store::{CacheKey, DigestedKey, Evictions, Put, SharedKey, Store, Stored, bytes_with};
 use std::alloc::Global;
 use std::collections::HashSet;
 use std::hash::BuildHasher;
@@ -103,7 +103,7 @@ impl<H: BuildHasher + Copy> Store for LruStore<H> {
     }
 
     fn put(&mut self, key: SharedKey, stored: Stored) -> Put {
-        let size = coap_store::bytes_of(key.key(), &stored);
+        let size = bytes_with(key.bytes(), &stored);
         if size > self.most_bytes {
             self.forget(&key);
             return Put::TooLarge;
@@ -171,7 +171,7 @@ struct Measured {
 fn bytes_of(key: &DigestedKey, stored: &Stored) -> u64
     ensures { result ≡ min (size_of key.now.key stored.now) (2 ^ 64 - 1) }
 {
-    coap_store::bytes_of(key.key(), stored)
+    bytes_with(key.bytes(), stored)
 }
 
 /// Whether the entry with a key is the most recently used one, which is found without hashing the
