@@ -106,6 +106,7 @@ impl<S: Store + Drop> State<S> {
             result out.old out.new self.old self.new }
     {
         let client = DigestedEndpoint::new(arrival.from);
+        self.seek_joiner(client);
         if !self.has_room_to_join(arrival.now, client) {
             return self.overload(arrival, out);
         }
@@ -135,6 +136,7 @@ impl<S: Store + Drop> State<S> {
             return self.refuse(arrival, code, out);
         }
         let client = DigestedEndpoint::new(arrival.from);
+        self.seek_opener(client);
         if !self.has_room_to_open(arrival.now, client) {
             return self.overload(arrival, out);
         }

@@ -144,6 +144,20 @@ impl<S: Store + Drop> State<S> {
         self.under_way.seek_exchange(number);
     }
 
+    /// Looks for what is counted of a client that is to open an exchange, likewise.
+    pub(crate) fn seek_opener(&mut self, client: DigestedEndpoint)
+        ensures { self.new ≡ self.old }
+    {
+        self.under_way.seek_opener(client);
+    }
+
+    /// Looks for what is counted of a client that is to join one, likewise.
+    pub(crate) fn seek_joiner(&mut self, client: DigestedEndpoint)
+        ensures { self.new ≡ self.old }
+    {
+        self.under_way.seek_joiner(client);
+    }
+
     /// The number of Message IDs reserved for requests that are still to be sent, and for waiters
     /// that are still to be served.
     fn reserved(&self) -> u64

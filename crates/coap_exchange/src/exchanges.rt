@@ -39,7 +39,7 @@ pub struct Exchanges {
     pub(crate) queued: usize,
     /// The number of exchanges with each endpoint.
     pub(crate) endpoints: EndpointMap,
-    /// The number of exchanges that each client opened.
+    /// The number of exchanges in the table that each client opened.
     pub(crate) clients: EndpointMap,
     /// What they are looked up by.
     pub(crate) index: Index,
@@ -148,14 +148,15 @@ impl Exchanges {
         count_of(&self.clients, client)
     }
 
-    /// The clients that opened exchanges, with how many each has opened.
+    /// The clients that opened the exchanges in progress, with how many of these each opened.
     pub fn clients(&self) -> &EndpointMap
         ensures exact { AreOfClients is_opened_by self.now.items result.now }
     {
         &self.clients
     }
 
-    /// The number of exchanges ever admitted.
+    /// The number of exchanges ever admitted, without those withdrawn. The model's state calls it
+    /// `opened`, and has `admitted` for waiters.
     pub fn admitted(&self) -> u64
         ensures exact { result ≡ self.now.admitted }
     {
@@ -183,6 +184,14 @@ impl Exchanges {
         ensures { self.new ≡ self.old }
     {
         self.table.seek(number);
+    }
+
+    /// Looks for what is counted of a client, so that the calls about it that follow find it at
+    /// once.
+    pub(crate) fn seek_client(&mut self, client: DigestedEndpoint)
+        ensures { self.new ≡ self.old }
+    {
+        self.clients.seek(client);
     }
 
     /// The answer of the exchange numbered `number`, if it has come.

@@ -32,6 +32,7 @@ mod exchanges;
 mod index;
 mod indexed_exchange;
 mod opening;
+mod ready;
 mod send_queue;
 mod table;
 mod turns;

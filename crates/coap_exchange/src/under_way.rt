@@ -6,8 +6,6 @@ ghost use Rattle.coap_pending.specs.declared.waiter.Waiter.{Waiter};
 ghost use Rattle.coap_pending.specs.Due.{first_due};
 ghost use Rattle.coap_pending.specs.Exchanges.{acked, answered, fire_at, fired_exchange, is_done, is_opened_by, is_queued, is_sent, sent, tainted_by, IsDue};
 ghost use Rattle.coap_exchange.specs.Opening.{opened};
-ghost use Rattle.coap_exchange.specs.Ready.{ready_at, ready_in, Tables};
-ghost use Rattle.coap_exchange.specs.Answered.{got_by};
 ghost use Rattle.coap_pending.specs.Table.{Table, item_at, admitted_to, without, withdrawn, changed_at, all_changed, count, IsTable};
 ghost use Rattle.coap_pending.specs.Waiters.{delivered, due_after, fired_waiter, is_of, is_waiting, joined, waits_for};
 ghost use Rattle.coap_pending.specs.Waiters as waiters;
@@ -15,7 +13,8 @@ ghost use Rattle.coap_exchange.specs.Updates.{updated_at};
 
 use crate::exchanges::Exchanges;
 use crate::opening::Opening;
-use crate::waiters::{Waiters, due_at};
+use crate::ready::{got_in, ready_in, ready_since};
+use crate::waiters::Waiters;
 use coap_endpoint::Target;
 use coap_message::{Moment, OutOfMemory, Seq};
 use coap_pending::due::sooner;
@@ -228,6 +227,22 @@ impl UnderWay {
         }
     }
 
+    /// Looks for what is counted of a client that is to open an exchange and to wait for it,
+    /// likewise for the calls about it.
+    pub fn seek_opener(&mut self, client: DigestedEndpoint)
+        ensures { self.new ≡ self.old }
+    {
+        self.exchanges.seek_client(client);
+        self.waiters.seek_client(client);
+    }
+
+    /// `seek_opener`, for one that is only to wait.
+    pub fn seek_joiner(&mut self, client: DigestedEndpoint)
+        ensures { self.new ≡ self.old }
+    {
+        self.waiters.seek_client(client);
+    }
+
     /// Notes an answer: `Exchanges::answered`. The first waiter of its exchange is then to be
     /// served.
     pub fn answered(&mut self, number: ExchangeNumber, answer: Answer)
@@ -412,46 +427,4 @@ impl UnderWay {
         let is = ready_since(got, &self.waiters, exchange);
         self.ready.replace(was, is);
     }
-}
-
-/// The moment when the answer of an exchange came, and the first waiter that waits for it, if there
-/// is an exchange, an answer and a waiter.
-fn ready_in(
-    exchanges: &Exchanges,
-    waiters: &Waiters,
-    number: ExchangeNumber,
-) -> Option<(Moment, WaiterNumber)>
-    ensures exact { result
-        ≡ ready_at (record { exchanges = exchanges.now; waiters = waiters.now }) number }
-    ensures sound { IsTable waiters.now }
-{
-    let got = got_in(exchanges, Some(number));
-    ready_since(got, waiters, Some(number))
-}
-
-/// The moment when the answer of an exchange came, if there is an exchange and an answer.
-fn got_in(exchanges: &Exchanges, number: Option<ExchangeNumber>) -> Option<Moment>
-    ensures exact { result ≡ got_by number exchanges.now.items }
-{
-    let answer = exchanges.answer_of(number?)?;
-    Some(answer.got)
-}
-
-/// `ready_in` of the exchange, if there is one, given the moment when its answer came, if it has.
-fn ready_since(
-    got: Option<Moment>,
-    waiters: &Waiters,
-    number: Option<ExchangeNumber>,
-) -> Option<(Moment, WaiterNumber)>
-    ensures exact { (t : Tables)
-        → t.waiters ≡ waiters.now
-        → got ≡ got_by number t.exchanges.items
-        → result ≡ ready_in t number }
-    ensures sound { IsTable waiters.now }
-{
-    waiters.laws();
-    let (Some(got), Some(number)) = (got, number) else {
-        return None;
-    };
-    due_at(got, waiters.first_waiting(number))
 }

@@ -172,6 +172,13 @@ impl Waiters {
         self.table.seek(number);
     }
 
+    /// Looks for what is counted of a client, likewise.
+    pub(crate) fn seek_client(&mut self, client: DigestedEndpoint)
+        ensures { self.new ≡ self.old }
+    {
+        self.clients.seek(client);
+    }
+
     /// The number of the waiter whose answer was sent to the endpoint `at` with Message ID `id`,
     /// less than 247,000 milliseconds before `now` (RFC 7252, 4.4). If there are several, the
     /// first.

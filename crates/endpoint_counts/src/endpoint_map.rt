@@ -1,5 +1,5 @@
 //! Counts by endpoint.
-ghost use Rattle.std.specs.Prelude.{◌≡◌, ◌<◌, length, if◌then◌else◌, Some, None, IfOk};
+ghost use Rattle.std.specs.Prelude.{◌≡◌, ◌<◌, length, if◌then◌else◌, Some, None, IfOk, IsTrue};
 ghost use Rattle.coap_endpoint.specs.declared.endpoint.Endpoint.{Endpoint};
 ghost use Rattle.endpoint_counts.specs.Endpoints.{is_one};
 ghost use Rattle.endpoint_counts.specs.Slots.{found, is_entry_of, AreDistinct, AreGapless, AreSome};
@@ -19,9 +19,12 @@ pub struct EndpointMap {
     slots: Slots,
     /// The numbers of the places, by the digest of the endpoint.
     places: HashedIndex,
-    /// The number of the place that was set last. An endpoint is looked for there first: what an
-    /// exchange or a client does is often followed by what it does next.
+    /// The number of the place that was set or sought last. An endpoint is looked for there first:
+    /// two changes in a row are often of the same endpoint.
     last: u64,
+    /// An endpoint without a place, if one was looked for: it is often looked for again before it
+    /// gets one.
+    absent: Option<DigestedEndpoint>,
 }
 
 impl Drop for EndpointMap {
@@ -30,6 +33,7 @@ impl Drop for EndpointMap {
             slots: _,
             places: _,
             last: _,
+            absent: _,
         } = self;
     }
 }
@@ -37,8 +41,9 @@ impl Drop for EndpointMap {
 impl Model for EndpointMap {
     ghost use Rattle.endpoint_counts.specs.declared.slots.Entry.{Entry};
     ghost use Rattle.endpoint_counts.specs.IndexOf.{IsIndexOf};
-    ghost use Rattle.endpoint_counts.specs.Slots.{entry_key, AreDistinct, AreSome};
-    ghost use Rattle.coap_pending.specs.Table.{Table, IsTable};
+    ghost use Rattle.endpoint_counts.specs.Slots.{entry_key, is_entry_of, AreDistinct, AreSome};
+    ghost use Rattle.coap_pending.specs.Table.{Table, first_that, IsTable};
+    ghost use Rattle.std.specs.Prelude.{◌≡◌, None, IfSome};
 
     ghost Value = { Table Entry };
 
@@ -48,7 +53,8 @@ impl Model for EndpointMap {
         IsIndexOf entry_key m.slots.items m.slots.limit m.places
         × AreDistinct m.slots.items
         × IsTable m.slots
-        × AreSome m.slots.items };
+        × AreSome m.slots.items
+        × IfSome m.absent (λ at. first_that (is_entry_of at) m.slots.items ≡ None) };
 }
 
 impl EndpointMap {
@@ -65,6 +71,7 @@ impl EndpointMap {
             slots,
             places,
             last: 0,
+            absent: None,
         })
     }
 
@@ -115,6 +122,7 @@ impl EndpointMap {
             ≡ (if is_one at e then Some counts else found e self.old.items) }
     {
         let entry = Entry { peer: at, counts };
+        self.absent = None;
         if let Some(number) = place {
             self.last = number;
             self.slots.set(number, entry);
@@ -140,6 +148,7 @@ impl EndpointMap {
         let Some(moved) = self.slots.last() else {
             unreachable!()
         };
+        self.absent = None;
         self.places
             .rekey(number, Some(at.digest()), Some(moved.peer.digest()));
         self.slots.set(number, moved);
@@ -155,7 +164,21 @@ impl EndpointMap {
         if self.is_at(self.last, at) {
             return Some(self.last);
         }
+        if self.is_absent(at) {
+            return None;
+        }
         self.place_by_digest(at)
+    }
+
+    /// Looks for the place of an endpoint, so that the calls about it that follow find it, or that
+    /// it has none, at once.
+    pub fn seek(&mut self, at: DigestedEndpoint)
+        ensures { self.new ≡ self.old }
+    {
+        match self.place_of(at) {
+            Some(number) => self.last = number,
+            None => self.absent = Some(at),
+        }
     }
 
     /// The number of the place of an endpoint, found by its digest.
@@ -171,6 +194,17 @@ impl EndpointMap {
             after = number;
         }
         None
+    }
+
+    /// Whether an endpoint is the one that is known to have no place.
+    #[inline(always)]
+    fn is_absent(&self, at: DigestedEndpoint) -> bool
+        ensures exact { IsTrue result → first_that (is_entry_of at) self.now.items ≡ None }
+    {
+        match self.absent {
+            Some(absent) => absent.endpoint() == at.endpoint(),
+            None => false,
+        }
     }
 
     /// Whether an endpoint has the place of this number.

@@ -23,20 +23,20 @@ returns-then-is_err g c = remembered-as c.args.arrival (too-long c.requires.ask 
 pub overload-requires : goal.overload-requires
 overload-requires g c = record {
   can = record {
-    reply = c.requires.ask.reply;
-    fits = fits-as (turned-away c.requires.ask (sym c.put_request.ensures.exact ∙ c.if-is_err.ensures.negation) (ap (has_room_to_open c.args.self.now c.args.arrival.now) (sym c.new-client.ensures.exact) ∙ sym c.if-not-has_room_to_open.ensures)) c.put_request.ensures.kept c.requires.can.fits;
+    reply = rw c.seek_opener.ensures c.requires.ask.reply;
+    fits = rw c.seek_opener.ensures (fits-as (turned-away c.requires.ask (sym c.put_request.ensures.exact ∙ c.if-is_err.ensures.negation) (ap (has_room_to_open c.args.self.now c.args.arrival.now) (sym c.new-client.ensures.exact) ∙ sym (rw c.seek_opener.ensures at c.if-not-has_room_to_open.ensures))) c.put_request.ensures.kept c.requires.can.fits);
   };
 }
 
 pub returns-then-not-has_room_to_open : goal.returns-then-not-has_room_to_open
-returns-then-not-has_room_to_open g c = remembered-as c.args.arrival (turned-away c.requires.ask (sym c.put_request.ensures.exact ∙ c.if-is_err.ensures.negation) (ap (has_room_to_open c.args.self.now c.args.arrival.now) (sym c.new-client.ensures.exact) ∙ sym c.if-not-has_room_to_open.ensures)) c.put_request.ensures.kept c.overload.ensures
+returns-then-not-has_room_to_open g c = remembered-as c.args.arrival (turned-away c.requires.ask (sym c.put_request.ensures.exact ∙ c.if-is_err.ensures.negation) (ap (has_room_to_open c.args.self.now c.args.arrival.now) (sym c.new-client.ensures.exact) ∙ sym (rw c.seek_opener.ensures at c.if-not-has_room_to_open.ensures))) c.put_request.ensures.kept (rw c.seek_opener.ensures at c.overload.ensures)
 
 pub returns : goal.returns
-returns g c = remembered-as c.args.arrival (opened c.requires.ask (sym c.put_request.ensures.exact ∙ c.if-is_err.ensures.negation) (ap (has_room_to_open c.args.self.now c.args.arrival.now) (sym c.new-client.ensures.exact) ∙ sym c.if-not-has_room_to_open.ensures)) (c.in_ok-copy.ensures.kept ∙ c.put_request.ensures.kept) c.open.ensures
+returns g c = remembered-as c.args.arrival (opened c.requires.ask (sym c.put_request.ensures.exact ∙ c.if-is_err.ensures.negation) (ap (has_room_to_open c.args.self.now c.args.arrival.now) (sym c.new-client.ensures.exact) ∙ sym (rw c.seek_opener.ensures at c.if-not-has_room_to_open.ensures))) (c.in_ok-copy.ensures.kept ∙ c.put_request.ensures.kept) (rw c.seek_opener.ensures at c.open.ensures)
 
 pub open-requires-clause-can : goal.open-requires-clause-can
 open-requires-clause-can g c = record {
-  reply = c.requires.ask.reply;
+  reply = rw c.seek_opener.ensures c.requires.ask.reply;
   fits =
-      fits-as (opened c.requires.ask (sym c.put_request.ensures.exact ∙ c.if-is_err.ensures.negation) (ap (has_room_to_open c.args.self.now c.args.arrival.now) (sym c.new-client.ensures.exact) ∙ sym c.if-not-has_room_to_open.ensures)) (c.in_ok-copy.ensures.kept ∙ c.put_request.ensures.kept) c.requires.can.fits;
+      rw c.seek_opener.ensures (fits-as (opened c.requires.ask (sym c.put_request.ensures.exact ∙ c.if-is_err.ensures.negation) (ap (has_room_to_open c.args.self.now c.args.arrival.now) (sym c.new-client.ensures.exact) ∙ sym (rw c.seek_opener.ensures at c.if-not-has_room_to_open.ensures))) (c.in_ok-copy.ensures.kept ∙ c.put_request.ensures.kept) c.requires.can.fits);
 }

@@ -58,7 +58,7 @@ rest c = c.pop.ensures ∙ ap (λ (t : Table Entry). withdrawn t) c.set.ensures
 pub invariant_of-self : goal.invariant_of-self
 invariant_of-self c =
     let all = map-less c.self.inside.slots c.self.invariant.2 c.self.inside.places c.self.invariant.0 c.self.invariant.1 c.args.at c.in-Some.number (ap (λ (t : Table Entry). first_that (is_entry_of c.args.at) t.items) c.self.view_is ∙ sym c.requires.place ∙ c.in-Some.is) c.in-Some-last.moved (end c) c.rekey.new.self c.rekey-2.new.self (one c) (two c) c.self.invariant.3 in
-    rw (rest c) (all.0, all.1, all.2, all.3)
+    rw (rest c) (all.0, all.1, all.2, all.3, tt)
 
 pub returns-clause-exact : goal.returns-clause-exact
 returns-clause-exact c = λ e.

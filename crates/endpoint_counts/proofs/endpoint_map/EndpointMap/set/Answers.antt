@@ -19,7 +19,7 @@ set-requires-clause-last c = (given c.self.inside.slots c.self.invariant.2 c.sel
 pub invariant_of-self : goal.invariant_of-self
 invariant_of-self c =
     let all = map-set c.self.inside.slots c.self.invariant.2 c.self.inside.places c.self.invariant.0 c.self.invariant.1 c.args.at c.in-Some.number (ap (λ (t : Table Entry). first_that (is_entry_of c.args.at) t.items) c.self.view_is ∙ sym c.requires.place ∙ c.in-Some.is) c.args.counts c.requires.some c.self.invariant.3 in
-    rw c.set.ensures (all.0, all.1, all.2, all.3)
+    rw c.set.ensures (all.0, all.1, all.2, all.3, tt)
 
 pub returns-in-Some-clause-exact : goal.returns-in-Some-clause-exact
 returns-in-Some-clause-exact c = λ e.
@@ -58,7 +58,7 @@ invariant_of-self-2 c =
     let none : found c.args.at c.self.inside.slots.items ≡ None = first-none c.args.at c.self.inside.slots.items c.self.invariant.2.rising (ap (λ (t : Table Entry). first_that (is_entry_of c.args.at) t.items) c.self.view_is ∙ sym c.requires.place ∙ c.in_default.is) in
     let room : length c.self.inside.slots.items < c.self.inside.slots.limit = subst (λ (t : Table Entry). found c.args.at t.items ≡ None → length t.items < t.limit) (sym c.self.view_is) c.requires.room none in
     let all = map-more c.self.inside.slots c.self.invariant.2 c.self.inside.places c.self.invariant.0 c.self.invariant.1 c.args.at c.args.counts c.rekey.new.self none room (comes c) c.requires.some c.self.invariant.3 in
-    rw c.push.ensures (all.0, all.1, all.2, all.3)
+    rw c.push.ensures (all.0, all.1, all.2, all.3, tt)
 
 pub returns-clause-exact : goal.returns-clause-exact
 returns-clause-exact c = λ e.
