@@ -94,9 +94,9 @@ impl<S: Store + Drop> State<S> {
             (of_arrival (on_new self.old) arrival.entry)
             result out.old out.new self.old self.new }
     {
-        // The model tests this in each case. It may stand first: without a free Message ID nothing
-        // is replied to a Non-confirmable request, and nothing is joined or opened for it, which
-        // takes one more.
+        // The model looks for a free Message ID in each case. One look before all of them does,
+        // since each takes one: what is replied to a Non-confirmable request is a message of its
+        // own, and a request that joins or opens an exchange needs one for what it is sent later.
         if !self.can_reply(arrival.now, arrival.message.kind()) {
             return self.lack_id(arrival, out);
         }

@@ -294,7 +294,7 @@ impl<S: Store + Drop> State<S> {
     /// exchange's key, and the answer's message.
     ///
     /// # Errors
-    /// Out of memory. The answer is lost then.
+    /// Out of memory. The message of `answer` is lost then, so the step has to fail.
     fn entry_made(
         &self,
         now: Moment,

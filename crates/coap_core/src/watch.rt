@@ -13,7 +13,7 @@ use coap_message::Moment;
 use coap_model::Report;
 use coap_store::Store;
 
-/// A turn that was done, or was lost: what it was, and what was done in it.
+/// A turn that has begun, was done, or was lost: what it was, and what was done in it, if anything.
 #[derive(Clone, Copy)]
 pub struct WatchedTurn<'a> {
     /// Its moment, in milliseconds.

@@ -129,7 +129,7 @@ impl<S: Store + Drop> Core<S> {
         self.state.records(kind).source(place)
     }
 
-    /// The clients that opened exchanges, with how many each has opened.
+    /// The clients that opened the exchanges in progress, with how many of these each opened.
     pub fn openers(&self) -> &EndpointMap
         ensures exact { AreOfClients is_opened_by self.now.exchanges result.now }
     {

@@ -103,7 +103,7 @@ impl IndexedExchange {
         self.exchange.key.digests(secret).target
     }
 
-    /// Applies a change to the exchange.
+    /// Applies a transition to the exchange.
     pub(crate) fn change(&mut self, change: Transition)
         requires { CanChange change self.old }
         ensures exact { self.new ≡ after_transition change self.old }

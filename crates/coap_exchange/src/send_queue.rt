@@ -100,8 +100,9 @@ pub(crate) fn head_may_change_at(
     }
 }
 
-/// The number of exchanges sent to an endpoint, which is `sent`, and its first queued exchange, if
-/// there is one. `queued` exchanges are queued in all: where none is, none is looked for.
+/// The head of an endpoint, as `heads` has it: how many exchanges are sent there, which is `sent`,
+/// and then the number of its first queued exchange, if there is one. `queued` exchanges are queued
+/// in all: where none is, none is looked for.
 pub(crate) fn head_of(
     exchanges: &Table<IndexedExchange>,
     index: &Index,

@@ -36,7 +36,7 @@ pub(crate) struct DueExchange {
     pub(crate) transmissions: u8,
     /// When it was opened, in milliseconds.
     pub(crate) admitted: Moment,
-    /// How many clients wait for it.
+    /// How many waiters wait for it: a client that asked twice counts twice.
     pub(crate) waiting: u64,
     /// Why there is no answer, if none comes any more.
     pub(crate) silence: Silence,
@@ -87,7 +87,7 @@ fn answer_of(state: &ExchangeState) -> Option<DueAnswer>
 }
 
 impl DueExchange {
-    /// An exchange that this many clients wait for.
+    /// An exchange that this many waiters wait for.
     fn of(exchange: &Exchange, waiting: usize) -> DueExchange
         ensures { result ≡ spec.exchange_of exchange.now waiting }
     {

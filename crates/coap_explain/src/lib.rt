@@ -1,7 +1,7 @@
 //! Accounts and logs: what each event was and what it did, in a line of words; and what goes wrong.
 //!
-//! Contracts give the line of an account by its parts, in their order. Of a log they give each word,
-//! which cause stands for a message, and each number; only tested is where these stand in a line.
+//! Contracts give the line of an account by its parts, and that of a log by its fields, in their
+//! order. Only tested is when a line of a log is written, and of which exchange and cause.
 //!
 //! # First use
 //!

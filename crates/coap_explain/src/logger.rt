@@ -74,7 +74,7 @@ struct Failed {
     cause: Option<Cause>,
 }
 
-/// Whether the code of an answer is one that is logged.
+/// Whether an answer with this code is logged, be it the proxy's own or an origin's.
 fn is_logged(code: Code) -> bool {
     code == Code::BAD_GATEWAY || code == Code::SERVICE_UNAVAILABLE || code == Code::GATEWAY_TIMEOUT
 }
@@ -272,7 +272,7 @@ impl<W: Write> Logger<W> {
         Some(noted.unwrap_or(Cause::BadGateway(BadGateway::TooLong)))
     }
 
-    /// Logs that a client was sent an answer that is logged.
+    /// Logs that a client was sent 5.02, 5.03 or 5.04 for an exchange, if it was.
     fn on_delivered(&mut self, client: Option<Endpoint>, now: Moment) {
         let TickSubject::Exchange(exchange) = self.due else {
             return;
@@ -351,7 +351,8 @@ impl<W: Write> Logger<W> {
         }
     }
 
-    /// Adds whose message was dropped, and what was lacking.
+    /// Adds whose message was dropped, and what was lacking. An origin whose response is dropped is
+    /// called a client, too.
     fn put_dropped(&mut self, client: Endpoint, lacks: &Lacks) -> io::Result<()>
         ensures put { OnOk result (spec.Adds self.old.line self.new.line
             (spec.dropped client lacks.now)) }
@@ -506,7 +507,7 @@ impl<W: Write> Logger<W> {
 }
 
 impl<W: Write> Watch for Logger<W> {
-    // Nothing is claimed of what it writes.
+    // Nothing is claimed here. What a line holds, the contracts of the methods above say.
     ghost sees = { λ before told after. Unit {0} };
 
     fn foresee<S: Store + Drop>(&mut self, turn: WatchedTurn<'_>, core: &Core<S>) {

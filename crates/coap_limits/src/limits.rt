@@ -106,7 +106,7 @@ pub struct LimitValues {
     pub datagram: u64,
     /// How long an exchange may take, in milliseconds.
     pub exchange_ms: u64,
-    /// After how long a rejected client may retry, in seconds.
+    /// After how long a client that got 5.03 may retry, in seconds.
     pub retry_s: u64,
     /// The maximum number of deduplication records of Confirmable messages from one endpoint.
     pub client_con_records: u64,

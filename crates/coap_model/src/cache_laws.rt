@@ -40,7 +40,7 @@ ghost use Rattle.coap_model.specs.ForgedHits.{reply, changed_past, overtaken_pas
 ghost use Rattle.coap_model.specs.CacheExamples.{storable_in, content_for, max_age, empty_max_age, entry_for, two, kept_within, answered, kept_past, hit_past, asked_past, first_entry, second_entry, first_stored};
 
 /// Which responses may be kept, by their code and Max-Age: a 2.05 and the errors of an origin
-/// server, if they stay fresh for at least a second, and no reply that the proxy generates.
+/// server, if they stay fresh for at least a second, and no answer of the proxy's own.
 pub fn examples_of_storing()
     ensures content { storable_in 0x45 (max_age 10) ≡ Some true }
     ensures one_second { storable_in 0x45 (max_age 1) ≡ Some true }

@@ -269,8 +269,8 @@ pub fn joining()
     ensures is_closed { stage_of 1 (history_of joining.none_left_acting) ≡ None }
 {}
 
-/// Clients with Confirmable requests: what they are sent immediately and later, what closes them,
-/// and until when they count.
+/// Clients with Confirmable requests: what they are sent immediately and later, what closes their
+/// waiters, and until when these count.
 pub fn confirmable_clients()
     ensures confirmable { play proxy confirmable.confirmable ≡ confirmable.confirmable_sent }
     ensures repeated_request { play proxy confirmable.repeated_request

@@ -173,8 +173,8 @@ pub fn what_is_owed_is_given_at_each_position()
 {}
 
 /// In a justified history nothing is done twice: the request of an exchange is sent for the first
-/// time at one position, the exchange is answered or given up at one position, and a client is
-/// served at one position. Nothing is done for a client that is finished: after its answer was
+/// time at one position, the exchange is answered or given up at one position, and a waiter is
+/// served at one position. Nothing is done for a waiter that is finished: after its answer was
 /// acknowledged, was given up, or was sent in a Non-confirmable message.
 pub fn nothing_is_done_twice()
     ensures sent { (setting : Setting) (history : List Action) (exchange : ℕ) (a b : Position)

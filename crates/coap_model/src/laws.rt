@@ -153,7 +153,7 @@ pub fn memory_is_told()
 {}
 
 /// The counts of a proxy agree with the actions that made its tables: the number of open exchanges
-/// and of pending clients, the entries and bytes of the cache of these actions, and the number of
+/// and of waiters, the entries and bytes of the cache of these actions, and the number of
 /// messages that are still remembered.
 pub fn counts_are_of_the_history()
     ensures exchanges { (actions : List Action) (w : State)
@@ -179,7 +179,7 @@ pub fn counts_are_of_the_history()
 {}
 
 /// The same for what is one endpoint's: open exchanges count for the client that opened them,
-/// pending requests for the client that sent them, and remembered messages for their source.
+/// waiters for the client whose requests wait, and remembered messages for their source.
 pub fn client_counts_are_of_the_history()
     ensures exchanges { (actions : List Action) (w : State) (client : Endpoint)
         → Bears actions w

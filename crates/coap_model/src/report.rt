@@ -1,4 +1,4 @@
-//! What a step returns.
+//! What a step returns, and how much a proxy holds.
 use coap_endpoint::Endpoint;
 use coap_message::Code;
 
@@ -75,7 +75,7 @@ pub struct Counts {
 }
 
 /// How much of what a proxy holds is an endpoint's: duplicate records of its messages, exchanges
-/// that it opened, and its pending requests. Expired records don't count.
+/// that it opened, and its waiters. Expired records don't count.
 #[derive(Clone, Copy, Debug, PartialEq, Eq)]
 pub struct ClientCounts {
     pub con_records: u64,

@@ -1,4 +1,4 @@
-//! Exchanges: requests on their way to an origin.
+//! Exchanges: what is in progress for requests to origins.
 ghost use Rattle.std.specs.Prelude.{◌≡◌, ◌≤◌, ◌^◌};
 ghost use Rattle.std.specs.Option.{option_copied};
 ghost use Rattle.coap_pending.specs.Exchanges.{answer_at, after_transition, fire_of_sending, fired_exchange, is_meant_by, is_acked, is_changed_with, is_joinable, is_queued, is_sent, tainted_by, was_sent_as, CanChange, CanFire, is_queued_to, is_sent_after, asked_of, is_in_flight, was_sent_with};
@@ -52,7 +52,7 @@ pub enum ExchangeState {
     Done(Answer),
 }
 
-/// A request on its way to an origin.
+/// What is in progress for a request to an origin, until its last waiter was served.
 pub struct Exchange {
     /// The client that opened it.
     pub client: Endpoint,
@@ -229,7 +229,7 @@ impl Exchange {
         }
     }
 
-    /// Applies a change.
+    /// Applies a transition.
     pub fn change(&mut self, change: Transition)
         requires { CanChange change self.old }
         ensures exact { self.new ≡ after_transition change self.old }

@@ -162,7 +162,7 @@ impl Waiter {
         }
     }
 
-    /// Applies a change.
+    /// Applies a transition.
     pub fn change(&mut self, change: WaiterTransition, alloc: Global)
         requires { CanChange change self.old }
         ensures exact { self.new ≡ after_transition change self.old }

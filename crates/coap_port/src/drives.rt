@@ -44,8 +44,9 @@ pub fn drive<P: Port, S: Store + Drop>(
     drive_watched(alloc, core, port, &mut Unwatched, turns)
 }
 
-/// Does the same as `drive`, and tells a watcher each turn after it was done: what the port gave,
-/// what the step did, what was sent and whether it was taken, or that the turn was lost.
+/// Does the same as `drive`, and tells a watcher each turn twice: before its step, what the port
+/// gave; after it also what the step did, what was sent and whether it was taken, or that the turn
+/// was lost.
 ///
 /// # Errors
 /// Those of `drive`. The watcher was told the turns that are counted.

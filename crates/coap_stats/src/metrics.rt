@@ -346,7 +346,7 @@ fn put_kind(out: &mut Vec<u8>, listen: &str, metric: Metric, word: Word) -> Resu
 }
 
 /// Adds how much a proxy holds of one kind.
-fn put_count(out: &mut Vec<u8>, listen: &str, fill: Fill) -> Result<(), OutOfMemory>
+fn put_amount(out: &mut Vec<u8>, listen: &str, fill: Fill) -> Result<(), OutOfMemory>
     ensures { OnOk result (out.new.items ≡ out.old.items
         ++ spec.count_text listen.now (fill_seen fill)) }
 {
@@ -370,12 +370,12 @@ fn put_limit(out: &mut Vec<u8>, listen: &str, fill: Fill) -> Result<(), OutOfMem
 }
 
 /// Adds how much a proxy holds of each kind.
-fn put_counts_of(out: &mut Vec<u8>, listen: &str, fills: &[Fill]) -> Result<(), OutOfMemory>
+fn put_amounts(out: &mut Vec<u8>, listen: &str, fills: &[Fill]) -> Result<(), OutOfMemory>
     ensures { OnOk result (out.new.items ≡ out.old.items
         ++ flat_map (spec.count_text listen.now) (map fill_seen fills.now)) }
 {
     for fill in fills {
-        put_count(out, listen, *fill)?;
+        put_amount(out, listen, *fill)?;
     }
     Ok(())
 }
@@ -397,7 +397,7 @@ fn put_held(out: &mut Vec<u8>, listen: &str, fills: &[Fill]) -> Result<(), OutOf
         ++ spec.held_text listen.now (map fill_seen fills.now)) }
 {
     put_head(out, HELD)?;
-    put_counts_of(out, listen, fills)?;
+    put_amounts(out, listen, fills)?;
     put_head(out, LIMIT)?;
     put_limits_of(out, listen, fills)
 }

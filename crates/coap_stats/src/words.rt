@@ -36,7 +36,7 @@ fn fill_of(key: &'static str, count: u64, limit: u64) -> Fill
     Fill { key, count, limit }
 }
 
-/// The counts of all turns.
+/// The counts of datagrams, of lost turns, and of what was sent again or given up.
 pub(crate) fn traffic_words(n: &Tally) -> [Word; 6]
     ensures { map spec.word_seen result ≡ spec.traffic_words n.now }
 {

@@ -8,9 +8,9 @@ use std::mem::replace;
 use std::ops::Deref;
 use std::rc::Rc;
 
-/// A message that is kept alone, or, once it is made so, shared by all who keep it: the answer of
-/// an exchange, the entry that is stored for it, and an exchange that validates the entry. A
-/// contract sees the message.
+/// A message that one keeps, until `make_shared` has it be one that several keep without copies: an
+/// exchange keeps its answer, the store the entry that is made of it, and an exchange that
+/// validates the entry keeps it too. A contract sees the message.
 pub struct SharedMessage {
     kept: Kept,
 }

@@ -65,8 +65,8 @@ pub trait Store {
         ensures evicted { IfOk result (λ s. evicted s ≡ no_evictions) }
         ensures secret { IfOk result (λ s. secret s ≡ secret_of seed) };
 
-    /// The secret that its seed gives: a number with which digests are made, its own and those by
-    /// which the tables of exchanges find keys. Doesn't allocate.
+    /// The secret that its seed gives. Digests are made with it: those by which the store finds a
+    /// key, and, so that a key is hashed once, those by which exchanges are found. Doesn't allocate.
     fn secret(&self) -> u64
         ensures exact { result ≡ secret self.now };
 

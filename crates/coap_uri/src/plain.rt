@@ -144,8 +144,8 @@ fn is_rooted(path: &[u8]) -> bool
     }
 }
 
-/// The parts of a URI with the scheme `coap`, if they appear in its text as `url` reads them.
-/// `None` means only that they may not.
+/// The parts of a URI with the scheme `coap`, if they stand in its text as `url` would give them.
+/// `None` doesn't say that the text isn't a URI: `url` decides then.
 pub(crate) fn read_plain(text: &[u8]) -> Option<Plain<'_>>
     ensures parsed { IfSome result (λ plain. parse_url None text.now ≡ Ok (spec.url_of plain)) }
     ensures host { IfSome result (λ plain. 0 < length plain.host.now) }

@@ -129,8 +129,8 @@ impl Table {
     }
 }
 
-/// The least number of a key, greater than `after`, in the chain from a link on: mostly the key has
-/// one number.
+/// The least number of a key, greater than `after`, in the chain from a link on. `put_if_room` puts
+/// no second one there, but no contract says that.
 fn next_in(pairs: &[(u64, u64)], nexts: &[u32], start: u32, key: u64, after: u64) -> Option<u64>
     requires chain { IsChain chain_room nexts.now start }
     requires both { length pairs.now ≡ length nexts.now }
@@ -151,7 +151,7 @@ fn next_in(pairs: &[(u64, u64)], nexts: &[u32], start: u32, key: u64, after: u64
 }
 
 /// The least number of a key, greater than `after`, in the chain from a link on.
-#[inline(never)] // most keys have one number
+#[inline(never)] // no key has two numbers there
 fn least_in(pairs: &[(u64, u64)], nexts: &[u32], start: u32, key: u64, after: u64) -> Option<u64>
     requires chain { IsChain chain_room nexts.now start }
     requires both { length pairs.now ≡ length nexts.now }

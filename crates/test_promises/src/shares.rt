@@ -26,8 +26,8 @@ pub fn limits_of_remembered_messages_are_exact()
         (record default_limits { con_records = 1 }) con_read 0 two_pending }
 {}
 
-/// Where two exchanges are open, with a client each, room is short if two may be open, or two
-/// clients may be pending, and not if three may.
+/// Where two exchanges are open, with a waiter each, room is short if two may be open, or two
+/// waiters may wait, and not if three may.
 pub fn limits_of_exchanges_and_clients_are_exact()
     ensures exchanges { IsShort (record default_limits { exchanges = 2 }) 0 two_pending }
     ensures exchanges_below { ¬ IsShort (record default_limits { exchanges = 3 }) 0 two_pending }
@@ -35,8 +35,8 @@ pub fn limits_of_exchanges_and_clients_are_exact()
     ensures waiters_below { ¬ IsShort (record default_limits { waiters = 3 }) 0 two_pending }
 {}
 
-/// In each 247 seconds 32,768 Message IDs are free. One is left for each client that waits, for
-/// each request that is still to be sent, and for each one that was given out (RFC 7252, 4.4).
+/// In each 247 seconds 32,768 Message IDs may be given out. One is reserved for each waiter, one for
+/// each request that is still to be sent, and what was given out is used up (RFC 7252, 4.4).
 pub fn free_ids_are_counted_exactly()
     ensures all { HasIds 32768 0 [] }
     ensures no_more { ¬ HasIds 32769 0 [] }

@@ -258,8 +258,7 @@ fn ids_run_out_and_come_again(rt: HostRuntime) -> Result<(), Fail> {
     Ok(check_ids(&rt, &mut run)?)
 }
 
-/// What an endpoint has: records of its messages by type, exchanges that it opened, and pending
-/// requests.
+/// What an endpoint has: records of its messages by type, exchanges that it opened, and waiters.
 fn has(con_records: u64, non_records: u64, exchanges: u64, waiters: u64) -> ClientCounts {
     ClientCounts {
         con_records,
@@ -306,7 +305,7 @@ fn check_counts_of_requests(rt: &impl Abort, run: &mut Run) -> Result<(), OutOfM
 }
 
 /// The answer comes in a Confirmable message, and goes to both clients. The first client has a
-/// pending request until it acknowledges the answer.
+/// waiter until it acknowledges the answer.
 fn check_counts_of_answer(rt: &impl Abort, run: &mut Run) -> Result<(), OutOfMemory> {
     let (opener, joiner) = (has(2, 0, 1, 1), has(0, 1, 0, 1));
     let counts = [opener, joiner, has(0, 0, 0, 0)];

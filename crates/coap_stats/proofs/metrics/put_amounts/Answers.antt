@@ -1,0 +1,8 @@
+use Rattle.coap_stats.proofs.Adding.{loop-more}
+use Rattle.coap_stats.specs.Line.{fill_seen}
+use Rattle.coap_stats.specs.Metrics.{count_text}
+use Rattle.coap_stats.proofs.metrics.put_amounts.Goals as goal
+
+pub loop-fill-preserved : goal.loop-fill-preserved
+loop-fill-preserved c =
+    loop-more (count_text c.args.listen.now) fill_seen c.args.fills.now c.loop-fill.fill-index _ c.args.out.now.items c.loop-fill.out.items c.put_amount.new.out.items c.loop-fill-test.true c.loop-fill.invariant c.in_ok-put_amount.ensures
