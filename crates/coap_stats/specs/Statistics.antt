@@ -20,6 +20,7 @@ pub use Rattle.coap_counts.specs.Maps.{no_ways}
 pub use Rattle.coap_counts.specs.Openings.{no_openings}
 pub use Rattle.coap_counts.specs.Origins.{no_origins}
 pub use Rattle.coap_store.specs.Evicting.{no_evictions}
+pub use Rattle.coap_core.specs.Holders.{nobody}
 
 -- how many origins have counts of their own: as many as there are maps, and 256 others
 abbrev pub origins_counted : Routes → ℕ

@@ -13,6 +13,7 @@
 
 mod clock;
 pub mod examples;
+mod held;
 mod labels;
 pub mod laws;
 mod line;

@@ -1,17 +1,17 @@
 //! The counts as metrics, in the text format that Prometheus reads.
-ghost use Rattle.std.specs.Prelude.{◌≡◌, ◌++◌, codes, OnOk, map};
-ghost use Rattle.std.specs.List.{flat_map};
-ghost use Rattle.coap_stats.specs.Labels.{All, label_text, part_seen, part_text};
-ghost use Rattle.coap_stats.specs.Line.{fill_seen, fills, word_seen};
+ghost use Rattle.std.specs.Prelude.{◌≡◌, ◌++◌, OnOk, map};
+ghost use Rattle.coap_stats.specs.Labels.{label_text, part_seen, part_text};
+ghost use Rattle.coap_stats.specs.Line.{word_seen};
 ghost use Rattle.coap_stats.specs.Metrics as spec;
 ghost use Rattle.coap_stats.specs.Series as series;
 
+use crate::held::put_held;
 use crate::labels::{Whose, put_whose};
 use crate::line::{put, put_number};
 use crate::series::{put_holders, put_maps, put_origins};
 use crate::statistics::Statistics;
 use crate::tally::Tally;
-use crate::words::{Fill, Word, answer_words, fills, opening_words, refusal_words, request_words};
+use crate::words::{Word, answer_words, fills, opening_words, refusal_words, request_words};
 use coap_core::{Counts, LimitValues};
 use coap_counts::RequestCounts;
 use coap_message::OutOfMemory;
@@ -95,18 +95,6 @@ const EVICTED_FRESH: Metric = Metric {
     name: "coap_proxyd_evicted_fresh_entries_total",
     kind: "counter",
     help: "Those of them that were still fresh.",
-};
-
-const HELD: Metric = Metric {
-    name: "coap_proxyd_held",
-    kind: "gauge",
-    help: "How much the proxy holds.",
-};
-
-const LIMIT: Metric = Metric {
-    name: "coap_proxyd_limit",
-    kind: "gauge",
-    help: "How much the proxy may hold.",
 };
 
 /// Adds the lines that describe a metric.
@@ -329,77 +317,6 @@ fn put_outcomes(out: &mut Vec<u8>, listen: &str, tally: &Tally) -> Result<(), Ou
     put_requests(out, requests, &tally.requests)?;
     put_head(out, ANSWERS)?;
     put_samples(out, answers, &answer_words(&tally.answers))
-}
-
-/// Adds the line of what a proxy holds of one kind, or may hold.
-fn put_kind(out: &mut Vec<u8>, listen: &str, metric: Metric, word: Word) -> Result<(), OutOfMemory>
-    ensures { OnOk result (out.new.items ≡ out.old.items
-        ++ spec.sample_text listen.now metric.name.now All (codes "what") (word_seen word)) }
-{
-    let family = Family {
-        metric,
-        label: "what",
-        listen,
-        whose: Whose::All,
-    };
-    put_sample(out, family, word)
-}
-
-/// Adds how much a proxy holds of one kind.
-fn put_amount(out: &mut Vec<u8>, listen: &str, fill: Fill) -> Result<(), OutOfMemory>
-    ensures { OnOk result (out.new.items ≡ out.old.items
-        ++ spec.count_text listen.now (fill_seen fill)) }
-{
-    let word = Word {
-        key: fill.key,
-        number: fill.count,
-    };
-    put_kind(out, listen, HELD, word)
-}
-
-/// Adds how much it may hold.
-fn put_limit(out: &mut Vec<u8>, listen: &str, fill: Fill) -> Result<(), OutOfMemory>
-    ensures { OnOk result (out.new.items ≡ out.old.items
-        ++ spec.limit_text listen.now (fill_seen fill)) }
-{
-    let word = Word {
-        key: fill.key,
-        number: fill.limit,
-    };
-    put_kind(out, listen, LIMIT, word)
-}
-
-/// Adds how much a proxy holds of each kind.
-fn put_amounts(out: &mut Vec<u8>, listen: &str, fills: &[Fill]) -> Result<(), OutOfMemory>
-    ensures { OnOk result (out.new.items ≡ out.old.items
-        ++ flat_map (spec.count_text listen.now) (map fill_seen fills.now)) }
-{
-    for fill in fills {
-        put_amount(out, listen, *fill)?;
-    }
-    Ok(())
-}
-
-/// Adds how much it may hold of each.
-fn put_limits_of(out: &mut Vec<u8>, listen: &str, fills: &[Fill]) -> Result<(), OutOfMemory>
-    ensures { OnOk result (out.new.items ≡ out.old.items
-        ++ flat_map (spec.limit_text listen.now) (map fill_seen fills.now)) }
-{
-    for fill in fills {
-        put_limit(out, listen, *fill)?;
-    }
-    Ok(())
-}
-
-/// Adds what a proxy holds, and what it may hold.
-fn put_held(out: &mut Vec<u8>, listen: &str, fills: &[Fill]) -> Result<(), OutOfMemory>
-    ensures { OnOk result (out.new.items ≡ out.old.items
-        ++ spec.held_text listen.now (map fill_seen fills.now)) }
-{
-    put_head(out, HELD)?;
-    put_amounts(out, listen, fills)?;
-    put_head(out, LIMIT)?;
-    put_limits_of(out, listen, fills)
 }
 
 /// Adds the counts of the whole proxy.

@@ -112,6 +112,7 @@ impl Statistics {
             (λ s. s.origins ≡ spec.no_origins (spec.origins_counted routes.now)) }
         ensures openings { IfOk result (λ s. s.openings ≡ spec.no_openings) }
         ensures evictions { IfOk result (λ s. s.evictions ≡ spec.no_evictions) }
+        ensures holders { IfOk result (λ s. s.holders ≡ spec.nobody limits.now) }
     {
         let maps = routes.maps();
         let places = maps.len().saturating_add(OTHER_ORIGINS);

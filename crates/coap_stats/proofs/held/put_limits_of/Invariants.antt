@@ -2,7 +2,7 @@ use Rattle.std.proofs.Common.{◌≡◌, ◌++◌, map, take}
 use Rattle.std.specs.List.{flat_map}
 use Rattle.coap_stats.specs.Line.{fill_seen}
 use Rattle.coap_stats.specs.Metrics.{limit_text}
-use Rattle.coap_stats.proofs.metrics.put_limits_of.Given as goal
+use Rattle.coap_stats.proofs.held.put_limits_of.Given as goal
 
 -- the lines of those so far were added
 abbrev pub invariant-loop-fill : goal.invariant-loop-fill

@@ -1,7 +1,7 @@
 use Rattle.coap_stats.proofs.Adding.{loop-more}
 use Rattle.coap_stats.specs.Line.{fill_seen}
 use Rattle.coap_stats.specs.Metrics.{count_text}
-use Rattle.coap_stats.proofs.metrics.put_amounts.Goals as goal
+use Rattle.coap_stats.proofs.held.put_amounts.Goals as goal
 
 pub loop-fill-preserved : goal.loop-fill-preserved
 loop-fill-preserved c =

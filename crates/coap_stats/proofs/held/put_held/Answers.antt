@@ -3,7 +3,7 @@ use Rattle.std.specs.List.{flat_map}
 use Rattle.coap_stats.proofs.Adding.{last, more}
 use Rattle.coap_stats.specs.Line.{fill_seen}
 use Rattle.coap_stats.specs.Metrics.{count_text, head_text, held, limit, limit_text}
-use Rattle.coap_stats.proofs.metrics.put_held.Goals as goal
+use Rattle.coap_stats.proofs.held.put_held.Goals as goal
 
 pub returns : goal.returns
 returns c =
