@@ -22,7 +22,7 @@ use Rattle.coap_explain.specs.declared.due.TickSubject.TheVariants.{Nothing}
 use Rattle.coap_explain.specs.declared.lacks.Lack.{Lack}
 use Rattle.coap_explain.specs.declared.lacks.Need.TheVariants.{Exchanges, ClientWaiters}
 use Rattle.coap_explain.specs.declared.log_fields.Cause.TheVariants.{BadGateway}
-use Rattle.coap_explain.specs.declared.logger.Failed.{Failed}
+use Rattle.coap_explain.specs.declared.log_lines.Failed.{Failed}
 use Rattle.coap_explain.specs.Account.{Noted}
 
 -- a proxy with these limits

@@ -1,8 +1,9 @@
 -- The lines of `--log`: which fields stand in each, in order.
-use Rattle.std.specs.Prelude.{◌≡◌, ℕ, ◌-◌, ◌==◌, Bool, false, List, [], ◌∷◌, ◌++◌, codes, take, Option, None, Some, if◌then◌else◌}
+use Rattle.std.specs.Prelude.{◌≡◌, ℕ, ◌-◌, ◌==◌, ◌||◌, Bool, false, List, [], ◌∷◌, ◌++◌, codes, take, Option, None, Some, if◌then◌else◌}
 use Rattle.std.specs.Fmt.{decimal}
 use Rattle.std.specs.List.{flat_map}
-use Rattle.coap_message.specs.Codes.{code_of}
+use Rattle.coap_message.specs.Codes.{code_of, is_code}
+use Rattle.coap_message.specs.declared.code.Code.{Code}
 use Rattle.coap_message.specs.Datagram.{Datagram, holding}
 use Rattle.coap_endpoint.specs.declared.endpoint.Endpoint.{Endpoint}
 use Rattle.coap_core.specs.Holders.{table_name}
@@ -15,7 +16,7 @@ use Rattle.coap_explain.specs.declared.lacks.Lack.{Lack}
 use Rattle.coap_explain.specs.declared.log_fields.Cause.{Cause}
 use Rattle.coap_explain.specs.declared.log_fields.Cause.TheVariants as causes
 use Rattle.coap_explain.specs.declared.log_fields.TargetText.{TargetText}
-use Rattle.coap_explain.specs.declared.logger.Failed.{Failed}
+use Rattle.coap_explain.specs.declared.log_lines.Failed.{Failed}
 use Rattle.coap_explain.specs.Noted.{took}
 use Rattle.coap_explain.specs.Targets.{endpoint_text, ip_text}
 use Rattle.coap_explain.specs.Words.{code_text, gateway_word, need_key, silence_word}
@@ -91,7 +92,11 @@ given_up to x now =
     (to ∷ []) ++ cause (causes.Silence x.silence) ++ exchange x now
     ++ number (codes "clients") x.waiting ∷ []
 
--- a client that was sent 5.02, 5.03 or 5.04
+-- an answer with this code is logged: 5.02, 5.03 or 5.04
+abbrev pub is_logged : Code → Bool
+is_logged c = is_code c (code_of 5 2) || is_code c (code_of 5 3) || is_code c (code_of 5 4)
+
+-- a client that was sent such an answer
 abbrev pub failed : Field → Failed → DueExchange → ℕ → List Field
 failed to f x now =
     (peer (codes "client") f.client ∷ (codes "code", code_text f.code) ∷ to ∷ [])

@@ -23,6 +23,7 @@ mod explainer;
 mod lacks;
 pub mod laws;
 mod log_fields;
+mod log_lines;
 mod logger;
 mod messages;
 mod outcomes;
