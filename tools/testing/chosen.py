@@ -9,7 +9,7 @@ from testing.coap import ACK, CONTENT, GET, NON, PROXY_URI, message
 from testing.costs import seconds
 from testing.instructions import of_replay
 from testing.network import Skipped, expect_between
-from testing.ranges import Script
+from testing.scripted import Script
 
 CASES = []
 WORD = (1 << 64) - 1

@@ -11,7 +11,7 @@ from testing.coap import (
     ACK, CON, CONTENT, EMPTY, ETAG, GET, NON, PROXY_URI, RST, UNAVAILABLE, URI_PATH, URI_QUERY, message,
 )
 from testing.network import RESULT, Skipped, expect, expect_between
-from testing.ranges import CLIENT, KEPT, ORIGIN, Script, endpoint
+from testing.scripted import CLIENT, KEPT, ORIGIN, Script, endpoint
 from testing.steps import TEMP, max_age, path
 
 CASES = []
