@@ -1,0 +1,103 @@
+"""Stand-ins that are wrong in one respect of responses: their forms, tokens, and the requests that they belong to."""
+
+import time
+
+from conforming.model import Proxy, Separate
+from conforming.wire import ACK, CON, NON
+
+
+class SeparateIgnored(Proxy):
+    def on_response(self, sock, it, source):
+        return False
+
+
+class NonResponsesIgnored(Proxy):
+    def on_response(self, sock, it, source):
+        return it.kind == CON and super().on_response(sock, it, source)
+
+
+class ConResponsesIgnored(Proxy):
+    def on_response(self, sock, it, source):
+        return it.kind == NON and super().on_response(sock, it, source)
+
+
+class PiggybackedIgnored(Proxy):
+    def on_piggybacked(self, it, source):
+        pass
+
+
+class SeparateUnacknowledged(Proxy):
+    def acknowledge_response(self, sock, it, source, record):
+        pass
+
+
+class AnswersInAcks(Separate):
+    def answer_kind(self, request, kind):
+        return ACK if request.kind == CON else kind
+
+
+class NonAnsweredConfirmably(Proxy):
+    def answer_kind(self, request, kind):
+        return CON if request.kind == NON else kind
+
+
+class TokensChanged(Proxy):
+    def token_of(self, waiter):
+        token = waiter.request.token
+        return token[:-1] + bytes([token[-1] ^ 1]) if token else b"\x01"
+
+
+class TokensRepeat(Proxy):
+    def new_token(self):
+        self.last = getattr(self, "last", 0) + 1
+        return bytes([self.last % 4])
+
+
+class TokensCount(Proxy):
+    def new_token(self):
+        self.last = getattr(self, "last", 1 << 40) + 1
+        return self.last.to_bytes(8, "big")
+
+
+class TokensMixed(Proxy):
+    """Takes an answer for that of the request that was sent to the origin first."""
+
+    def found(self, it, source, sock):
+        some = [one for one in self.exchanges.values() if one.to == source and one.has_turn]
+        return some[0] if some else None
+
+
+class ImpostorsBelieved(Proxy):
+    def found(self, it, source, sock):
+        return next((one for one in self.exchanges.values() if one.token == it.token and one.has_turn), None)
+
+
+class AnyTokenBelieved(Proxy):
+    def found(self, it, source, sock):
+        return next((one for one in self.exchanges.values() if one.to == source and one.has_turn), None)
+
+
+class AnyIdBelieved(Proxy):
+    def has_id(self, exchange, it):
+        return True
+
+
+class AnswersFromElsewhere(Proxy):
+    def send(self, sock, data, to):
+        self.asked_at.clear()
+        super().send(sock, data, to)
+
+
+class MixesOriginsLater(Proxy):
+    """After a rest, sends what it is asked to where it was asked to send the first request."""
+
+    def forward(self, waiter, target, key, validated):
+        now = time.monotonic()
+        first, last = getattr(self, "first", None), getattr(self, "last_at", now)
+        self.last_at = now
+        if now - last > 100 * self.scale:
+            self.is_mixed = True
+        self.first = first or target
+        if getattr(self, "is_mixed", False):
+            target = target._replace(host=self.first.host, port=self.first.port)
+        super().forward(waiter, target, key, validated)
