@@ -26,15 +26,16 @@ pub struct DigestedKey {
     digests: Digests,
 }
 
-/// A cache key, and the number of bytes that it counts for in an entry.
+/// A cache key, and the number of bytes that it counts for in an entry. The one that a request is
+/// looked up by isn't counted, since most are found.
 #[derive(Drop)]
 struct CountedKey {
     key: CacheKey,
-    bytes: u64,
+    bytes: Option<u64>,
 }
 
 impl Model for DigestedKey {
-    ghost use Rattle.std.specs.Prelude.{◌≡◌, ◌^◌, ◌-◌, min};
+    ghost use Rattle.std.specs.Prelude.{◌≡◌, ◌^◌, ◌-◌, min, IfSome};
     ghost use Rattle.coap_store.specs.Digested.{Digested, digested};
     ghost use Rattle.coap_store.specs.Digests.{digests_of};
     ghost use Rattle.coap_store.specs.Sizes.{key_size};
@@ -45,7 +46,9 @@ impl Model for DigestedKey {
 
     ghost invariant = { λ d.
         (d.digests ≡ digests_of d.secret d.shared.value.key)
-        × (d.shared.value.bytes ≡ min (key_size d.shared.value.key) (2 ^ 64 - 1)) };
+        × IfSome
+        d.shared.value.bytes
+        (λ bytes. bytes ≡ min (key_size d.shared.value.key) (2 ^ 64 - 1)) };
 }
 
 impl DigestedKey {
@@ -57,9 +60,9 @@ impl DigestedKey {
         ensures { IfOk result (λ made. made ≡ digested secret key) }
     {
         let digests = digests_of(secret, &key);
-        let bytes = bytes_of_key(&key);
+        let uncounted = CountedKey { key, bytes: None };
         Ok(DigestedKey {
-            shared: Rc::new(alloc, CountedKey { key, bytes })?,
+            shared: Rc::new(alloc, uncounted)?,
             secret,
             digests,
         })
@@ -91,7 +94,11 @@ impl DigestedKey {
     pub fn bytes(&self) -> u64
         ensures { result ≡ min (key_size self.now.key) u64.MAX }
     {
-        self.shared.as_ref().bytes
+        let counted = self.shared.as_ref();
+        match counted.bytes {
+            Some(bytes) => bytes,
+            None => bytes_of_key(&counted.key),
+        }
     }
 
     /// The same key for one more who needs it. Doesn't allocate.
@@ -108,7 +115,8 @@ impl DigestedKey {
         })
     }
 
-    /// A copy, with no spare capacity, which nobody shares yet.
+    /// A copy, with no spare capacity, which nobody shares yet. It is counted here, once for all who
+    /// will share it.
     ///
     /// # Errors
     /// Out of memory.
@@ -117,7 +125,7 @@ impl DigestedKey {
     {
         let copy = CountedKey {
             key: self.key().copied()?,
-            bytes: self.bytes(),
+            bytes: Some(self.bytes()),
         };
         Ok(DigestedKey {
             shared: Rc::new(alloc, copy)?,
@@ -169,17 +177,16 @@ impl DigestedKey {
 }
 
 impl CountedKey {
-    /// Overwrites the key, and counts it.
+    /// Overwrites the key, which isn't counted then.
     ///
     /// # Errors
     /// Out of memory. The key may then hold parts of both.
     fn overwrite<S: KeySource>(&mut self, source: &S) -> Result<(), OutOfMemory>
         ensures key { OnOk result (self.new.key ≡ S.made source.now) }
-        ensures counted { self.new.bytes ≡ min (key_size self.new.key) u64.MAX }
+        ensures uncounted { self.new.bytes ≡ None }
     {
-        let written = source.write_to(&mut self.key);
-        self.bytes = bytes_of_key(&self.key);
-        written
+        self.bytes = None;
+        source.write_to(&mut self.key)
     }
 }
 
