@@ -33,7 +33,7 @@ use Rattle.coap_model.specs.Empties.{on_exchange}
 use Rattle.coap_model.specs.Responses.{awaiting, on_not_confirmable, on_new_confirmable}
 use Rattle.coap_core.proofs.Awaiting.{awaited}
 use Rattle.coap_core.specs.Done.{Does, resets, wants_memory}
-use Rattle.coap_core.specs.Needs.{IsOpenAt}
+use Rattle.coap_core.specs.Needs.{IsUnansweredAt}
 use Rattle.coap_core.specs.Storing.{IsKept, IsPut, answering, answering_at, not_confirmable_step, new_confirmable_step, if_storable, accepted, accepted_bytes, accepted_to}
 
 -- the choice of a test that is known
@@ -201,7 +201,7 @@ module _ (w v : State) (now number : ℕ) (source : Endpoint) (m : Message) (cha
   events-taken false = refl
 
   -- the exchange that has its answer then was open
-  pub left-open : IsOpenAt number w.exchanges → IfSome (item_at number v.exchanges) (λ x. is_done x ≡ false)
+  pub left-open : IsUnansweredAt number w.exchanges → IfSome (item_at number v.exchanges) (λ x. is_done x ≡ false)
   left-open was = subst (IsNotDone number) (sym (ap (λ (u : State). u.exchanges) beside ∙ exchanges-taken (is_con m.kind))) (open-changed number changed w.exchanges (rw was.found was.holds))
 
   -- no event was counted yet

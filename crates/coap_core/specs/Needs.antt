@@ -78,5 +78,5 @@ pub record IsFound {A : Type 0} (P : A → Type 0) (number : ℕ) (items : List 
   pub holds : P item
 
 -- there is an exchange with this number, and no answer has come for it
-abbrev pub IsOpenAt : ℕ → List (Numbered Exchange) → Type 0
-IsOpenAt number exchanges = IsFound (λ x. is_done x ≡ false) number exchanges
+abbrev pub IsUnansweredAt : ℕ → List (Numbered Exchange) → Type 0
+IsUnansweredAt number exchanges = IsFound (λ x. is_done x ≡ false) number exchanges

@@ -68,7 +68,7 @@ fn joining_of(arrival: Arrival<'_, '_>, tags: Pieces, exchange: ExchangeNumber) 
 
 impl<S: Store + Drop> State<S> {
     /// Handles a request that isn't answered from the store: it joins an exchange of the key that
-    /// is in progress, or else needs a new one.
+    /// isn't answered yet, or else needs a new one.
     pub(crate) fn on_miss(
         &mut self,
         arrival: Arrival<'_, '_>,

@@ -12,7 +12,7 @@ ghost use Rattle.coap_model.specs.History.{grown_of};
 ghost use Rattle.coap_core.specs.Arrivals.{of_arrival, of_grown};
 ghost use Rattle.coap_core.specs.Storing.{IsKept, answering_at, not_confirmable_step, confirmable_step, new_confirmable_step, if_storable, targets_in, accepted, accepted_bytes, accepted_to};
 ghost use Rattle.coap_core.specs.Done.{Does, IsDoneBy, wants_memory};
-ghost use Rattle.coap_core.specs.Needs.{CanDo, CanGoOn, CanRemember, IsNew, IsOpenAt};
+ghost use Rattle.coap_core.specs.Needs.{CanDo, CanGoOn, CanRemember, IsNew, IsUnansweredAt};
 
 use crate::arrival::Arrival;
 use crate::known::put_acceptance;
@@ -191,9 +191,9 @@ impl<S: Store + Drop> State<S> {
         response: &MessageRef<'_>,
     ) -> Option<ExchangeNumber>
         ensures exact { result ≡ option_map (λ x. x.0) (awaiting self.now source response.now) }
-        ensures open { IfSome result (λ number. IsOpenAt number self.now.exchanges) }
+        ensures unanswered { IfSome result (λ number. IsUnansweredAt number self.now.exchanges) }
     {
-        let _few = self.under_way.exchanges().admitted();
+        let _laws = self.under_way.exchanges().admitted();
         let number = number_of(self.setting.salt, response.token())?;
         let exchange = self.under_way.exchange(number)?;
         if awaits(exchange, source, response) {
@@ -212,7 +212,7 @@ impl<S: Store + Drop> State<S> {
         out: &mut Datagram,
     ) -> Result<Report, OutOfMemory>
         requires can { CanGoOn self.old }
-        requires open { IsOpenAt number self.old.exchanges }
+        requires unanswered { IsUnansweredAt number self.old.exchanges }
         requires new { is_con arrival.message.now.kind ≡ true
             → CanRemember arrival.now arrival.from arrival.message.now self.old }
         requires room { self.old.setting.limits.datagram ≤ out.old.room }

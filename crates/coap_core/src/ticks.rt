@@ -166,7 +166,7 @@ impl<S: Store + Drop> State<S> {
     }
 
     /// Handles the end of the current timeout of an exchange: its request is retransmitted, with
-    /// the same bytes, or abandoned (RFC 7252, 4.2).
+    /// the same bytes, or given up (RFC 7252, 4.2).
     fn on_request_timeout(&mut self, now: Moment, due: Addressed, out: &mut Datagram) -> Report
         requires ended { IsFound (λ x. IsDue now x × (due.to ≡ x.key.target.at)) due.number
             self.old.exchanges }
@@ -204,7 +204,7 @@ impl<S: Store + Drop> State<S> {
     /// 5.7.1 and 5.9.3.5).
     fn give_up(&mut self, now: Moment, number: ExchangeNumber, out: &mut Datagram) -> Report
         requires events { self.old.events < 2 ^ 63 }
-        requires open { IfSome (item_at number self.old.exchanges) (λ x. is_done x ≡ false) }
+        requires unanswered { IfSome (item_at number self.old.exchanges) (λ x. is_done x ≡ false) }
         ensures { Does (gives_up self.old now number) result out.old out.new self.new }
     {
         self.under_way
@@ -299,7 +299,7 @@ impl<S: Store + Drop> State<S> {
             result out.now out.now self.old self.new }
         ensures memory { OnErr result (is_con delivery.kind ≡ true) }
     {
-        self.record_delivery(timing, delivery, out)?;
+        self.note_delivery(timing, delivery, out)?;
         self.take_id(timing.now);
         self.close_if_unused(delivery.exchange);
         self.advance(timing.now);
@@ -311,7 +311,7 @@ impl<S: Store + Drop> State<S> {
 
     /// Notes that a waiter is sent what `out` holds, with the next Message ID. A Confirmable
     /// message is kept, to be sent again until it is acknowledged (RFC 7252, 4.2).
-    fn record_delivery(
+    fn note_delivery(
         &mut self,
         timing: Timing,
         delivery: Delivery,

@@ -428,7 +428,7 @@ impl Exchanges {
 
     /// Notes the answer of the exchange numbered `number`: a response, or the proxy's own answer.
     pub fn answered(&mut self, number: ExchangeNumber, answer: Answer)
-        requires open { IfSome (item_at number self.old.items) (λ x. is_done x ≡ false) }
+        requires unanswered { IfSome (item_at number self.old.items) (λ x. is_done x ≡ false) }
         ensures answered { self.new
             ≡ record self.old { items = changed_at number (answered answer) self.old.items } }
     {

@@ -246,7 +246,7 @@ impl UnderWay {
     /// Notes an answer: `Exchanges::answered`. The first waiter of its exchange is then to be
     /// served.
     pub fn answered(&mut self, number: ExchangeNumber, answer: Answer)
-        requires open { IfSome (item_at number self.old.exchanges.items)
+        requires unanswered { IfSome (item_at number self.old.exchanges.items)
             (λ x. is_done x ≡ false) }
         ensures answered { self.new
             ≡ record self.old {
@@ -262,7 +262,7 @@ impl UnderWay {
 
     /// `answered`, once the exchange was looked for.
     fn note_answer(&mut self, number: ExchangeNumber, answer: Answer)
-        requires open { IfSome (item_at number self.old.exchanges.items)
+        requires unanswered { IfSome (item_at number self.old.exchanges.items)
             (λ x. is_done x ≡ false) }
         ensures answered { self.new
             ≡ record self.old {

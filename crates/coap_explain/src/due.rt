@@ -174,8 +174,9 @@ impl TickSubject {
     }
 }
 
-/// A response that came for an exchange, and why a client gets 5.02, if it does. What becomes of
-/// the response isn't found here, as `Answering` finds it for `--explain`: that may allocate.
+/// A response that came for an exchange, and why its clients get 5.02 in place of it, if they do;
+/// of one that is passed on, that says nothing. What becomes of the response isn't found here, as
+/// `Answering` finds it for `--explain`: that may allocate.
 #[derive(Clone, Copy, Debug, PartialEq, Eq)]
 pub(crate) struct ResponseCause {
     pub(crate) origin: Endpoint,

@@ -177,7 +177,7 @@ first_fetched = record {
 -- so it was obtained
 pub first_obtained : (past : List Action) → IsPositionOf past first_entry.asking → IsPositionOf past first_entry.getting → WasObtained setting past first_entry
 unfolding first_fetched token_of
-first_obtained past was_asked was_got = record { was_asked = was_asked; was_got = was_got; obtained = first_hand first_fetched refl (record { code = refl; age = omega arith }) }
+first_obtained past was_asked was_got = record { was_asked = was_asked; was_got = was_got; obtained = first_hand first_fetched refl (record { code = refl; max_age = omega arith }) }
 
 -- if it is unchanged, it is a reply from the cache, both before the change and after it
 from_cache_if : (past : List Action) → IsPositionOf past first_entry.asking → IsPositionOf past first_entry.getting → Unchanged setting key_of_temp.target first_entry.asking past → IsFromCache setting past (reply 25 9).observation

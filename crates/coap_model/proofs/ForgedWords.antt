@@ -234,7 +234,7 @@ valid_fetched = fetched-by (valid_gets validated_past (here tagged_past asks_tag
 pub renewed_obtained : IsObtained setting key_of_temp (renewed tagged_content (passed_part true valid_message)) (here tagged_past asks_tagged) (here validated_past gets_valid)
 unfolding tagged_fetched valid_fetched token_of target_options uint_spelling spelling option_spelling
 renewed_obtained =
-    validated valid_fetched (0xAB ∷ []) (first_hand tagged_fetched refl (record { code = refl; age = omega arith })) (inr (inl refl)) refl refl refl refl refl (record { code = refl; age = omega arith })
+    validated valid_fetched (0xAB ∷ []) (first_hand tagged_fetched refl (record { code = refl; max_age = omega arith })) (inr (inl refl)) refl refl refl refl refl (record { code = refl; max_age = omega arith })
 
 -- a 2.03 alone isn't a response that may be kept
 not-alone : {key : CacheKey} {response : Message} {asking : Position} {past : List Action} (gets : Gets setting 2 (here past gets_valid)) → gets.meets.message ≡ valid_message → (fetched : IsFetched setting key asking (here past gets_valid)) → response ≡ passed_part true fetched.gets.meets.message → IsLasting response → ⊥
@@ -271,7 +271,7 @@ early_fetched = fetched-by (valid_gets validated_early (here early_past asks_tag
 pub older_if_before : IsPositionOf early_past (here (asks_tagged ∷ early_past) gets_tagged) → IsObtained setting key_of_temp (renewed tagged_content (passed_part true valid_message)) (here early_past asks_tagged) (here validated_early gets_valid)
 unfolding late_tagged early_fetched token_of target_options uint_spelling spelling option_spelling
 older_if_before before =
-    validated early_fetched (0xAB ∷ []) (first_hand late_tagged refl (record { code = refl; age = omega arith })) before refl refl refl refl refl (record { code = refl; age = omega arith })
+    validated early_fetched (0xAB ∷ []) (first_hand late_tagged refl (record { code = refl; max_age = omega arith })) before refl refl refl refl refl (record { code = refl; max_age = omega arith })
 
 -- the 2.03 for a request without a tag
 abbrev untagged_gets : Gets setting 2 (here validated_untagged gets_valid)
@@ -294,7 +294,7 @@ untagged_fetched = fetched-by (untagged_gets) _ refl refl refl refl (newest-unch
 pub untagged_if_tagged : tags_of (get_for 3 2) ≡ (0xAB ∷ []) ∷ [] → IsObtained setting key_of_temp (renewed tagged_content (passed_part true valid_message)) (here tagged_past asks_again) (here validated_untagged gets_valid)
 unfolding tagged_fetched untagged_fetched token_of spelling option_spelling
 untagged_if_tagged tag =
-    validated untagged_fetched (0xAB ∷ []) (first_hand tagged_fetched refl (record { code = refl; age = omega arith })) (inr (inl refl)) refl tag refl refl refl (record { code = refl; age = omega arith })
+    validated untagged_fetched (0xAB ∷ []) (first_hand tagged_fetched refl (record { code = refl; max_age = omega arith })) (inr (inl refl)) refl tag refl refl refl (record { code = refl; max_age = omega arith })
 
 -- ---- a response that may not be passed on
 

@@ -82,7 +82,7 @@ data IsTaken (most : ℕ) (copy : Option Message) (m response : Message) : Type 
 lasting-so : (a : Answer) → is_storable a ≡ true → IsLasting a.message
 lasting-so a e =
     let both = and_parts (is_cacheable a.message.code) (nat_lt 0 (max_age_of a.message)) (and_parts (not a.own) (is_cacheable a.message.code && nat_lt 0 (max_age_of a.message)) e).1 in
-    record { code = both.0; age = ltb-true 0 (max_age_of a.message) both.1 }
+    record { code = both.0; max_age = ltb-true 0 (max_age_of a.message) both.1 }
 
 -- an answer that may be stored arrived in one of these ways
 taken-so : (most now : ℕ) (copy : Option Message) (m : Message) → is_storable (answer_of most true copy now m) ≡ true → IsTaken most copy m (answer_of most true copy now m).message
@@ -325,7 +325,7 @@ told-code code told = (go EMPTY refl, go VALID refl)
 
 -- a lasting response from an origin server may be stored
 lasting-storable : (now : ℕ) (r : Message) → IsLasting r → is_storable (origin_answer now r) ≡ true
-lasting-storable now r l = rw (l.code, lt-ltb 0 (max_age_of r) l.age) refl
+lasting-storable now r l = rw (l.code, lt-ltb 0 (max_age_of r) l.max_age) refl
 
 -- a response that is passed on and is lasting may be stored
 came-storable : (most now : ℕ) (copy : Option Message) (m : Message) → not (is_rst m.kind) ≡ true → is_passed_on most true m ≡ true → validates true m ≡ false → is_storable (origin_answer now (passed_part true m)) ≡ true → is_storable (answer_of most true copy now m) ≡ true

@@ -40,7 +40,7 @@ pub record IsFetched (setting : Setting) (key : CacheKey) (asking getting : Posi
 -- it may be kept: a 2.05 or an error of class 4 or 5, with a positive Max-Age
 pub record IsLasting (response : Message) : Type 0 where
   pub code : is_cacheable response.code ≡ true
-  pub age : 0 < max_age_of response
+  pub max_age : 0 < max_age_of response
 
 -- The response was obtained for this key: it arrived for a GET with the key, or it was obtained for
 -- the key before, and a 2.03 that renews it arrived for a GET with its tag. Each renewal was

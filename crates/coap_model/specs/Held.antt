@@ -1,8 +1,8 @@
 -- How many bytes a proxy holds, counted in two ways, and the most that its limits let it hold.
 --
 -- - `held` counts the bytes that the program keeps: options in their encoding, and each path
---   segment, query part and tag with its length. It is promised to be at most `most_held`
---   (`Promised`).
+--   segment, query part and tag with its length. What is shared counts for each that keeps it, so
+--   it is no less than what is kept. It is promised to be at most `most_held` (`Promised`).
 -- - `bytes_held` counts the values: responses and keys as a store counts them. It is at most
 --   `held`, and so within the same bound (`bytes_held_are_kept` in `src/laws.rt`).
 --

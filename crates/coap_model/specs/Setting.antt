@@ -1,4 +1,4 @@
--- The configuration that a proxy is created with, which no step changes (`laws::settings_stay`).
+-- The setting that a proxy is created with, which no step changes (`laws::settings_stay`).
 use Rattle.std.specs.Prelude.{ℕ}
 use Rattle.coap_target.specs.declared.routes.Routes.{Routes}
 use Rattle.coap_limits.specs.Limits.{Limits}

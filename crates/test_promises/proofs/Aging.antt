@@ -52,7 +52,7 @@ pub not_ageless : (response : Message) → ¬ IsObtained setting key_of_temp res
 unfolding token_of
 not_ageless response (first_hand fetched is lasting) =
     let same : response ≡ ageless = is ∙ ap (passed_part true) (one-getting fetched.gets ageless_gets).message in
-    let age : 0 < 0 = subst (λ (m : Message). 0 < max_age_of m) same lasting.age in
+    let age : 0 < 0 = subst (λ (m : Message). 0 < max_age_of m) same lasting.max_age in
     omega (arith, age)
 not_ageless response (validated {old = old} fetched tag obtained behind tagged sent is renewal fit lasting) =
     absurd (no-validation old (passed_part true ageless) refl (subst (λ (m : Message). is_validated old (passed_part true m) ≡ true) (one-getting fetched.gets ageless_gets).message is))
@@ -78,8 +78,8 @@ ageless_valid_gets = gets-by default_limits validated_past gets_ageless_valid 2 
 -- what gets its Max-Age isn't obtained
 pub not_ageless_valid : ¬ IsObtained setting key_of_temp (renewed_by ageless_valid) (here tagged_past asks_tagged) (here validated_past gets_ageless_valid)
 unfolding uint_spelling
-not_ageless_valid (first_hand fetched is lasting) = let age : 0 < 0 = lasting.age in omega (arith, age)
-not_ageless_valid (validated fetched tag obtained behind tagged sent is renewal fit lasting) = let age : 0 < 0 = lasting.age in omega (arith, age)
+not_ageless_valid (first_hand fetched is lasting) = let age : 0 < 0 = lasting.max_age in omega (arith, age)
+not_ageless_valid (validated fetched tag obtained behind tagged sent is renewal fit lasting) = let age : 0 < 0 = lasting.max_age in omega (arith, age)
 
 -- though it was asked for
 pub ageless_valid_asked : IsAsked default_limits (here tagged_past asks_tagged) (here validated_past gets_ageless_valid) ageless_valid

@@ -92,7 +92,7 @@ pub tagged_obtained : (limits : Limits) → 19 ≤ limits.datagram → is_passed
 unfolding token_of target_options target_sent key_sent spelling option_spelling uint_spelling
 tagged_obtained limits long passed =
     first_hand (fetched-by limits key_of_temp (tagged_gets limits long) _ refl refl refl passed (newest-unchanged (setting_with limits) key_of_temp.target (opened ∷ []) asked refl))
-    refl (record { code = refl; age = omega arith })
+    refl (record { code = refl; max_age = omega arith })
 
 -- ---- renewals
 
@@ -169,7 +169,7 @@ other_valid_fits = refl
 -- and would last
 pub other_valid_lasts : IsLasting (renewed_by other_valid)
 unfolding uint_spelling
-other_valid_lasts = record { code = refl; age = omega arith }
+other_valid_lasts = record { code = refl; max_age = omega arith }
 
 -- ---- a request with another tag
 
@@ -206,7 +206,7 @@ valid_fits = refl
 -- and would last
 pub valid_lasts : IsLasting (renewed_by valid_message)
 unfolding uint_spelling
-valid_lasts = record { code = refl; age = omega arith }
+valid_lasts = record { code = refl; max_age = omega arith }
 
 -- ---- a response that grows too long
 
@@ -227,7 +227,7 @@ format-asked limits long passed valid = record {
 -- and lasts
 pub format_lasts : IsLasting (renewed_by format_valid)
 unfolding uint_spelling
-format_lasts = record { code = refl; age = omega arith }
+format_lasts = record { code = refl; max_age = omega arith }
 
 -- so it is obtained with 24 bytes
 pub format_fits : IsObtained (setting_with (limits_of 24)) key_of_temp (renewed_by format_valid) (here tagged_past asks_tagged) (here validated_past gets_format_valid)

@@ -79,8 +79,8 @@ quiet_past = asks_again ∷ opens_again ∷ asked ∷ opened ∷ []
 
 -- ---- responses that may be passed on
 
--- What makes a response a fetched one, but for two words: that its request was a GET, and that the
--- target wasn't changed. It arrived for a request that was sent with this key at this position.
+-- What makes a response a fetched one, but for two conditions: that its request was a GET, and that
+-- the target wasn't changed. It arrived for a request that was sent with this key at this position.
 pub record IsAnswerTo (key : CacheKey) (asking getting : Position) : Type 0 where
   pub exchange : ℕ
   pub gets : Gets setting exchange getting

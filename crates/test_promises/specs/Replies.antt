@@ -76,8 +76,8 @@ accepting =
 abbrev pub key_accepting : CacheKey
 key_accepting = record key_of_temp { options = option_of ACCEPT (0x28 ∷ []) ∷ [] }
 
--- What makes this a reply with the first answer, but for two words: that the request is a GET, and
--- that the answer was obtained for the request's key.
+-- What makes this a reply with the first answer, but for two conditions: that the request is a GET,
+-- and that the answer was obtained for the request's key.
 pub record IsShownTo (request : Message) (key : CacheKey) (bytes : List ℕ) : Type 0 where
   pub asked : IsRequestOf setting (client 4) request (replied_to bytes).event
   pub key_is : verdict_on setting request ≡ may_ask key

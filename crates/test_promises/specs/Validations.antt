@@ -73,8 +73,8 @@ limits_of datagram = record default_limits { datagram = datagram }
 
 -- ---- renewals
 
--- What makes a message renew the response with the tag AB, but for words about tags, length and
--- age: it arrived for a GET with the key, which was sent after that response was obtained.
+-- What makes a message renew the response with the tag AB, but for conditions on tags, length and
+-- Max-Age: it arrived for a GET with the key, which was sent after that response was obtained.
 pub record IsAsked (limits : Limits) (asking getting : Position) (m : Message) : Type 0 where
   pub fetched : IsFetched (setting_with limits) key_of_temp asking getting
   pub message : fetched.gets.meets.message ≡ m

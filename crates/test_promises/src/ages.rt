@@ -1,4 +1,4 @@
-//! Responses that are never fresh.
+//! Responses with a Max-Age of 0, which aren't stored.
 ghost use Rattle.std.specs.Prelude.{◌≡◌, ◌∷◌, [], true};
 ghost use Rattle.coap_message.specs.Message.{Message};
 ghost use Rattle.coap_limits.specs.Limits.{default_limits};
@@ -16,18 +16,18 @@ ghost use Rattle.test_promises.specs.Validations.{renewed_by, tags_asked, IsAske
 
 /// A response with a Max-Age of 0 isn't obtained, nor is one that gets it from a 2.03 (RFC 7252,
 /// 5.6.1 and 5.10.5).
-pub fn responses_without_an_age_are_refused()
+pub fn responses_with_a_max_age_of_0_are_refused()
     ensures with_one { IsObtained setting key_of_temp first_entry.response
         first_entry.asking first_entry.getting }
     ensures without { (response : Message) → ¬ IsObtained setting key_of_temp response
         first_entry.asking (at get_past gets_ageless) }
-    ensures but_for_its_age { (fetched : IsFetched setting key_of_temp
+    ensures but_for_its_max_age { (fetched : IsFetched setting key_of_temp
         first_entry.asking (at get_past gets_ageless))
         × (fetched.gets.meets.message ≡ ageless)
         × (is_cacheable (passed_part true ageless).code ≡ true) }
     ensures renewed { ¬ IsObtained setting key_of_temp (renewed_by ageless_valid)
         (at tagged_past asks_tagged) (at validated_past gets_ageless_valid) }
-    ensures but_for_the_age_of_the_validation { (is : IsAsked default_limits
+    ensures but_for_the_max_age_of_the_validation { (is : IsAsked default_limits
         (at tagged_past asks_tagged) (at validated_past gets_ageless_valid) ageless_valid)
         × (tags_asked is ≡ (0xAB ∷ []) ∷ [])
         × (is_validated tagged_content (passed_part true ageless_valid) ≡ true)

@@ -1,10 +1,10 @@
-//! Examples that guard the promises: what one word of a definition alone refuses, and what is
+//! Examples that guard the promises: what one condition of a definition alone refuses, and what is
 //! accepted at its edge. Public functions that do nothing, whose contracts are the examples, or
-//! laws that fail without a word. No crate depends on them.
+//! laws that fail without a condition. No crate depends on them.
 //!
-//! A clause that begins with `but_for_` says that all other words hold of what is refused beside
-//! it. A clause `whole` says that nothing more is missing: with the word that is left it is
-//! accepted.
+//! A clause that begins with `but_for_` says that all other conditions hold of what is refused
+//! beside it. A clause `whole` says that nothing more is missing: with the condition that is left
+//! it is accepted.
 #![tactic(auto)]
 
 pub mod ages;

@@ -9,8 +9,8 @@ use Rattle.coap_core.proofs.state.State.answer.Goals as goal
 pub answered-requires : goal.answered-requires
 answered-requires g c =
     let kept = rw (c.invalidate_all.ensures, c.in_ok-send.ensures.done) at c.store_entry-storing.ensures in
-    let still = left-open c.args.self.now c.store_entry-storing.new.self c.args.arrival.now c.args.number c.args.arrival.from c.args.arrival.message.now (targets_in c.in_ok-changed.changed) c.in_ok-entry.entry c.store_entry-storing.result kept c.requires.open in
-    record { «open» = rw (← c.self-2.view_is) at still }
+    let still = left-open c.args.self.now c.store_entry-storing.new.self c.args.arrival.now c.args.number c.args.arrival.from c.args.arrival.message.now (targets_in c.in_ok-changed.changed) c.in_ok-entry.entry c.store_entry-storing.result kept c.requires.unanswered in
+    record { unanswered = rw (← c.self-2.view_is) at still }
 
 pub advance-requires : goal.advance-requires
 advance-requires g c =

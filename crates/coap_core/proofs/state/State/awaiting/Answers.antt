@@ -21,7 +21,7 @@ token g c = rw (← c.token.ensures.bytes) c.in_ok-number.ensures.found
 
 -- the numbers that were given fit eight bytes
 few : (g : Over) (c : After-exchange g) → c.self.inside.under_way.exchanges.admitted < 2 ^ 64
-few g c = subst (λ (n : ℕ). n < 2 ^ 64) (c.admitted-few.ensures.exact ∙ ap (λ (t : Table Exchange). t.admitted) c.exchanges.ensures.exact) c.admitted-few.type_inv
+few g c = subst (λ (n : ℕ). n < 2 ^ 64) (c.admitted-laws.ensures.exact ∙ ap (λ (t : Table Exchange). t.admitted) c.exchanges.ensures.exact) c.admitted-laws.type_inv
 
 pub returns-in_err-exchange-clause-exact : goal.returns-in_err-exchange-clause-exact
 returns-in_err-exchange-clause-exact g c =
@@ -41,8 +41,8 @@ returns-else-awaits-clause-exact g c =
     let got = (goal.at.returns-else-awaits-clause-exact g c).After-exchange in
     rw (← c.self.view_is) (sym (awaits-one c.self.inside.setting.salt c.args.source m c.in_ok-number.number c.self.inside.under_way.exchanges c.in_ok-number.ensures.small (token g got) c.exchange.ensures.sound (few g got) c.in_ok-exchange.exchange.now (sym c.in_ok-exchange.ensures.exact) false c.if-awaits.ensures))
 
-pub returns-then-awaits-clause-open : goal.returns-then-awaits-clause-open
-returns-then-awaits-clause-open g c =
+pub returns-then-awaits-clause-unanswered : goal.returns-then-awaits-clause-unanswered
+returns-then-awaits-clause-unanswered g c =
     let found : item_at c.in_ok-number.number c.args.self.now.exchanges ≡ Some c.in_ok-exchange.exchange.now = rw (← c.self.view_is) (sym c.in_ok-exchange.ensures.exact) in
     record {
       item = c.in_ok-exchange.exchange.now;

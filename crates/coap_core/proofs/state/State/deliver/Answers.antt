@@ -9,4 +9,4 @@ pub take_id-requires : goal.take_id-requires
 take_id-requires g c =
     let v = c.requires.waits.item in
     let waits : is_waiting v ≡ true = rw c.requires.waits.holds.waits refl in
-    subst (λ (w : State). 0 < left_of c.args.timing.now w.ids) (sym c.in_ok-record_delivery.ensures.ok) (id-for-waiting c.args.self.now c.args.timing.now c.args.delivery.waiter.number v c.requires.ready.can c.requires.ready.onward c.requires.waits.found waits)
+    subst (λ (w : State). 0 < left_of c.args.timing.now w.ids) (sym c.in_ok-note_delivery.ensures.ok) (id-for-waiting c.args.self.now c.args.timing.now c.args.delivery.waiter.number v c.requires.ready.can c.requires.ready.onward c.requires.waits.found waits)

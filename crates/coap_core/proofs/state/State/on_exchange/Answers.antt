@@ -18,9 +18,9 @@ found g c = rw (← c.self.view_is) (sym c.in-Some.ensures.exact)
 due : (g : Over) (c : In-Some g) → IsExchangeDue c.args.self.now c.args.timing.now c.in-Some.exchange.now
 due g c = subst (IsExchangeDue c.args.self.now c.args.timing.now) (same_Some _ _ (sym c.requires.due.found ∙ found g c)) c.requires.due.holds
 
-pub give_up-requires-clause-open : goal.give_up-requires-clause-open
-give_up-requires-clause-open g c =
-    let k = (goal.at.give_up-requires-clause-open g c).In-Some in
+pub give_up-requires-clause-unanswered : goal.give_up-requires-clause-unanswered
+give_up-requires-clause-unanswered g c =
+    let k = (goal.at.give_up-requires-clause-unanswered g c).In-Some in
     rw (found g k) (is-open c.args.self.now c.args.timing.now c.in-Some.exchange.now (due g k))
 
 pub send-requires-clause-can : goal.send-requires-clause-can

@@ -27,8 +27,8 @@ put_form-requires-clause-fits g c =
     let fits : length x.form ≤ c.args.out.now.room = subst (λ (s : Step). length s.bytes ≤ c.args.out.now.room) (again-step w c.args.now c.args.due.number x found again) c.requires.can.fits in
     rw (c.fire.ensures.fired, changed-found c.args.due.number (fired_exchange c.args.now) c.self.inside.under_way.exchanges.items x here) fits
 
-pub give_up-requires-clause-open : goal.give_up-requires-clause-open
-give_up-requires-clause-open g c =
+pub give_up-requires-clause-unanswered : goal.give_up-requires-clause-unanswered
+give_up-requires-clause-unanswered g c =
     let x = c.requires.ended.item in
     let found = c.requires.ended.found in
     let here : item_at c.args.due.number c.self.inside.under_way.exchanges.items ≡ Some x = subst (λ (v : State). item_at c.args.due.number v.exchanges ≡ Some x) (sym c.self.view_is) found in

@@ -10,18 +10,18 @@ replace-requires-clause-free c =
     let old : Tables = record { exchanges = c.self.inside.exchanges; waiters = c.self.inside.waiters } in
     let new : Tables = record { exchanges = c.answered.new.self; waiters = c.self.inside.waiters } in
     let stays = exchange-elsewhere c.args.number old c.answered.new.self (λ q e. rw c.answered.ensures.answered (changed-others c.args.number q (answered c.args.answer) c.self.inside.exchanges.items e)) in
-    free-as old new c.ready_in-is.ensures.sound c.ready_in-is.ensures.sound (Some c.args.number) stays c.self.inside.ready c.self.invariant None c.ready_in-is.result (open-unready old c.args.number (rw (← c.self.view_is) at c.requires.open)) (sym c.ready_in-is.ensures.exact)
+    free-as old new c.ready_in-is.ensures.sound c.ready_in-is.ensures.sound (Some c.args.number) stays c.self.inside.ready c.self.invariant None c.ready_in-is.result (open-unready old c.args.number (rw (← c.self.view_is) at c.requires.unanswered)) (sym c.ready_in-is.ensures.exact)
 
 pub replace-requires-clause-room : goal.replace-requires-clause-room
 replace-requires-clause-room c =
     let old : Tables = record { exchanges = c.self.inside.exchanges; waiters = c.self.inside.waiters } in
     let new : Tables = record { exchanges = c.answered.new.self; waiters = c.self.inside.waiters } in
     let stays = exchange-elsewhere c.args.number old c.answered.new.self (λ q e. rw c.answered.ensures.answered (changed-others c.args.number q (answered c.args.answer) c.self.inside.exchanges.items e)) in
-    room-as old new c.ready_in-is.ensures.sound c.ready_in-is.ensures.sound (Some c.args.number) stays c.self.inside.ready c.self.invariant c.laws.ensures refl None c.ready_in-is.result (open-unready old c.args.number (rw (← c.self.view_is) at c.requires.open)) (sym c.ready_in-is.ensures.exact)
+    room-as old new c.ready_in-is.ensures.sound c.ready_in-is.ensures.sound (Some c.args.number) stays c.self.inside.ready c.self.invariant c.laws.ensures refl None c.ready_in-is.result (open-unready old c.args.number (rw (← c.self.view_is) at c.requires.unanswered)) (sym c.ready_in-is.ensures.exact)
 
 pub invariant_of-self : goal.invariant_of-self
 invariant_of-self c =
     let old : Tables = record { exchanges = c.self.inside.exchanges; waiters = c.self.inside.waiters } in
     let new : Tables = record { exchanges = c.answered.new.self; waiters = c.self.inside.waiters } in
     let stays = exchange-elsewhere c.args.number old c.answered.new.self (λ q e. rw c.answered.ensures.answered (changed-others c.args.number q (answered c.args.answer) c.self.inside.exchanges.items e)) in
-    moved-as old new c.ready_in-is.ensures.sound c.ready_in-is.ensures.sound (Some c.args.number) stays c.self.inside.ready c.self.invariant None c.ready_in-is.result (open-unready old c.args.number (rw (← c.self.view_is) at c.requires.open)) (sym c.ready_in-is.ensures.exact) c.replace.new.self c.replace.ensures.replaced c.replace.ensures.limit refl
+    moved-as old new c.ready_in-is.ensures.sound c.ready_in-is.ensures.sound (Some c.args.number) stays c.self.inside.ready c.self.invariant None c.ready_in-is.result (open-unready old c.args.number (rw (← c.self.view_is) at c.requires.unanswered)) (sym c.ready_in-is.ensures.exact) c.replace.new.self c.replace.ensures.replaced c.replace.ensures.limit refl

@@ -1,5 +1,5 @@
 use Rattle.std.proofs.Common.{rules}
-use Rattle.coap_core.proofs.state.State.record_delivery.Goals as goal
+use Rattle.coap_core.proofs.state.State.note_delivery.Goals as goal
 
 pub returns-in_ok-bytes-in-Con-clause-ok : goal.returns-in_ok-bytes-in-Con-clause-ok
 returns-in_ok-bytes-in-Con-clause-ok g c = search rules
