@@ -6,6 +6,7 @@ pub mod Records
 pub mod Keeping
 pub mod Awaiting
 pub mod Uris
+pub mod Undoing
 pub mod Widths
 pub mod Read
 pub mod Puts

@@ -1,7 +1,7 @@
 //! What a proxy was made with, and its tables.
 ghost use Rattle.std.specs.Prelude.{◌≡◌, ◌+◌, ◌<◌, ◌^◌, None, IfOk};
 ghost use Rattle.coap_pending.specs.Ids.{called, left_of};
-ghost use Rattle.coap_pending.specs.Table.{empty_table};
+ghost use Rattle.coap_pending.specs.Table.{seeded_table};
 ghost use Rattle.coap_limits.specs.Limits.{AreLimits};
 ghost use Rattle.coap_model.specs.State.{next_id, later, reserved, has_ids, has_exchange_room, has_waiter_room, has_room_to_join, has_room_to_open, new_state, no_con_records, no_non_records, client_counts, counts};
 ghost use Rattle.coap_core.specs.Settings.{seen};
@@ -76,7 +76,9 @@ impl<S: Store> Model for State<S> {
         × (w.under_way.waiters.limit ≡ w.setting.limits.waiters)
         × (w.under_way.exchanges.per_client ≡ w.setting.limits.client_exchanges)
         × (w.under_way.waiters.per_client ≡ w.setting.limits.client_waiters)
-        × AreStoreLimits w.setting.limits (S.limits w.store) };
+        × AreStoreLimits w.setting.limits (S.limits w.store)
+        × (w.under_way.exchanges.seed ≡ S.secret w.store)
+        × (w.under_way.waiters.seed ≡ S.secret w.store) };
 }
 
 impl<S: Store + Drop> State<S> {
@@ -242,9 +244,10 @@ impl<S: Store + Drop> State<S> {
 /// spread by depends on `seed`, which peers can't know.
 fn new_tables(alloc: Global, limits: &Limits, seed: u64) -> Result<UnderWay, OutOfMemory>
     ensures exchanges { IfOk result (λ made.
-        made.exchanges ≡ empty_table limits.now.exchanges limits.now.client_exchanges) }
+        made.exchanges
+        ≡ seeded_table seed limits.now.exchanges limits.now.client_exchanges) }
     ensures waiters { IfOk result (λ made.
-        made.waiters ≡ empty_table limits.now.waiters limits.now.client_waiters) }
+        made.waiters ≡ seeded_table seed limits.now.waiters limits.now.client_waiters) }
 {
     let (all, per_client) = (limits.values().exchanges, limits.values().client_exchanges);
     let exchanges = Exchanges::seeded(alloc, all as usize, per_client as usize, seed)?;

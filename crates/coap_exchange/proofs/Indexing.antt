@@ -1,8 +1,9 @@
 -- The indexes of exchanges keep step with their table, as exchanges come, change and go.
-use Rattle.std.proofs.Common.{◌≡◌, ℕ, ◌≤◌, List, length, Option, sym, subst}
+use Rattle.std.proofs.Common.{◌≡◌, ℕ, ◌≤◌, ◌∙◌, List, length, Option, sym, subst}
 use Rattle.coap_pending.specs.declared.exchange.Exchange.{Exchange}
 use Rattle.coap_exchange.specs.declared.index.Index.{Index}
-use Rattle.coap_exchange.specs.Index.{id_of, opening_of, end_of, queue_of, cache_key_of, target_of, keys_at, AreIndexed, CanRekeyAll, HaveRekeyed}
+use Rattle.coap_exchange.specs.declared.index.ExchangeKeys.{ExchangeKeys}
+use Rattle.coap_exchange.specs.Index.{id_of, opening_of, end_of, queue_of, cache_key_of, target_of, keys_at, AreIndexed, CanRekeyAll, HaveRekeyed, IsSpread}
 use Rattle.coap_pending.specs.Table.{Numbered, IsRising, item_at}
 use Rattle.endpoint_counts.specs.IndexOf.{IsIndexOf}
 use Rattle.endpoint_counts.proofs.Indexing.{Moves, can-pass, has-passed}
@@ -38,3 +39,15 @@ module _ (n limit : ℕ) (xs ys : List (Numbered Exchange)) (index : Index) (mov
   have-passed-as next have rising =
       let passed : HaveRekeyed index next n (keys_at index.secret (item_at n xs)) (keys_at index.secret (item_at n ys)) = rw (there, then) have in
       all-have-passed n limit xs ys index next moves are passed rising
+
+-- ---- the seed
+
+-- what spreads the indexes stays
+pub spread-passed : (seed n : ℕ) (old new : Index) (was is : ExchangeKeys) → IsSpread seed old → HaveRekeyed old new n was is → IsSpread seed new
+spread-passed seed n old new was is spread have = record {
+  digests = have.secret ∙ spread.digests;
+  ids = have.ids.seed ∙ spread.ids;
+  queues = have.queues.seed ∙ spread.queues;
+  cache_keys = have.cache_keys.seed ∙ spread.cache_keys;
+  targets = have.targets.seed ∙ spread.targets;
+}

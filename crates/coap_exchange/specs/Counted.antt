@@ -7,6 +7,8 @@ use Rattle.endpoint_counts.specs.Endpoints.{Endpoints, open_in, queued_in, sent_
 use Rattle.endpoint_counts.specs.declared.slots.Entry.{Entry}
 use Rattle.ordered_index.specs.Ordered.{OrderedIndex}
 use Rattle.coap_pending.specs.Table.{Numbered, Table, count, passes}
+use Rattle.coap_exchange.specs.declared.index.Index.{Index}
+use Rattle.coap_exchange.specs.Index.{IsSpread}
 
 -- the counts for each endpoint are the true numbers of exchanges with it
 pub record AreCounted (exchanges : List (Numbered Exchange)) (endpoints : Endpoints) : Type 0 where
@@ -33,3 +35,9 @@ pub record HaveRoom (limit : ℕ) (heads : OrderedIndex) (endpoints clients : Ta
   pub for_heads : heads.limit ≡ limit
   pub for_endpoints : endpoints.limit ≡ limit
   pub for_clients : clients.limit ≡ limit
+
+-- counts by endpoint and by client are spread by this seed, and so is what exchanges are looked up by
+pub record AreSpread (seed : ℕ) (index : Index) (endpoints clients : Table Entry) : Type 0 where
+  pub for_index : IsSpread seed index
+  pub for_endpoints : endpoints.seed ≡ seed
+  pub for_clients : clients.seed ≡ seed

@@ -10,7 +10,7 @@ use Rattle.endpoint_counts.specs.Digests.{digest_of_endpoint}
 use Rattle.coap_store.specs.Digests.{digest_of_key, digest_of_target}
 use Rattle.endpoint_counts.specs.IndexOf.{key_at, CanRekey, HasRekeyed, IsIndexOf}
 use Rattle.coap_pending.specs.Exchanges.{answer_at, is_acked, is_blocked, is_done, is_joinable, is_missing, is_queued, is_sent, was_sent_as, is_queued_to}
-use Rattle.ordered_index.specs.Ordered.{Pair, empty_index, is_in}
+use Rattle.ordered_index.specs.Ordered.{Pair, empty_index, is_in, seeded_index}
 use Rattle.coap_pending.specs.Table.{Numbered, IsRising, item_at, passes}
 
 -- ---- what an exchange is looked up by
@@ -78,13 +78,21 @@ abbrev pub empty_indexes : ℕ → ℕ → Index
 empty_indexes secret limit =
     record {
       secret = secret;
-      ids = empty_index limit;
+      ids = seeded_index secret limit;
       openings = empty_index limit;
       ends = empty_index limit;
-      queues = empty_index limit;
-      cache_keys = empty_index limit;
-      targets = empty_index limit;
+      queues = seeded_index secret limit;
+      cache_keys = seeded_index secret limit;
+      targets = seeded_index secret limit;
     }
+
+-- what isn't in order is spread by this seed, with which digests are made, too
+pub record IsSpread (seed : ℕ) (index : Index) : Type 0 where
+  pub digests : index.secret ≡ seed
+  pub ids : index.ids.seed ≡ seed
+  pub queues : index.queues.seed ≡ seed
+  pub cache_keys : index.cache_keys.seed ≡ seed
+  pub targets : index.targets.seed ≡ seed
 
 pub record CanRekeyAll (index : Index) (number : ℕ) (was is : ExchangeKeys) : Type 0 where
   pub ids : CanRekey index.ids number was.id is.id

@@ -1,10 +1,10 @@
 //! What a change of an exchange, or its removal, does to all that is kept of it.
-ghost use Rattle.std.specs.Prelude.{◌≡◌, ◌+◌, ◌-◌, ◌<◌, if◌then◌else◌, false, None, nat_eq, IfSome, IfNone};
+ghost use Rattle.std.specs.Prelude.{◌≡◌, ℕ, ◌+◌, ◌-◌, ◌<◌, if◌then◌else◌, false, None, nat_eq, IfSome, IfNone};
 ghost use Rattle.std.specs.Map.{set_value};
 ghost use Rattle.std.specs.Option.{option_copied, option_map};
-ghost use Rattle.indexmap.specs.IndexMap.{get};
+ghost use Rattle.indexmap.specs.IndexMap.{get, hasher_of};
 ghost use Rattle.coap_pending.specs.Exchanges.{after_transition, is_queued, is_sent_to, sent, tainted_by, CanChange, CanUpdate, is_queued_to, is_with};
-ghost use Rattle.coap_exchange.specs.Index.{keys_at, AreIndexed};
+ghost use Rattle.coap_exchange.specs.Index.{keys_at, AreIndexed, IsSpread};
 ghost use Rattle.endpoint_counts.specs.Endpoints.{open_in, queued_in, sent_in};
 ghost use Rattle.coap_exchange.specs.Counted.{AreCounted, IsRecounted};
 ghost use Rattle.coap_pending.specs.Table.{item_at, changed_at, all_changed, count, passes, IsTable};
@@ -111,6 +111,7 @@ fn change_under(
         ≡ set_value (nat_eq number) exchanges.old.entries (after_transition change x)) }
     ensures missing { IfNone (get nat_eq exchanges.old number)
         (exchanges.new.entries ≡ exchanges.old.entries) }
+    ensures hasher { hasher_of exchanges.new ≡ hasher_of exchanges.old }
     ensures keys { result
         ≡ keys_at secret (option_map (after_transition change) (get nat_eq exchanges.old number)) }
 {
@@ -137,6 +138,7 @@ fn taint_under(
         ≡ set_value (nat_eq number) exchanges.old.entries (tainted_by target.now x)) }
     ensures missing { IfNone (get nat_eq exchanges.old number)
         (exchanges.new.entries ≡ exchanges.old.entries) }
+    ensures hasher { hasher_of exchanges.new ≡ hasher_of exchanges.old }
 {
     let Some(place) = place_in(exchanges, place, number) else {
         return;
@@ -155,6 +157,7 @@ pub(crate) fn taint_all(exchanges: &mut Table<IndexedExchange>, index: &mut Inde
           items = all_changed (tainted_by target.now) exchanges.old.items;
         } }
     ensures indexed { AreIndexed exchanges.new.items exchanges.new.limit index.new }
+    ensures spread { (seed : ℕ) → IsSpread seed index.old → IsSpread seed index.new }
 {
     let digest = digest_of_target(index.secret, target);
     let mut after = 0;
@@ -178,6 +181,7 @@ fn taint_one(
         } }
     ensures secret { index.new.secret ≡ index.old.secret }
     ensures indexed { AreIndexed exchanges.new.items exchanges.new.limit index.new }
+    ensures spread { (seed : ℕ) → IsSpread seed index.old → IsSpread seed index.new }
 {
     let secret = index.secret;
     let was = keys_at(exchanges, number, secret);
@@ -226,6 +230,7 @@ fn recount(
     ensures is { IfSome (item_at number exchanges.now.items)
         (λ x. result.is ≡ sent_in endpoints.new x.key.target.at) }
     ensures limit { endpoints.new.limit ≡ endpoints.old.limit }
+    ensures seed { endpoints.new.seed ≡ endpoints.old.seed }
     ensures all { IsRecounted is_with (open_in endpoints.old) (open_in endpoints.new)
         (item_at number exchanges.now.items)
         (updated after_transition change.now (item_at number exchanges.now.items)) }

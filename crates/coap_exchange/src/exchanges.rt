@@ -10,7 +10,7 @@ ghost use Rattle.coap_pending.specs.Exchanges.{acked, answer_in, answered, due_a
 ghost use Rattle.coap_exchange.specs.Opening.{opened};
 ghost use Rattle.coap_exchange.specs.Index.{AreIndexed};
 ghost use Rattle.coap_exchange.specs.Counted.{AreCounted};
-ghost use Rattle.coap_pending.specs.Table.{empty_table, item_at, admitted_to, without, withdrawn, changed_at, all_changed, count, first_that, IsTable};
+ghost use Rattle.coap_pending.specs.Table.{empty_table, seeded_table, item_at, admitted_to, without, withdrawn, changed_at, all_changed, count, first_that, IsTable};
 ghost use Rattle.coap_exchange.specs.SendQueue.{IsSendQueue};
 
 use crate::exchange_changes::taint_all;
@@ -66,7 +66,7 @@ impl Model for Exchanges {
     ghost use Rattle.endpoint_counts.specs.Clients.{AreOfClients, AreWithin};
     ghost use Rattle.coap_pending.specs.Exchanges.{AreExchanges, is_opened_by};
     ghost use Rattle.coap_exchange.specs.Index.{AreIndexed};
-    ghost use Rattle.coap_exchange.specs.Counted.{AreCounted, HaveRoom};
+    ghost use Rattle.coap_exchange.specs.Counted.{AreCounted, AreSpread, HaveRoom};
     ghost use Rattle.coap_pending.specs.Table.{Table};
     ghost use Rattle.coap_exchange.specs.SendQueue.{IsSendQueue};
 
@@ -81,7 +81,8 @@ impl Model for Exchanges {
         × IsSendQueue e.table.items e.send_queue
         × AreOfClients is_opened_by e.table.items e.clients
         × AreWithin is_opened_by e.table
-        × HaveRoom e.table.limit e.send_queue.heads e.endpoints e.clients };
+        × HaveRoom e.table.limit e.send_queue.heads e.endpoints e.clients
+        × AreSpread e.table.seed e.index e.endpoints e.clients };
 }
 
 impl Exchanges {
@@ -107,7 +108,7 @@ impl Exchanges {
         per_client: usize,
         seed: u64,
     ) -> Result<Exchanges, OutOfMemory>
-        ensures empty { IfOk result (λ exchanges. exchanges ≡ empty_table limit per_client) }
+        ensures empty { IfOk result (λ exchanges. exchanges ≡ seeded_table seed limit per_client) }
     {
         let send_queue = SendQueue::new(alloc, limit)?;
         let endpoints = EndpointMap::new(alloc, limit, seed)?;

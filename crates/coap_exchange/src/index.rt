@@ -2,7 +2,7 @@
 ghost use Rattle.std.specs.Prelude.{◌≡◌, Some, IfOk};
 ghost use Rattle.std.specs.Option.{option_copied};
 ghost use Rattle.coap_exchange.specs.Index.{empty_indexes, queue_of, end_of, id_of, cache_key_of, target_of, is_met, opening_of, keys_at, AreListed, CanRekeyAll, HaveRekeyed};
-ghost use Rattle.ordered_index.specs.Ordered.{empty_index};
+ghost use Rattle.ordered_index.specs.Ordered.{seeded_index};
 ghost use Rattle.coap_pending.specs.Table.{first_that, item_at, passes, IsRising, IsTable};
 
 use crate::indexed_exchange::IndexedExchange;
@@ -90,8 +90,8 @@ fn two_indexes(
     limit: usize,
     seed: u64,
 ) -> Result<(HashedIndex, HashedIndex), OutOfMemory>
-    ensures first { IfOk result (λ two. two.0 ≡ empty_index limit) }
-    ensures second { IfOk result (λ two. two.1 ≡ empty_index limit) }
+    ensures first { IfOk result (λ two. two.0 ≡ seeded_index seed limit) }
+    ensures second { IfOk result (λ two. two.1 ≡ seeded_index seed limit) }
 {
     let first = HashedIndex::new(alloc, limit, seed)?;
     let second = HashedIndex::new(alloc, limit, seed)?;

@@ -2,7 +2,7 @@
 ghost use Rattle.std.specs.Prelude.{◌≡◌, ◌+◌, ◌-◌, ◌<◌, if◌then◌else◌, nat_eq, IfSome, IfNone};
 ghost use Rattle.std.specs.Map.{set_value};
 ghost use Rattle.std.specs.Option.{option_copied, option_map};
-ghost use Rattle.indexmap.specs.IndexMap.{get};
+ghost use Rattle.indexmap.specs.IndexMap.{get, hasher_of};
 ghost use Rattle.coap_exchange.specs.WaiterIndex.{waiter_keys_at};
 ghost use Rattle.coap_pending.specs.Table.{item_at, changed_at, count, passes, IsTable};
 ghost use Rattle.coap_pending.specs.Waiters.{after_transition, is_waiting, CanChange, CanUpdate};
@@ -93,6 +93,7 @@ fn change_under(
         ≡ set_value (nat_eq number) waiters.old.entries (after_transition change w)) }
     ensures missing { IfNone (get nat_eq waiters.old number)
         (waiters.new.entries ≡ waiters.old.entries) }
+    ensures hasher { hasher_of waiters.new ≡ hasher_of waiters.old }
     ensures keys { result
         ≡ waiter_keys_at (option_map (after_transition change) (get nat_eq waiters.old number)) }
 {

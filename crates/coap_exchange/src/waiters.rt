@@ -9,7 +9,7 @@ ghost use Rattle.coap_endpoint.specs.declared.endpoint.Endpoint.{Endpoint};
 ghost use Rattle.endpoint_counts.specs.Clients.{count_of, AreOfClients, AreWithin};
 ghost use Rattle.coap_pending.specs.Due.{due_row, first_due};
 ghost use Rattle.coap_exchange.specs.WaiterIndex.{answered_of, end_of};
-ghost use Rattle.coap_pending.specs.Table.{empty_table, item_at, admitted_to, without, withdrawn, changed_at, count, first_that, passes, IsTable};
+ghost use Rattle.coap_pending.specs.Table.{empty_table, seeded_table, item_at, admitted_to, without, withdrawn, changed_at, count, first_that, passes, IsTable};
 ghost use Rattle.coap_pending.specs.Waiters.{awaited_by, delivered, due_after, fire_at, fired_waiter, is_of, is_waiting, joined, waits_for, was_sent_as, IsDue};
 
 use crate::exchanges::Exchanges;
@@ -68,7 +68,8 @@ impl Model for Waiters {
         × IsTable w.table
         × AreOfClients is_of w.table.items w.clients
         × AreWithin is_of w.table
-        × (w.clients.limit ≡ w.table.limit) };
+        × (w.clients.limit ≡ w.table.limit)
+        × (w.clients.seed ≡ w.table.seed) };
 }
 
 impl Waiters {
@@ -93,7 +94,7 @@ impl Waiters {
         per_client: usize,
         seed: u64,
     ) -> Result<Waiters, OutOfMemory>
-        ensures empty { IfOk result (λ waiters. waiters ≡ empty_table limit per_client) }
+        ensures empty { IfOk result (λ waiters. waiters ≡ seeded_table seed limit per_client) }
     {
         Ok(Waiters {
             table: Table::new(alloc, limit, per_client, seed)?,

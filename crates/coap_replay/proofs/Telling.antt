@@ -1,7 +1,6 @@
 -- A watcher that is told turn by turn.
 use Rattle.std.proofs.Common.{◌≡◌, ◌≢◌, ◌++◌, ◌∙◌, ℕ, true, List, [], ◌∷◌, Option, Some, None, false, Result, Ok, Err, inl, inr, refl, sym, ap, subst}
 use Rattle.std.specs.Io.KnownBytes.{Appends}
-use Rattle.std.specs.Result.{OnErr, is_err}
 use Rattle.coap_core.specs.Done.{Does}
 use Rattle.coap_message.specs.Datagram.{Datagram}
 use Rattle.coap_model.specs.Events.{Event}
@@ -24,11 +23,6 @@ after-more w u ts = run-apart (one_turn (run_at w []) u) (run_at (step_taken w u
 -- what is told of a step
 abbrev pub told_of : ℕ → ℕ → Event → Report → List ℕ → State → watch.Told
 told_of now draw event report bytes w = record { turn = record { now = now; draw = draw; event = event }; report = Some report; bytes = bytes; went = true; state = w }
-
--- what holds on an error holds if there is one
-pub err-holds : {T E P : Type 0} (r : Result T E) → is_err r ≡ true → OnErr r P → P
-err-holds (Ok x) never p = absurd cc
-err-holds (Err e) true-is p = p
 
 -- a step was done, and its line was written in part
 pub failed-write : (w v : State) (t : Turn) (event : Event) (report : Report) (out out' : Datagram) (old new : Option (List ℕ)) (number : ℕ) (text : List ℕ) → event ≡ t.event

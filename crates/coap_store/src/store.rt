@@ -80,6 +80,7 @@ pub trait Store {
             → entries self.new ≡ used entry_key key.now (entries self.old) }
         ensures unmoved { IsFalse result → entries self.new ≡ entries self.old }
         ensures limited { limits self.new ≡ limits self.old }
+        ensures secret { secret self.new ≡ secret self.old }
         ensures evicted { evicted self.new ≡ evicted self.old }
     {
         let usable = self.peek(key).is_some_and(|stored| stored.is_usable(now));
@@ -94,6 +95,7 @@ pub trait Store {
     fn touch(&mut self, key: &SharedKey)
         ensures moved { entries self.new ≡ used entry_key key.now (entries self.old) }
         ensures limited { limits self.new ≡ limits self.old }
+        ensures secret { secret self.new ≡ secret self.old }
         ensures evicted { evicted self.new ≡ evicted self.old };
 
     /// What is stored for the key. Doesn't allocate.
@@ -128,7 +130,8 @@ pub trait Store {
             ≡ after_put (limits self.old) (key, stored) (entries self.old) (evicted self.old) }
         ensures none_evicted { result ≢ Put.Kept → evicted self.new ≡ evicted self.old }
 
-        ensures limited { limits self.new ≡ limits self.old };
+        ensures limited { limits self.new ≡ limits self.old }
+        ensures secret { secret self.new ≡ secret self.old };
 
     /// Marks what is stored for any key of a target that was changed, so that it no longer answers
     /// requests (RFC 7252, 5.9.1). Returns the number of entries that the target has, including
@@ -137,6 +140,7 @@ pub trait Store {
         ensures counted { result ≡ count_by (is_for target.now) (entries self.old) }
         ensures marked { entries self.new ≡ map (marked target.now) (entries self.old) }
         ensures limited { limits self.new ≡ limits self.old }
+        ensures secret { secret self.new ≡ secret self.old }
         ensures evicted { evicted self.new ≡ evicted self.old };
 
     /// Drops what is stored for the key, and returns whether there was anything. Doesn't allocate.
@@ -144,6 +148,7 @@ pub trait Store {
         ensures found { result ≡ is_some (of_key entry_key key.now (entries self.old)) }
         ensures given_up { entries self.new ≡ others entry_key key.now (entries self.old) }
         ensures limited { limits self.new ≡ limits self.old }
+        ensures secret { secret self.new ≡ secret self.old }
         ensures evicted { evicted self.new ≡ evicted self.old };
 
     /// How many bytes the entries count for, as `bytes_of` counts them. Doesn't allocate.

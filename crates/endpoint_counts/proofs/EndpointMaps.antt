@@ -92,7 +92,7 @@ module _ (t : Table Entry) (is : IsTable t) (places : OrderedIndex) (index : IsI
         )
       where
         stays : (m : ℕ) → HasRekeyed places places m (key_at entry_key (item_at m t.items)) (key_at entry_key (item_at m t.items))
-        stays m = record { limit = refl; length = refl; rekeyed = λ o q. go o q (eqb q m) refl }
+        stays m = record { limit = refl; seed = refl; length = refl; rekeyed = λ o q. go o q (eqb q m) refl }
           where
             go : (o q : ℕ) (b : Bool) → eqb q m ≡ b → is_in (o, q) places.pairs ≡ cond b (is_key o (key_at entry_key (item_at m t.items))) (is_in (o, q) places.pairs)
             go o q true f = subst (λ (k : ℕ). is_in (o, k) places.pairs ≡ is_key o (key_at entry_key (item_at m t.items))) (sym (eqb-true q m f)) (index.members o m)

@@ -105,14 +105,14 @@ pub slots-push : (xs : List Entry) (x : Entry) (limit : ℕ) → slots_of (xs ++
 slots-push xs x limit =
     let items : numbered 0 (xs ++ x ∷ []) ≡ numbered 0 xs ++ (length xs + 1, x) ∷ [] = numbered-push 0 (length xs + 1) xs x (omega arith) in
     let many : length (xs ++ x ∷ []) ≡ length xs + 1 = length-append xs (x ∷ []) in
-    λ i. record { items = items i; limit = limit; per_client = 0; admitted = many i }
+    λ i. record { items = items i; limit = limit; per_client = 0; admitted = many i; seed = 0 }
 
 -- another entry at a place
 pub slots-set : (xs : List Entry) (n : ℕ) (x : Entry) (limit : ℕ) → 0 < n → n ≤ length xs → slots_of (set xs (n - 1) x) limit ≡ record (slots_of xs limit) { items = changed_at n (λ e. x) (numbered 0 xs) }
 slots-set xs n x limit some le =
     let items : numbered 0 (set xs (n - 1) x) ≡ changed_at n (λ e. x) (numbered 0 xs) = numbered-set 0 (n - 1) n xs x (omega arith) (omega arith) in
     let many : length (set xs (n - 1) x) ≡ length xs = length-set xs (n - 1) x in
-    λ i. record { items = items i; limit = limit; per_client = 0; admitted = many i }
+    λ i. record { items = items i; limit = limit; per_client = 0; admitted = many i; seed = 0 }
 
 -- a list without a length is empty
 pub none-of : (xs : List Entry) → length xs ≡ 0 → xs ≡ []
@@ -149,8 +149,8 @@ slots-pop xs limit = go (last-split xs)
             let there : item_at (length (zs ++ z ∷ [])) (numbered 0 (zs ++ z ∷ [])) ≡ Some z = numbered-at 0 (length zs) (length (zs ++ z ∷ [])) (zs ++ z ∷ []) (omega arith) ∙ slice_get-last zs z in
             let items : without (length (zs ++ z ∷ [])) (numbered 0 (zs ++ z ∷ [])) ≡ numbered 0 zs = numbered-pop 0 (length (zs ++ z ∷ [])) zs z (omega arith) in
             let gone : withdrawn (slots_of (zs ++ z ∷ []) limit) ≡ withdrawn_at (Some z) (slots_of (zs ++ z ∷ []) limit) = ap (λ (o : Option Entry). withdrawn_at o (slots_of (zs ++ z ∷ []) limit)) there in
-            (λ i. record { items = numbered 0 (rest i); limit = limit; per_client = 0; admitted = length (rest i) })
-            ∙ sym (gone ∙ (λ i. record { items = items i; limit = limit; per_client = 0; admitted = fewer i }))
+            (λ i. record { items = numbered 0 (rest i); limit = limit; per_client = 0; admitted = length (rest i); seed = 0 })
+            ∙ sym (gone ∙ (λ i. record { items = items i; limit = limit; per_client = 0; admitted = fewer i; seed = 0 }))
 
 -- ---- an endpoint's place
 

@@ -24,5 +24,6 @@ pub record CanRekey (index : OrderedIndex) (number : ℕ) (was is : Option ℕ) 
 
 pub record HasRekeyed (old new : OrderedIndex) (number : ℕ) (was is : Option ℕ) : Type 0 where
   pub limit : new.limit ≡ old.limit
+  pub seed : new.seed ≡ old.seed
   pub length : length new.pairs + one_of was ≡ length old.pairs + one_of is
   pub rekeyed : IsRekeyed old.pairs new.pairs number is

@@ -14,7 +14,13 @@ numbered before (x ∷ xs) = (suc before, x) ∷ numbered (suc before) xs
 
 abbrev pub slots_of : List Entry → ℕ → Table Entry
 slots_of entries limit =
-    record { items = numbered 0 entries; limit = limit; per_client = 0; admitted = length entries }
+    record {
+      items = numbered 0 entries;
+      limit = limit;
+      per_client = 0;
+      admitted = length entries;
+      seed = 0;
+    }
 
 -- the places are numbered from 1 on, without a gap
 abbrev pub AreGapless : {A : Type 0} → List (Numbered A) → Type 0

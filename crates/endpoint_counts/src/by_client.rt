@@ -20,6 +20,7 @@ pub fn enter(clients: &mut EndpointMap, client: DigestedEndpoint)
     requires few { count_of clients.old client < 2 ^ 64 - 1 }
     requires room { length clients.old.items < clients.old.limit }
     ensures limit { clients.new.limit ≡ clients.old.limit }
+    ensures seed { clients.new.seed ≡ clients.old.seed }
     ensures exact { (e : Endpoint)
         → count_of clients.new e ≡ count_of clients.old e + one_if_at true client e }
 {
@@ -32,6 +33,7 @@ pub fn enter(clients: &mut EndpointMap, client: DigestedEndpoint)
 #[inline(always)] // mostly there is none
 pub fn depart(clients: &mut EndpointMap, client: Option<DigestedEndpoint>)
     ensures limit { clients.new.limit ≡ clients.old.limit }
+    ensures seed { clients.new.seed ≡ clients.old.seed }
     ensures exact { (e : Endpoint)
         → count_of clients.new e ≡ count_of clients.old e - one_of client e }
 {
@@ -44,6 +46,7 @@ pub fn depart(clients: &mut EndpointMap, client: Option<DigestedEndpoint>)
 #[inline(never)]
 fn leave(clients: &mut EndpointMap, client: DigestedEndpoint)
     ensures limit { clients.new.limit ≡ clients.old.limit }
+    ensures seed { clients.new.seed ≡ clients.old.seed }
     ensures exact { (e : Endpoint)
         → count_of clients.new e ≡ count_of clients.old e - one_if_at true client e }
 {

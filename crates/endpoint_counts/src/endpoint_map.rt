@@ -3,7 +3,7 @@ ghost use Rattle.std.specs.Prelude.{◌≡◌, ◌<◌, length, if◌then◌else
 ghost use Rattle.coap_endpoint.specs.declared.endpoint.Endpoint.{Endpoint};
 ghost use Rattle.endpoint_counts.specs.Endpoints.{is_one};
 ghost use Rattle.endpoint_counts.specs.Slots.{found, is_entry_of, AreDistinct, AreGapless, AreSome};
-ghost use Rattle.coap_pending.specs.Table.{empty_table, first_that, item_at, passes, IsTable};
+ghost use Rattle.coap_pending.specs.Table.{seeded_table, first_that, item_at, passes, IsTable};
 
 use crate::digested_endpoint::DigestedEndpoint;
 use crate::endpoints::EndpointCounts;
@@ -47,7 +47,7 @@ impl Model for EndpointMap {
 
     ghost Value = { Table Entry };
 
-    ghost view = { λ m. m.slots };
+    ghost view = { λ m. record m.slots { seed = m.places.seed } };
 
     ghost invariant = { λ m.
         IsIndexOf entry_key m.slots.items m.slots.limit m.places
@@ -63,7 +63,7 @@ impl EndpointMap {
     /// # Errors
     /// Out of memory.
     pub fn new(alloc: Global, limit: usize, seed: u64) -> Result<EndpointMap, OutOfMemory>
-        ensures empty { IfOk result (λ map. map ≡ empty_table limit 0) }
+        ensures empty { IfOk result (λ map. map ≡ seeded_table seed limit 0) }
     {
         let slots = Slots::new(alloc, limit)?;
         let places = HashedIndex::new(alloc, limit, seed)?;
@@ -117,6 +117,7 @@ impl EndpointMap {
         requires room { found at self.old.items ≡ None
             → length self.old.items < self.old.limit }
         ensures limit { self.new.limit ≡ self.old.limit }
+        ensures seed { self.new.seed ≡ self.old.seed }
         ensures exact { (e : Endpoint)
             → found e self.new.items
             ≡ (if is_one at e then Some counts else found e self.old.items) }
@@ -138,6 +139,7 @@ impl EndpointMap {
     pub fn remove(&mut self, at: DigestedEndpoint, place: Option<u64>)
         requires place { place ≡ first_that (is_entry_of at) self.old.items }
         ensures limit { self.new.limit ≡ self.old.limit }
+        ensures seed { self.new.seed ≡ self.old.seed }
         ensures exact { (e : Endpoint)
             → found e self.new.items ≡ (if is_one at e then None else found e self.old.items) }
     {

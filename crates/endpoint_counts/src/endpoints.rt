@@ -83,6 +83,7 @@ pub fn open_one(endpoints: &mut EndpointMap, at: DigestedEndpoint) -> usize
     requires room { length endpoints.old.items < endpoints.old.limit }
     ensures exact { result ≡ sent_in endpoints.old at }
     ensures limit { endpoints.new.limit ≡ endpoints.old.limit }
+    ensures seed { endpoints.new.seed ≡ endpoints.old.seed }
     ensures all { (e : Endpoint)
         → open_in endpoints.new e ≡ open_in endpoints.old e + one_if_at true at e }
     ensures sent { (e : Endpoint) → sent_in endpoints.new e ≡ sent_in endpoints.old e }
@@ -110,6 +111,7 @@ pub fn close_one(endpoints: &mut EndpointMap, at: DigestedEndpoint, was: Stage) 
     ensures was { result.was ≡ sent_in endpoints.old at }
     ensures is { result.is ≡ sent_in endpoints.new at }
     ensures limit { endpoints.new.limit ≡ endpoints.old.limit }
+    ensures seed { endpoints.new.seed ≡ endpoints.old.seed }
     ensures all { (e : Endpoint)
         → open_in endpoints.new e ≡ open_in endpoints.old e - one_if_at true at e }
     ensures sent { (e : Endpoint)
@@ -149,6 +151,7 @@ pub fn move_one(
     ensures was { result.was ≡ sent_in endpoints.old at }
     ensures is { result.is ≡ sent_in endpoints.new at }
     ensures limit { endpoints.new.limit ≡ endpoints.old.limit }
+    ensures seed { endpoints.new.seed ≡ endpoints.old.seed }
     ensures all { (e : Endpoint) → open_in endpoints.new e ≡ open_in endpoints.old e }
     ensures sent { (e : Endpoint)
         → sent_in endpoints.new e

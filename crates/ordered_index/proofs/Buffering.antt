@@ -35,8 +35,8 @@ shifted-up s p k m xs ys e f lt is =
 
 -- a buffer of these pairs
 abbrev pub buffer_of : List Pair → ℕ → OrderedIndex
-buffer_of xs limit = record { pairs = xs; limit = limit }
+buffer_of xs limit = record { pairs = xs; limit = limit; seed = 0 }
 
 -- the pairs of a buffer become others, and its limit stays
-pub other-pairs : (f : List Pair → List Pair) (xs ys : List Pair) (limit : ℕ) (old : OrderedIndex) → xs ≡ f ys → buffer_of ys limit ≡ old → buffer_of xs limit ≡ buffer_of (f old.pairs) old.limit
-other-pairs f xs ys limit old e view = ap (λ (l : List Pair). buffer_of l limit) e ∙ ap (λ (r : OrderedIndex). buffer_of (f r.pairs) r.limit) view
+pub other-pairs : (f : List Pair → List Pair) (xs ys : List Pair) (limit : ℕ) (old : OrderedIndex) → xs ≡ f ys → buffer_of ys limit ≡ old → buffer_of xs limit ≡ record old { pairs = f old.pairs }
+other-pairs f xs ys limit old e view = ap (λ (l : List Pair). buffer_of l limit) e ∙ ap (λ (r : OrderedIndex). record r { pairs = f r.pairs }) view

@@ -167,7 +167,7 @@ pairs-set pairs f q (i ∷ is) none =
 
 -- pairs as a bucket
 abbrev as_bucket : List Pair → OrderedIndex
-as_bucket pairs = record { pairs = pairs; limit = 16 }
+as_bucket pairs = record { pairs = pairs; limit = 16; seed = 0 }
 
 -- and so does the bucket
 bucket-same : (pairs : List Pair) (nexts : List ℕ) (link i f : ℕ) (q : Pair) (v : ℕ) → (is_among f (slots_from 16 nexts link) ≡ false) × (is_among i (slots_from 16 nexts link) ≡ false) → bucket_from (set pairs i q) (set nexts f v) link ≡ bucket_from pairs nexts link
@@ -261,7 +261,7 @@ among-below (suc most) nexts (suc j) i is there = go (among-below most nexts (ge
 
 -- the bucket to which it comes
 abbrev with_pair : Pair → List Pair → OrderedIndex
-with_pair q pairs = record { pairs = q ∷ pairs; limit = 16 }
+with_pair q pairs = record { pairs = q ∷ pairs; limit = 16; seed = 0 }
 
 -- the free slots are still those, without the first
 free-left : (pairs : List Pair) (nexts heads : List ℕ) (h f m : ℕ) → h < length heads → IsChain 15 nexts (get_or heads h 0) → IsChain (suc m) nexts (suc f) → ((i j : ℕ) → is_among i (slots_from (suc m) nexts (suc f)) ≡ true → j < length heads → is_among i (slots_from 16 nexts (get_or heads j 0)) ≡ false) → IsFree (set nexts f (get_or heads h 0)) (set heads h (suc f)) (get_or nexts f 0)

@@ -35,7 +35,11 @@ pairs_in pairs (i ∷ is) = slice_index_or pairs i (0, 0) ∷ pairs_in pairs is
 -- the pairs from a link on
 abbrev pub bucket_from : List Pair → List ℕ → ℕ → OrderedIndex
 bucket_from pairs nexts link =
-    record { pairs = pairs_in pairs (slots_from chain_room nexts link); limit = chain_room }
+    record {
+      pairs = pairs_in pairs (slots_from chain_room nexts link);
+      limit = chain_room;
+      seed = 0;
+    }
 
 -- those from each of these links on
 abbrev pub buckets_from : List Pair → List ℕ → List ℕ → List OrderedIndex

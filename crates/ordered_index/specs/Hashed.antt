@@ -1,11 +1,23 @@
 -- Indexes by key: buckets, each with the pairs of the keys of one place, and the rest.
-use Rattle.std.specs.Prelude.{◌≡◌, ℕ, suc, bit_xor, ◌*◌, ◌/◌, ◌%◌, ◌^◌, ◌==◌, ◌<◌, min, true, false, count_by, length, slice_index, List, [], ◌∷◌, ◌++◌, Option, Some, None}
+use Rattle.std.specs.Prelude.{◌≡◌, ℕ, suc, bit_or, bit_xor, ◌*◌, ◌/◌, ◌%◌, ◌^◌, ◌==◌, ◌<◌, min, true, false, count_by, length, slice_index, List, [], ◌∷◌, ◌++◌, Option, Some, None}
+use Rattle.std.specs.Hash.{u64}
+use Rattle.std.specs.Hash.DefaultHasher as sip
+use Rattle.std.specs.List.{fold}
 use Rattle.ordered_index.specs.Ordered.{Pair, OrderedIndex, is_in}
 
 -- the pairs of all buckets, one after the other
 abbrev pub pairs_of : List OrderedIndex → List Pair
 pairs_of [] = []
 pairs_of (bucket ∷ buckets) = bucket.pairs ++ pairs_of buckets
+
+-- what a table holds, and the factor that spreads it
+pub record Spread : Type 0 where
+  pub pairs : List Pair
+  pub factor : ℕ
+
+-- the factor that a seed gives: its SipHash, made odd
+unfoldable pub factor_of : ℕ → ℕ
+factor_of seed = bit_or (sip.finish (fold sip.write sip.initial (u64 seed))) 1
 
 -- a product of 64 bits
 abbrev pub times : ℕ → ℕ → ℕ

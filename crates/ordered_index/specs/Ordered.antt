@@ -26,9 +26,15 @@ pub record OrderedIndex : Type 0 where
   pub pairs : List Pair
   -- the most pairs that it can hold
   pub limit : ℕ
+  -- what spreads its keys, or 0 if nothing does
+  pub seed : ℕ
 
 abbrev pub empty_index : ℕ → OrderedIndex
-empty_index limit = record { pairs = []; limit = limit }
+empty_index limit = record { pairs = []; limit = limit; seed = 0 }
+
+-- one whose keys a seed spreads
+abbrev pub seeded_index : ℕ → ℕ → OrderedIndex
+seeded_index seed limit = record { pairs = []; limit = limit; seed = seed }
 
 -- no pair is before this one
 abbrev pub IsLeast : List Pair → Option Pair → Type 0

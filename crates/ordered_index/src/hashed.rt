@@ -1,6 +1,6 @@
 //! Indexes by key, which nobody asks for their first pair.
 ghost use Rattle.std.specs.Prelude.{◌≡◌, ◌+◌, ◌<◌, ◌≤◌, ◌||◌, ◌&&◌, ◌++◌, List, [], length, if◌then◌else◌, true, false, not, None, IfOk};
-ghost use Rattle.ordered_index.specs.Ordered.{empty_index, is_in, is_pair, one_of, IsNextOf, IsKeyIn, IsRekeyed, Pair};
+ghost use Rattle.ordered_index.specs.Ordered.{seeded_index, is_in, is_pair, one_of, IsNextOf, IsKeyIn, IsRekeyed, Pair};
 
 use crate::ordered::OrderedIndex;
 use crate::place::{factor_of, place_of};
@@ -17,6 +17,8 @@ const PAIRS_A_COUNT: usize = 64;
 /// share a count with such a key. Only `new` allocates. A contract sees all pairs: those of the
 /// table, and then the rest.
 pub struct HashedIndex {
+    /// What the factor was made of.
+    seed: u64,
     /// What spreads the keys.
     factor: u64,
     /// The number of pairs.
@@ -30,6 +32,7 @@ pub struct HashedIndex {
 impl Drop for HashedIndex {
     fn drop(self) {
         let HashedIndex {
+            seed: _,
             factor: _,
             len: _,
             table: _,
@@ -41,18 +44,21 @@ impl Drop for HashedIndex {
 
 impl Model for HashedIndex {
     ghost use Rattle.std.specs.Prelude.{◌≡◌, ◌<◌, ◌++◌, length};
-    ghost use Rattle.ordered_index.specs.Hashed.{place_of, AreApart, AreCounts};
+    ghost use Rattle.ordered_index.specs.Hashed.{factor_of, place_of, AreApart, AreCounts};
     ghost use Rattle.ordered_index.specs.Ordered.{OrderedIndex};
 
     ghost Value = { OrderedIndex };
 
-    ghost view = { λ h. record { pairs = h.table ++ h.rest.pairs; limit = h.rest.limit } };
+    ghost view = { λ h.
+        record { pairs = h.table.pairs ++ h.rest.pairs; limit = h.rest.limit; seed = h.seed } };
 
     ghost invariant = { λ h.
-        (h.len ≡ length (h.table ++ h.rest.pairs))
-        × AreApart h.table h.rest.pairs
+        (h.len ≡ length (h.table.pairs ++ h.rest.pairs))
+        × AreApart h.table.pairs h.rest.pairs
         × (0 < length h.outside.items)
-        × AreCounts (place_of h.factor (length h.outside.items)) h.outside.items h.rest.pairs };
+        × AreCounts (place_of h.factor (length h.outside.items)) h.outside.items h.rest.pairs
+        × (h.factor ≡ factor_of h.seed)
+        × (h.table.factor ≡ factor_of h.seed) };
 }
 
 impl HashedIndex {
@@ -62,13 +68,14 @@ impl HashedIndex {
     /// # Errors
     /// If allocation fails.
     pub fn new(alloc: Global, limit: usize, seed: u64) -> Result<HashedIndex, AllocError>
-        ensures empty { IfOk result (λ index. index ≡ empty_index limit) }
+        ensures empty { IfOk result (λ index. index ≡ seeded_index seed limit) }
     {
         let factor = factor_of(seed);
         let table = Table::new(alloc, limit, factor)?;
         let rest = OrderedIndex::new(alloc, limit)?;
         let outside = vec![in alloc; 0; limit / PAIRS_A_COUNT + 1]?;
         Ok(HashedIndex {
+            seed,
             factor,
             len: 0,
             table,
@@ -101,6 +108,7 @@ impl HashedIndex {
         requires was { IsKeyIn self.old.pairs number was }
         requires room { length self.old.pairs + one_of is ≤ self.old.limit + one_of was }
         ensures limit { self.new.limit ≡ self.old.limit }
+        ensures seed { self.new.seed ≡ self.old.seed }
         ensures length { length self.new.pairs + one_of was ≡ length self.old.pairs + one_of is }
         ensures rekeyed { IsRekeyed self.old.pairs self.new.pairs number is }
     {
@@ -114,6 +122,7 @@ impl HashedIndex {
     fn leave(&mut self, number: u64, was: Option<u64>)
         requires was { IsKeyIn self.old.pairs number was }
         ensures limit { self.new.limit ≡ self.old.limit }
+        ensures seed { self.new.seed ≡ self.old.seed }
         ensures length { length self.new.pairs + one_of was ≡ length self.old.pairs }
         ensures rekeyed { IsRekeyed self.old.pairs self.new.pairs number None }
     {
@@ -127,6 +136,7 @@ impl HashedIndex {
         requires free { IsKeyIn self.old.pairs number None }
         requires room { length self.old.pairs + one_of is ≤ self.old.limit }
         ensures limit { self.new.limit ≡ self.old.limit }
+        ensures seed { self.new.seed ≡ self.old.seed }
         ensures length { length self.new.pairs ≡ length self.old.pairs + one_of is }
         ensures rekeyed { IsRekeyed self.old.pairs self.new.pairs number is }
     {
@@ -141,6 +151,7 @@ impl HashedIndex {
         requires room { length self.old.pairs < self.old.limit }
         requires absent { is_in (key, number) self.old.pairs ≡ false }
         ensures limit { self.new.limit ≡ self.old.limit }
+        ensures seed { self.new.seed ≡ self.old.seed }
         ensures length { length self.new.pairs ≡ length self.old.pairs + 1 }
         ensures more { (p : Pair)
             → is_in p self.new.pairs ≡ (is_pair p (key, number) || is_in p self.old.pairs) }
@@ -159,6 +170,7 @@ impl HashedIndex {
     pub fn take(&mut self, key: u64, number: u64)
         requires there { is_in (key, number) self.old.pairs ≡ true }
         ensures limit { self.new.limit ≡ self.old.limit }
+        ensures seed { self.new.seed ≡ self.old.seed }
         ensures length { length self.new.pairs + 1 ≡ length self.old.pairs }
         ensures less { (p : Pair)
             → is_in p self.new.pairs
@@ -176,7 +188,7 @@ impl HashedIndex {
 /// The least number of this key that is greater than `after`, in the table or among the rest.
 #[inline(never)] // mostly there is no rest
 fn next_of_both(table: &Table, rest: &OrderedIndex, key: u64, after: u64) -> Option<u64>
-    ensures exact { IsNextOf key after (table.now ++ rest.now.pairs) result }
+    ensures exact { IsNextOf key after (table.now.pairs ++ rest.now.pairs) result }
 {
     let own = table.next_of(key, after);
     lower(own, rest.next_of(key, after))

@@ -114,6 +114,7 @@ impl OrderedIndex {
         requires free { IfSome is (λ p. is_in p self.old.pairs ≡ true → was ≡ Some p) }
         requires room { length self.old.pairs + one_of is ≤ self.old.limit + one_of was }
         ensures limit { self.new.limit ≡ self.old.limit }
+        ensures seed { self.new.seed ≡ self.old.seed }
         ensures length { length self.new.pairs + one_of was ≡ length self.old.pairs + one_of is }
         ensures replaced { IsReplaced self.old.pairs self.new.pairs was is }
     {
@@ -135,6 +136,7 @@ impl OrderedIndex {
         requires was { IsKeyIn self.old.pairs number was }
         requires room { length self.old.pairs + one_of is ≤ self.old.limit + one_of was }
         ensures limit { self.new.limit ≡ self.old.limit }
+        ensures seed { self.new.seed ≡ self.old.seed }
         ensures length { length self.new.pairs + one_of was ≡ length self.old.pairs + one_of is }
         ensures rekeyed { IsRekeyed self.old.pairs self.new.pairs number is }
         ensures counts { (k : ℕ)
@@ -151,6 +153,7 @@ impl OrderedIndex {
     fn leave(&mut self, number: u64, was: Option<u64>)
         requires was { IsKeyIn self.old.pairs number was }
         ensures limit { self.new.limit ≡ self.old.limit }
+        ensures seed { self.new.seed ≡ self.old.seed }
         ensures length { length self.new.pairs + one_of was ≡ length self.old.pairs }
         ensures rekeyed { IsRekeyed self.old.pairs self.new.pairs number None }
         ensures counts { (k : ℕ)
@@ -166,6 +169,7 @@ impl OrderedIndex {
         requires free { IsKeyIn self.old.pairs number None }
         requires room { length self.old.pairs + one_of is ≤ self.old.limit }
         ensures limit { self.new.limit ≡ self.old.limit }
+        ensures seed { self.new.seed ≡ self.old.seed }
         ensures length { length self.new.pairs ≡ length self.old.pairs + one_of is }
         ensures rekeyed { IsRekeyed self.old.pairs self.new.pairs number is }
         ensures counts { (k : ℕ)
@@ -182,6 +186,7 @@ impl OrderedIndex {
         requires room { length self.old.pairs < self.old.limit }
         requires absent { is_in (key, number) self.old.pairs ≡ false }
         ensures limit { self.new.limit ≡ self.old.limit }
+        ensures seed { self.new.seed ≡ self.old.seed }
         ensures length { length self.new.pairs ≡ length self.old.pairs + 1 }
         ensures more { (p : Pair)
             → is_in p self.new.pairs ≡ (is_pair p (key, number) || is_in p self.old.pairs) }
@@ -199,6 +204,7 @@ impl OrderedIndex {
     pub fn take(&mut self, key: u64, number: u64)
         requires there { is_in (key, number) self.old.pairs ≡ true }
         ensures limit { self.new.limit ≡ self.old.limit }
+        ensures seed { self.new.seed ≡ self.old.seed }
         ensures length { length self.new.pairs + 1 ≡ length self.old.pairs }
         ensures less { (p : Pair)
             → is_in p self.new.pairs

@@ -23,7 +23,7 @@ impl Model for PairBuffer {
 
     ghost Value = { OrderedIndex };
 
-    ghost view = { λ r. record { pairs = drop r.start r.items.items; limit = r.limit } };
+    ghost view = { λ r. record { pairs = drop r.start r.items.items; limit = r.limit; seed = 0 } };
 
     ghost invariant = { λ r.
         (r.start ≤ vec_len r.items)

@@ -1,6 +1,6 @@
 //! The places of keys.
 ghost use Rattle.std.specs.Prelude.{◌≡◌, ◌<◌};
-ghost use Rattle.ordered_index.specs.Hashed.{place_of};
+ghost use Rattle.ordered_index.specs.Hashed.{factor_of, place_of};
 
 use std::hash::{DefaultHasher, Hasher};
 
@@ -19,7 +19,10 @@ pub(crate) fn place_of(factor: u64, many: usize, key: u64) -> usize
 
 /// What spreads the keys of an index that is made with this seed. It is odd, so that different
 /// keys stay different.
-pub(crate) fn factor_of(seed: u64) -> u64 {
+#[tactic(auto, unfolding(crate::specs::Hashed::factor_of))]
+pub(crate) fn factor_of(seed: u64) -> u64
+    ensures exact { result ≡ factor_of seed }
+{
     let mut hasher = DefaultHasher::new();
     hasher.write_u64(seed);
     hasher.finish() | 1

@@ -21,7 +21,8 @@ const MOST_SLOTS: usize = u32::MAX as usize;
 /// one place are a chain: each has a link to the next. The link 0 leads nowhere, and the link i + 1
 /// to the slot i. A pair comes to the front of its chain, and if one leaves, the first of its chain
 /// takes its place: so no link of another slot changes, and neither costs more where more pairs are.
-/// Only `new` allocates. A contract sees the pairs of all chains, one chain after the other.
+/// Only `new` allocates. A contract sees the pairs of all chains, one chain after the other, and the
+/// factor.
 #[derive(Drop)]
 pub(crate) struct Table {
     /// What spreads the keys over the places.
@@ -37,14 +38,17 @@ pub(crate) struct Table {
 }
 
 impl Model for Table {
-    ghost use Rattle.std.specs.Prelude.{◌≡◌, ◌<◌, List, length};
+    ghost use Rattle.std.specs.Prelude.{◌≡◌, ◌<◌, length};
     ghost use Rattle.ordered_index.specs.Chains.{buckets_from, IsTable};
-    ghost use Rattle.ordered_index.specs.Hashed.{place_of, pairs_of};
-    ghost use Rattle.ordered_index.specs.Ordered.{Pair};
+    ghost use Rattle.ordered_index.specs.Hashed.{place_of, pairs_of, Spread};
 
-    ghost Value = { List Pair };
+    ghost Value = { Spread };
 
-    ghost view = { λ t. pairs_of (buckets_from t.pairs.items t.nexts.items t.heads.items) };
+    ghost view = { λ t.
+        record {
+          pairs = pairs_of (buckets_from t.pairs.items t.nexts.items t.heads.items);
+          factor = t.factor;
+        } };
 
     ghost invariant = { λ t.
         (0 < length t.heads.items)
@@ -62,7 +66,7 @@ impl Table {
     /// # Errors
     /// If allocation fails.
     pub(crate) fn new(alloc: Global, limit: usize, factor: u64) -> Result<Table, AllocError>
-        ensures empty { IfOk result (λ table. table ≡ []) }
+        ensures empty { IfOk result (λ table. table ≡ record { pairs = []; factor = factor }) }
     {
         let room = limit.min(MOST_SLOTS);
         let heads = vec![in alloc; 0; limit / PAIRS_A_CHAIN + 1]?;
@@ -79,7 +83,7 @@ impl Table {
 
     /// The least number of this key that is greater than `after`.
     pub(crate) fn next_of(&self, key: u64, after: u64) -> Option<u64>
-        ensures exact { IsNextOf key after self.now result }
+        ensures exact { IsNextOf key after self.now.pairs result }
     {
         let place = place_of(self.factor, self.heads.len(), key);
         next_in(&self.pairs, &self.nexts, self.heads[place], key, after)
@@ -88,10 +92,13 @@ impl Table {
     /// Adds the pair of this key and number, which isn't there, unless its chain is full or has a
     /// pair of the key, or no slot is free. Returns whether it did.
     pub(crate) fn put_if_room(&mut self, key: u64, number: u64) -> bool
-        requires absent { is_in (key, number) self.old ≡ false }
-        ensures length { length self.new ≡ length self.old + (if result then 1 else 0) }
+        requires absent { is_in (key, number) self.old.pairs ≡ false }
+        ensures factor { self.new.factor ≡ self.old.factor }
+        ensures length { length self.new.pairs
+            ≡ length self.old.pairs + (if result then 1 else 0) }
         ensures more { (p : Pair)
-            → is_in p self.new ≡ ((result && is_pair p (key, number)) || is_in p self.old) }
+            → is_in p self.new.pairs
+            ≡ ((result && is_pair p (key, number)) || is_in p self.old.pairs) }
     {
         let place = place_of(self.factor, self.heads.len(), key);
         let head = self.heads[place];
@@ -110,10 +117,13 @@ impl Table {
     /// Removes the pair of this key and number, if it is there, and returns whether it was. The
     /// first pair of the chain takes its place.
     pub(crate) fn take_if_there(&mut self, key: u64, number: u64) -> bool
-        ensures exact { result ≡ is_in (key, number) self.old }
-        ensures length { length self.new + (if result then 1 else 0) ≡ length self.old }
+        ensures exact { result ≡ is_in (key, number) self.old.pairs }
+        ensures factor { self.new.factor ≡ self.old.factor }
+        ensures length { length self.new.pairs + (if result then 1 else 0)
+            ≡ length self.old.pairs }
         ensures less { (p : Pair)
-            → is_in p self.new ≡ (not (is_pair p (key, number)) && is_in p self.old) }
+            → is_in p self.new.pairs
+            ≡ (not (is_pair p (key, number)) && is_in p self.old.pairs) }
     {
         let place = place_of(self.factor, self.heads.len(), key);
         let head = self.heads[place];

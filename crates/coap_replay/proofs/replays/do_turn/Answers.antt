@@ -3,7 +3,8 @@ use Rattle.coap_core.specs.Events.{seen}
 use Rattle.coap_lines.specs.Turns.{turn_seen}
 use Rattle.coap_model.specs.Events.{event_given}
 use Rattle.coap_core.specs.Told.{Told}
-use Rattle.coap_replay.proofs.Telling.{err-holds, failed-write, lost-told, step-told}
+use Rattle.coap_core.proofs.Undoing.{err-holds}
+use Rattle.coap_replay.proofs.Telling.{failed-write, lost-told, step-told}
 use Rattle.coap_replay.proofs.replays.do_turn.Goals as goal
 
 pub returns-then-is_err-clause-told : goal.returns-then-is_err-clause-told

@@ -19,4 +19,6 @@ invariant_of-result g c = (
   ap (λ t. t.per_client) c.in_ok-under_way.ensures.exchanges,
   ap (λ t. t.per_client) c.in_ok-under_way.ensures.waiters,
   keeps-all c.args.setting.limits (c.values.ensures.in_range CacheBytes).1 _ (rw (c.values.ensures.exact, c.values-2.ensures.exact) at c.in_ok-store.ensures.limited),
+  ap (λ t. t.seed) c.in_ok-under_way.ensures.exchanges ∙ c.secret.ensures.exact,
+  ap (λ t. t.seed) c.in_ok-under_way.ensures.waiters ∙ c.secret.ensures.exact,
 )

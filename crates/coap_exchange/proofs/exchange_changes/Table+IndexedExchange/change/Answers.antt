@@ -13,13 +13,15 @@ change_under-requires c =
     subst (λ (o : Option Exchange). IfSome o (CanChange c.args.change)) (item_at-by_number c.args.number c.self.inside.items.entries) there
 
 pub invariant_of-self : goal.invariant_of-self
-invariant_of-self c =
-    rw (written-is c.args.number (after_transition c.args.change) 0 c.self.inside.items.entries c.change_under.new.exchanges.entries c.self.invariant.rising c.change_under.ensures.found c.change_under.ensures.missing)
-    (changed_at-is c.args.number (after_transition c.args.change) (record { items = by_number c.self.inside.items.entries; limit = c.self.inside.limit; per_client = c.self.inside.per_client; admitted = c.self.inside.admitted }) c.self.invariant)
+invariant_of-self c = (
+  rw (written-is c.args.number (after_transition c.args.change) 0 c.self.inside.items.entries c.change_under.new.exchanges.entries c.self.invariant.0.rising c.change_under.ensures.found c.change_under.ensures.missing)
+      (changed_at-is c.args.number (after_transition c.args.change) (record { items = by_number c.self.inside.items.entries; limit = c.self.inside.limit; per_client = c.self.inside.per_client; admitted = c.self.inside.admitted; seed = c.self.inside.seed }) c.self.invariant.0),
+  rw c.change_under.ensures.hasher c.self.invariant.1,
+)
 
 pub returns-clause-changed : goal.returns-clause-changed
 returns-clause-changed c =
-    rw (← c.self.view_is, written-is c.args.number (after_transition c.args.change) 0 c.self.inside.items.entries c.change_under.new.exchanges.entries c.self.invariant.rising c.change_under.ensures.found c.change_under.ensures.missing) refl
+    rw (← c.self.view_is, written-is c.args.number (after_transition c.args.change) 0 c.self.inside.items.entries c.change_under.new.exchanges.entries c.self.invariant.0.rising c.change_under.ensures.found c.change_under.ensures.missing) refl
 
 pub returns-clause-keys : goal.returns-clause-keys
 returns-clause-keys c =

@@ -5,7 +5,7 @@ use Rattle.coap_pending.specs.Table.{Table, admitted_to, count}
 use Rattle.coap_exchange.specs.SendQueue.{head_at}
 use Rattle.endpoint_counts.proofs.ByClient.{of_clients-push, of_clients-undone, within-push}
 use Rattle.coap_pending.proofs.Counts.{count-length}
-use Rattle.coap_exchange.proofs.Indexing.{can-pass-as, have-passed-as}
+use Rattle.coap_exchange.proofs.Indexing.{can-pass-as, have-passed-as, spread-passed}
 use Rattle.endpoint_counts.proofs.Indexing.{moves-admitted}
 use Rattle.coap_exchange.proofs.ExchangeCounting.{counted-push, counted-undone, one-itself, queued-less, sent-less}
 use Rattle.endpoint_counts.proofs.Fewer.{few-entries}
@@ -102,6 +102,7 @@ invariant_of-self c =
       of_clients-push (λ (x : Exchange). x.client) t.items c.self.inside.clients c.enter.new.clients (t.admitted + 1) x (rw c.client-opener.ensures.exact at c.enter.ensures.exact) c.self.invariant.4,
       within-push (λ (x : Exchange). x.client) t x own_room c.self.invariant.5,
       record { for_heads = c.replace.ensures.limit ∙ c.self.invariant.6.for_heads; for_endpoints = c.open_one-sent.ensures.limit ∙ c.self.invariant.6.for_endpoints; for_clients = c.enter.ensures.limit ∙ c.self.invariant.6.for_clients },
+      record { for_index = spread-passed t.seed (t.admitted + 1) c.self.inside.index c.rekey.new.self _ _ c.self.invariant.7.for_index passed; for_endpoints = c.open_one-sent.ensures.seed ∙ c.self.invariant.7.for_endpoints; for_clients = c.enter.ensures.seed ∙ c.self.invariant.7.for_clients },
     )
 
 pub close_one-requires-clause-all : goal.close_one-requires-clause-all
@@ -139,6 +140,7 @@ invariant_of-self-in-Err c =
       of_clients-undone (λ (x : Exchange). x.client) t.items c.self.inside.clients c.enter.new.clients c.depart.new.clients c.client-opener.result c.enter.ensures.exact c.depart.ensures.exact c.self.invariant.4,
       c.self.invariant.5,
       record { for_heads = c.self.invariant.6.for_heads; for_endpoints = c.close_one.ensures.limit ∙ c.open_one-sent.ensures.limit ∙ c.self.invariant.6.for_endpoints; for_clients = c.depart.ensures.limit ∙ c.enter.ensures.limit ∙ c.self.invariant.6.for_clients },
+      record { for_index = c.self.invariant.7.for_index; for_endpoints = c.close_one.ensures.seed ∙ c.open_one-sent.ensures.seed ∙ c.self.invariant.7.for_endpoints; for_clients = c.depart.ensures.seed ∙ c.enter.ensures.seed ∙ c.self.invariant.7.for_clients },
     )
 
 pub head_of-head-requires-clause-indexed : goal.head_of-head-requires-clause-indexed

@@ -5,7 +5,7 @@ use Rattle.coap_exchange.specs.SendQueue.{head_may_change_at}
 use Rattle.coap_pending.specs.Table.{Table, item_at}
 use Rattle.coap_exchange.specs.Updates.{updated_at}
 use Rattle.coap_exchange.proofs.Openers.{client-after}
-use Rattle.coap_exchange.proofs.Indexing.{can-pass-as, have-passed-as}
+use Rattle.coap_exchange.proofs.Indexing.{can-pass-as, have-passed-as, spread-passed}
 use Rattle.coap_exchange.proofs.Ordering.{send_queue-free, send_queue-moved, send_queue-room}
 use Rattle.coap_exchange.proofs.Updating.{counted-updated, exchanges-updated, kept-updated, head_may_change_at-sent, moves-updated, never-queued, of_clients-updated, stays-updated, updatable, updated-at, updated-is, updated-off, within-updated}
 use Rattle.coap_exchange.proofs.exchanges.Exchanges.update.Goals as goal
@@ -76,6 +76,7 @@ invariant_of-self c =
       of_clients-updated after_transition n t is (λ (x : Exchange). x.client) client-after c.args.change c.self.inside.clients c.depart.new.clients (rw (c.client_of_removed.ensures.exact, c.get-found.ensures.exact) at c.depart.ensures.exact) c.self.invariant.4,
       within-updated after_transition n t is (λ (x : Exchange). x.client) client-after c.args.change c.self.invariant.5,
       record { for_heads = c.replace.ensures.limit ∙ c.self.invariant.6.for_heads; for_endpoints = c.recount-sent.ensures.limit ∙ c.self.invariant.6.for_endpoints; for_clients = c.depart.ensures.limit ∙ c.self.invariant.6.for_clients },
+      record { for_index = spread-passed t.seed n c.self.inside.index c.rekey.new.self _ _ c.self.invariant.7.for_index passed; for_endpoints = c.recount-sent.ensures.seed ∙ c.self.invariant.7.for_endpoints; for_clients = c.depart.ensures.seed ∙ c.self.invariant.7.for_clients },
     )
 
 pub head_of-head-requires-clause-sent : goal.head_of-head-requires-clause-sent

@@ -53,6 +53,7 @@ invariant_of-self c =
       of_clients-push (λ (w : Waiter). w.client) t.items c.self.inside.clients c.enter.new.clients (t.admitted + 1) w (rw c.requires.peer at c.enter.ensures.exact) c.self.invariant.3,
       within-push (λ (w : Waiter). w.client) t w own_room c.self.invariant.4,
       c.enter.ensures.limit ∙ c.self.invariant.5,
+      c.enter.ensures.seed ∙ c.self.invariant.6,
     )
 
 pub invariant_of-self-in-Err : goal.invariant_of-self-in-Err

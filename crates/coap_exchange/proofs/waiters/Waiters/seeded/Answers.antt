@@ -29,4 +29,5 @@ invariant_of-result c = rw (c.in_ok-new.ensures.empty, c.in_ok-new-2.ensures.emp
   λ client. refl,
   λ client. omega arith,
   refl,
+  refl,
 )

@@ -33,4 +33,5 @@ invariant_of-self c =
       of_clients-updated after_transition n t is (λ (w : Waiter). w.client) client-after c.args.change c.self.inside.clients c.depart.new.clients (rw (c.client_of_removed.ensures.exact, c.get-found.ensures.exact) at c.depart.ensures.exact) c.self.invariant.3,
       within-updated after_transition n t is (λ (w : Waiter). w.client) client-after c.args.change c.self.invariant.4,
       c.depart.ensures.limit ∙ c.self.invariant.5,
+      c.depart.ensures.seed ∙ c.self.invariant.6,
     )

@@ -1,5 +1,5 @@
 use Rattle.std.proofs.Common.{◌∙◌, inl, inr, refl, sym}
-use Rattle.coap_replay.proofs.Telling.{err-holds}
+use Rattle.coap_core.proofs.Undoing.{err-holds}
 use Rattle.coap_recording.proofs.Adding.{fails-so, ok-holds, still-works}
 use Rattle.coap_recording.proofs.recording.Recording.write.Goals.{then-is_err, else-is_err}
 use Rattle.coap_recording.proofs.recording.Recording.write.Goals as goal

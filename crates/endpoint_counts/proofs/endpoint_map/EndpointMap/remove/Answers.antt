@@ -45,11 +45,11 @@ end c = sym c.last.ensures.exact ∙ c.in-Some-last.is
 
 -- its key comes to the place of the entry that goes
 one : (c : goal.After-pop) → HasRekeyed c.self.inside.places c.rekey.new.self c.in-Some.number (Some (digest_of_endpoint c.args.at)) (Some (digest_of_endpoint c.in-Some-last.moved.peer))
-one c = subst (λ (d : ℕ). HasRekeyed c.self.inside.places c.rekey.new.self c.in-Some.number (Some d) (Some (digest_of_endpoint c.in-Some-last.moved.peer))) c.digest.ensures.exact (subst (λ (d : ℕ). HasRekeyed c.self.inside.places c.rekey.new.self c.in-Some.number (Some c.digest.result) (Some d)) c.digest-2.ensures.exact (record { limit = c.rekey.ensures.limit; length = c.rekey.ensures.length; rekeyed = c.rekey.ensures.rekeyed }))
+one c = subst (λ (d : ℕ). HasRekeyed c.self.inside.places c.rekey.new.self c.in-Some.number (Some d) (Some (digest_of_endpoint c.in-Some-last.moved.peer))) c.digest.ensures.exact (subst (λ (d : ℕ). HasRekeyed c.self.inside.places c.rekey.new.self c.in-Some.number (Some c.digest.result) (Some d)) c.digest-2.ensures.exact (record { limit = c.rekey.ensures.limit; seed = c.rekey.ensures.seed; length = c.rekey.ensures.length; rekeyed = c.rekey.ensures.rekeyed }))
 
 -- and leaves its own
 two : (c : goal.After-pop) → HasRekeyed c.rekey.new.self c.rekey-2.new.self c.self.inside.slots.admitted (Some (digest_of_endpoint c.in-Some-last.moved.peer)) None
-two c = subst (λ (d : ℕ). HasRekeyed c.rekey.new.self c.rekey-2.new.self c.self.inside.slots.admitted (Some d) None) c.digest-3.ensures.exact (subst (λ (n : ℕ). HasRekeyed c.rekey.new.self c.rekey-2.new.self n (Some c.digest-3.result) None) c.len-last.ensures.exact (record { limit = c.rekey-2.ensures.limit; length = c.rekey-2.ensures.length; rekeyed = c.rekey-2.ensures.rekeyed }))
+two c = subst (λ (d : ℕ). HasRekeyed c.rekey.new.self c.rekey-2.new.self c.self.inside.slots.admitted (Some d) None) c.digest-3.ensures.exact (subst (λ (n : ℕ). HasRekeyed c.rekey.new.self c.rekey-2.new.self n (Some c.digest-3.result) None) c.len-last.ensures.exact (record { limit = c.rekey-2.ensures.limit; seed = c.rekey-2.ensures.seed; length = c.rekey-2.ensures.length; rekeyed = c.rekey-2.ensures.rekeyed }))
 
 -- the entries without the one that goes
 rest : (c : goal.After-pop) → c.pop.new.self ≡ withdrawn (record c.self.inside.slots { items = changed_at c.in-Some.number (λ e. c.in-Some-last.moved) c.self.inside.slots.items })

@@ -51,7 +51,7 @@ push-requires c =
 
 -- the entry comes, with its key
 comes : (c : goal.After-push) → HasRekeyed c.self.inside.places c.rekey.new.self (c.self.inside.slots.admitted + 1) None (Some (digest_of_endpoint c.args.at))
-comes c = subst (λ (d : ℕ). HasRekeyed c.self.inside.places c.rekey.new.self (c.self.inside.slots.admitted + 1) None (Some d)) c.digest.ensures.exact (subst (λ (n : ℕ). HasRekeyed c.self.inside.places c.rekey.new.self (n + 1) None (Some c.digest.result)) c.len-number.ensures.exact (record { limit = c.rekey.ensures.limit; length = c.rekey.ensures.length; rekeyed = c.rekey.ensures.rekeyed }))
+comes c = subst (λ (d : ℕ). HasRekeyed c.self.inside.places c.rekey.new.self (c.self.inside.slots.admitted + 1) None (Some d)) c.digest.ensures.exact (subst (λ (n : ℕ). HasRekeyed c.self.inside.places c.rekey.new.self (n + 1) None (Some c.digest.result)) c.len-number.ensures.exact (record { limit = c.rekey.ensures.limit; seed = c.rekey.ensures.seed; length = c.rekey.ensures.length; rekeyed = c.rekey.ensures.rekeyed }))
 
 pub invariant_of-self-2 : goal.invariant_of-self-2
 invariant_of-self-2 c =

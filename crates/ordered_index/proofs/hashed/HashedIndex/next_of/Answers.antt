@@ -12,5 +12,5 @@ returns-then-index-eq0 c =
     let at = ap (λ (n : ℕ). place_of c.self.inside.factor n c.args.key) (sym many) ∙ sym c.place_of-place.ensures.exact in
     let none : get_or c.self.inside.outside.items c.place_of-place.result 0 ≡ 0 = sym (get_or_default_zero c.self.inside.outside.items c.place_of-place.result c.index.result.now within) ∙ sym c.index.ensures ∙ c.if-index-eq0.true in
     record {
-      exact = rw (← c.self.view_is) (next-first c.args.key c.args.after c.self.inside.table c.self.inside.rest.pairs c.next_of-then-index-eq0.result c.next_of-then-index-eq0.ensures.exact (λ n. none-outside (place_of c.self.inside.factor (length c.self.inside.outside.items)) c.self.inside.outside.items c.self.inside.rest.pairs c.args.key n c.place_of-place.result c.self.invariant.3 within none at));
+      exact = rw (← c.self.view_is) (next-first c.args.key c.args.after c.self.inside.table.pairs c.self.inside.rest.pairs c.next_of-then-index-eq0.result c.next_of-then-index-eq0.ensures.exact (λ n. none-outside (place_of c.self.inside.factor (length c.self.inside.outside.items)) c.self.inside.outside.items c.self.inside.rest.pairs c.args.key n c.place_of-place.result c.self.invariant.3 within none at));
     }

@@ -1,7 +1,7 @@
 use Rattle.std.proofs.Common.{◌≡◌, ◌∙◌, ◌<◌, ℕ, List, ap, arith, rules, length, subst, sym}
 use Rattle.std.proofs.lemmas.Grind.{get_or_default_zero}
 use Rattle.ordered_index.specs.Chains.{pairs_in, slots_from, IsChain}
-use Rattle.ordered_index.specs.Hashed.{place_of}
+use Rattle.ordered_index.specs.Hashed.{place_of, Spread}
 use Rattle.ordered_index.specs.Ordered.{Pair, IsNextOf}
 use Rattle.ordered_index.proofs.Chaining.{next-table}
 use Rattle.ordered_index.proofs.table.Table.next_of.Goals as goal
@@ -23,5 +23,5 @@ returns c =
     let own : IsNextOf c.args.key c.args.after (pairs_in c.self.inside.pairs.items (slots_from 16 c.deref-2.result.now c.index.result.now)) c.next_in.result = subst (λ (l : List Pair). IsNextOf c.args.key c.args.after (pairs_in l (slots_from 16 c.deref-2.result.now c.index.result.now)) c.next_in.result) c.deref.ensures.value c.next_in.ensures.exact in
     let mine : IsNextOf c.args.key c.args.after (pairs_in c.self.inside.pairs.items (slots_from 16 c.self.inside.nexts.items c.index.result.now)) c.next_in.result = subst (λ (l : List ℕ). IsNextOf c.args.key c.args.after (pairs_in c.self.inside.pairs.items (slots_from 16 l c.index.result.now)) c.next_in.result) c.deref-2.ensures.value own in
     record {
-      exact = subst (λ (l : List Pair). IsNextOf c.args.key c.args.after l c.next_in.result) c.self.view_is (next-table (place_of c.self.inside.factor (length c.self.inside.heads.items)) c.self.inside.pairs.items c.self.inside.nexts.items c.self.inside.heads.items c.self.inside.free c.place_of-place.result c.index.result.now c.args.key c.args.after c.next_in.result c.self.invariant.1 lt first at mine);
+      exact = subst (λ (t : Spread). IsNextOf c.args.key c.args.after t.pairs c.next_in.result) c.self.view_is (next-table (place_of c.self.inside.factor (length c.self.inside.heads.items)) c.self.inside.pairs.items c.self.inside.nexts.items c.self.inside.heads.items c.self.inside.free c.place_of-place.result c.index.result.now c.args.key c.args.after c.next_in.result c.self.invariant.1 lt first at mine);
     }

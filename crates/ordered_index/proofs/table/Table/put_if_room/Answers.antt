@@ -1,7 +1,7 @@
 use Rattle.std.proofs.Common.{◌≡◌, ◌∙◌, ◌-◌, ◌<◌, ◌+◌, ◌||◌, ℕ, List, ap, arith, rules, length, set, subst, sym, vec_len}
 use Rattle.std.proofs.lemmas.Grind.{get_or_default_zero}
 use Rattle.ordered_index.specs.Chains.{buckets_from, IsChain, IsTable}
-use Rattle.ordered_index.specs.Hashed.{place_of, pairs_of}
+use Rattle.ordered_index.specs.Hashed.{place_of, pairs_of, Spread}
 use Rattle.ordered_index.specs.Ordered.{Pair, is_in, is_pair}
 use Rattle.ordered_index.proofs.Chaining.{free-below, put-all}
 use Rattle.ordered_index.proofs.table.Table.put_if_room.Goals as goal
@@ -41,7 +41,7 @@ after c =
     let next = c.index.ensures ∙ get_or_default_zero c.self.inside.nexts.items (c.self.inside.free - 1) c.index.result.now below in
     let at = ap (λ (n : ℕ). place_of c.self.inside.factor n c.args.key) (sym many) ∙ sym c.place_of-place.ensures.exact in
     let short : IsChain 15 c.self.inside.nexts.items c.index-head.result.now = subst (λ (l : List ℕ). IsChain 15 l c.index-head.result.now) c.deref-else-free-eq0.ensures.value (c.is_open_to.ensures c.if-not-is_open_to.false) in
-    let absent = ap (λ (l : List Pair). is_in (c.args.key, c.args.number) l) c.self.view_is ∙ c.requires.absent in
+    let absent = ap (λ (t : Spread). is_in (c.args.key, c.args.number) t.pairs) c.self.view_is ∙ c.requires.absent in
     put-all (place_of c.self.inside.factor (length c.self.inside.heads.items)) c.self.inside.pairs.items c.self.inside.nexts.items c.self.inside.heads.items c.self.inside.free c.place_of-place.result c.index-head.result.now c.index.result.now (c.args.key, c.args.number) c.self.invariant.1 c.if-free-eq0.false first next lt at short absent
 
 pub invariant_of-self : goal.invariant_of-self
@@ -52,7 +52,7 @@ invariant_of-self c =
     )
 
 pub returns-clause-more : goal.returns-clause-more
-returns-clause-more c = λ p. (after c).1 p ∙ ap (λ (l : List Pair). is_pair p (c.args.key, c.args.number) || is_in p l) c.self.view_is
+returns-clause-more c = λ p. (after c).1 p ∙ ap (λ (t : Spread). is_pair p (c.args.key, c.args.number) || is_in p t.pairs) c.self.view_is
 
 pub returns-clause-length : goal.returns-clause-length
-returns-clause-length c = (after c).2 ∙ ap (λ (l : List Pair). length l + 1) c.self.view_is
+returns-clause-length c = (after c).2 ∙ ap (λ (t : Spread). length t.pairs + 1) c.self.view_is

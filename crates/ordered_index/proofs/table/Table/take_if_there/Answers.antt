@@ -3,7 +3,7 @@ use Rattle.std.specs.Prelude.{not}
 use Rattle.std.proofs.lemmas.Grind.{get_or_default_zero}
 use Rattle.std.proofs.lemmas.List.{get_or_default}
 use Rattle.ordered_index.specs.Chains.{buckets_from, is_among, pairs_in, slots_from, IsChain, IsTable}
-use Rattle.ordered_index.specs.Hashed.{place_of, pairs_of}
+use Rattle.ordered_index.specs.Hashed.{place_of, pairs_of, Spread}
 use Rattle.ordered_index.specs.Ordered.{Pair, is_in, is_pair}
 use Rattle.ordered_index.proofs.Chaining.{among-below, head-below, in-table, take-at}
 use Rattle.ordered_index.proofs.Hashing.{stays-out}
@@ -18,7 +18,7 @@ slot_of-requires-clause-chain c =
     subst (λ (l : List ℕ). IsChain 16 l c.index-head.result.now) (sym c.deref-2.ensures.value) chain
 
 -- the pair isn't there
-missing : (c : goal.In_default) → is_in (c.args.key, c.args.number) c.args.self.now ≡ false
+missing : (c : goal.In_default) → is_in (c.args.key, c.args.number) c.args.self.now.pairs ≡ false
 missing c =
     let many : c.len.result ≡ length c.self.inside.heads.items = search rules in
     let lt : c.place_of-place.result < length c.self.inside.heads.items = omega (arith, many, c.place_of-place.ensures.within) in
@@ -26,13 +26,13 @@ missing c =
     let at = ap (λ (n : ℕ). place_of c.self.inside.factor n c.args.key) (sym many) ∙ sym c.place_of-place.ensures.exact in
     let same = ap (λ (l : List Pair). is_in (c.args.key, c.args.number) (pairs_in l (slots_from 16 c.deref-2.result.now c.index-head.result.now))) (sym c.deref.ensures.value) in
     let own : is_in (c.args.key, c.args.number) (pairs_in c.self.inside.pairs.items (slots_from 16 c.self.inside.nexts.items c.index-head.result.now)) ≡ false = ap (λ (l : List ℕ). is_in (c.args.key, c.args.number) (pairs_in c.self.inside.pairs.items (slots_from 16 l c.index-head.result.now))) (sym c.deref-2.ensures.value) ∙ same ∙ (c.in_default.ensures).none in
-    ap (λ (l : List Pair). is_in (c.args.key, c.args.number) l) (sym c.self.view_is) ∙ in-table (place_of c.self.inside.factor (length c.self.inside.heads.items)) c.self.inside.pairs.items c.self.inside.nexts.items c.self.inside.heads.items c.self.inside.free c.place_of-place.result c.index-head.result.now (c.args.key, c.args.number) c.self.invariant.1 lt first at ∙ own
+    ap (λ (t : Spread). is_in (c.args.key, c.args.number) t.pairs) (sym c.self.view_is) ∙ in-table (place_of c.self.inside.factor (length c.self.inside.heads.items)) c.self.inside.pairs.items c.self.inside.nexts.items c.self.inside.heads.items c.self.inside.free c.place_of-place.result c.index-head.result.now (c.args.key, c.args.number) c.self.invariant.1 lt first at ∙ own
 
 pub returns-in_default-clause-exact : goal.returns-in_default-clause-exact
 returns-in_default-clause-exact c = sym (missing c)
 
 pub returns-in_default-clause-less : goal.returns-in_default-clause-less
-returns-in_default-clause-less c = λ p. stays-out p (c.args.key, c.args.number) c.args.self.now (missing c)
+returns-in_default-clause-less c = λ p. stays-out p (c.args.key, c.args.number) c.args.self.now.pairs (missing c)
 
 pub index-requires : goal.index-requires
 index-requires c =
@@ -102,7 +102,8 @@ invariant_of-self c =
 
 pub returns : goal.returns
 returns c = record {
-  exact = sym (ap (λ (l : List Pair). is_in (c.args.key, c.args.number) l) (sym c.self.view_is) ∙ (after c).3);
-  length = (after c).2 ∙ ap (λ (l : List Pair). length l) c.self.view_is;
-  less = λ p. (after c).1 p ∙ ap (λ (l : List Pair). not (is_pair p (c.args.key, c.args.number)) && is_in p l) c.self.view_is;
+  exact = sym (ap (λ (t : Spread). is_in (c.args.key, c.args.number) t.pairs) (sym c.self.view_is) ∙ (after c).3);
+  factor = ap (λ (t : Spread). t.factor) c.self.view_is;
+  length = (after c).2 ∙ ap (λ (t : Spread). length t.pairs) c.self.view_is;
+  less = λ p. (after c).1 p ∙ ap (λ (t : Spread). not (is_pair p (c.args.key, c.args.number)) && is_in p t.pairs) c.self.view_is;
 }
