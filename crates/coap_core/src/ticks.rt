@@ -116,7 +116,7 @@ impl<S: Store + Drop> State<S> {
     // ---- requests
 
     /// Handles the exchange numbered `number`, which is due: it times out at its deadline, and
-    /// before that its request is sent, or sent again.
+    /// before that its request is sent, sent again, or given up after its last timeout.
     fn on_exchange(&mut self, timing: Timing, number: ExchangeNumber, out: &mut Datagram) -> Report
         requires due { IsFound (IsExchangeDue self.old timing.now) number self.old.exchanges }
         requires can { CanDo (exchange_at self.old timing number) timing.now self.old out.old }

@@ -132,9 +132,9 @@ fn serve<P: Port>(rt: &HostRuntime, plan: Plan, start: Start, port: &mut P) -> R
         first: reporter,
         second: logger,
     };
-    let counts = server.serve_watched(start, port, &mut watchers)?;
+    let stats = server.serve_watched(start, port, &mut watchers)?;
     if let Some(reporter) = &mut watchers.first {
-        reporter.report(&counts);
+        reporter.report(&stats);
     }
     Ok(())
 }

@@ -1,5 +1,6 @@
-//! A port that fails at each of its turns, or takes one datagram less, while a core answers for the
-//! first time, answers a Confirmable client, and waits for an origin server that is silent.
+//! A port that fails once, in a run for each of its turns, or takes one datagram less, while a core
+//! answers for the first time, answers a Confirmable client, and waits for an origin server that is
+//! silent.
 ghost use Rattle.std.specs.Prelude.{◌≡◌, ◌+◌, ◌<◌, ◌^◌, IfOk};
 
 use crate::ports::{check_handed, core_of};
@@ -344,7 +345,8 @@ fn check_send_anew(
     Ok((core.counts(), core.next_due()))
 }
 
-/// Checks a run with a port that fails at each turn, and with one that doesn't take each datagram.
+/// Checks a run with a port that fails at one turn, for each of them, and with one that doesn't take
+/// one of its datagrams.
 fn check_run(rt: &impl Abort, alloc: Global, run: Run) -> Result<(), Fail> {
     for given in 0..run.turns {
         check_next_anew(rt, alloc, run, given)?;
