@@ -165,13 +165,22 @@ def dead(records, expired, many):
 # What they take
 
 
-def of_replay(program, client_records, lines):
-    """How many instructions a program takes for the replay of these lines in all."""
+def need_valgrind(program):
+    """Has a test be skipped where the instructions of a program can't be counted."""
+    if not shutil.which("valgrind"):
+        raise Skipped("valgrind isn't installed")
+    if programs.is_emulated(program[-1]):
+        raise Skipped("valgrind runs programs for this processor")
+
+
+def of_replay(program, client_records, lines, before=(), more=()):
+    """How many instructions a program takes for the replay of these lines in all: perhaps with more words, and started by
+    the words before."""
     with tempfile.NamedTemporaryFile("w", prefix="coap-proxyd-test-", suffix=".toml") as config:
         config.write(CONFIG.format(client_records))
         config.flush()
-        words = ["valgrind", "--tool=callgrind", "--callgrind-out-file=/dev/null"]
-        words += [program, "--replay", "--config", config.name]
+        words = [*before, "valgrind", "--tool=callgrind", "--callgrind-out-file=/dev/null"]
+        words += [program, "--replay", "--config", config.name, *more]
         text = "\n".join(lines) + "\n"
         done = subprocess.run(words, input=text, capture_output=True, text=True)
     found = re.search(r"refs:\s+([\d,]+)", done.stderr)
@@ -206,10 +215,7 @@ def measured(program):
 
 def an_event_takes_no_more_instructions_than_it_may(program):
     """Whatever else the machine does meanwhile: a body that finds the same in more steps meets its contract."""
-    if not shutil.which("valgrind"):
-        raise Skipped("valgrind isn't installed")
-    if programs.is_emulated(program[-1]):
-        raise Skipped("valgrind runs programs for this processor")
+    need_valgrind(program)
     for (kind, opened), number in measured(program[-1]).items():
         if number > most(program[-1], kind, opened):
             wanted = f"at most {most(program[-1], kind, opened)}, got {number}"
