@@ -110,9 +110,18 @@ def cost_tests(program):
         for wrong in stand_ins:
             what = (wrong, program, play_end, function)
             yield Test(f"stand-in {wrong} and {kind} {function.__name__}", must_fail, what)
-    # A stand-in in Python would have its own instructions counted.
-    for function in (instructions.an_event_takes_no_more_instructions_than_it_may, chosen.no_index_has_a_seed_of_zero):
-        yield Test(f"cost {function.__name__}", function, (program,))
+    yield from instruction_tests(program)
+
+
+def instruction_tests(program):
+    """The tests of how many instructions it takes, and those of stand-ins for them, whose own aren't counted."""
+    function = instructions.an_event_takes_no_more_instructions_than_it_may
+    yield Test(f"cost {function.__name__}", function, (program,))
+    for function, wrong in chosen.COUNTED:
+        name = f"cost {function.__name__}"
+        yield Test(name, function, (program,))
+        yield Test(f"stand-in Right and {name}", function, ([*PLAYER, "Right", *program], ["endpoints"]))
+        yield Test(f"stand-in {wrong} and {name}", must_fail, (wrong, program, play_end, function))
 
 
 def observing_tests(program):

@@ -7,7 +7,7 @@ import subprocess
 import sys
 import time
 
-from testing.chosen import factor_of, part_of
+from testing.meeting import part_of
 from testing.right import Right
 
 
@@ -101,17 +101,18 @@ class MovesTheOthers(Right):
 
 
 class SpreadByTheSalt(Right):
-    """Takes twice as long in a replay with --salt where the clients' endpoints would meet if the salt spread them."""
+    """Does half as much again, and takes twice as long, in a replay with --salt where the clients' endpoints would meet if the
+    salt spread them: after each event there are ticks, which have nothing to do."""
 
     def replay(self, program, words):
-        events = sys.stdin.buffer.read()
-        factor = factor_of(int(words[words.index("--salt") + 1]))
+        events, salt = sys.stdin.buffer.read(), int(words[words.index("--salt") + 1])
         sources = {line.split()[2].decode() for line in events.splitlines() if b" 10.1." in line}
-        parts = {part_of(self.number_of(source), factor) for source in sources}
+        meet = len({part_of(self.number_of(source), salt) for source in sources}) == 1
+        events = events.replace(b"\n", b"\n" + 4 * b"0 0 tick\n") if meet else events
         done = subprocess.run([program, *words], input=events, capture_output=True)
         taken = resource.getrusage(resource.RUSAGE_CHILDREN)
         end = 2 * time.process_time() + taken.ru_utime + taken.ru_stime
-        while len(parts) == 1 and time.process_time() < end:
+        while meet and time.process_time() < end:
             pass
         return done.returncode, done.stdout, done.stderr
 
