@@ -8,6 +8,6 @@ use Rattle.coap_core.specs.declared.arrival.Arrival.{Arrival}
 abbrev pub of_arrival : {A : Type 0} → (ℕ → Endpoint → Message → A) → Arrival → A
 of_arrival word a = word a.now a.from a.message.now
 
--- the same for a function that also takes whether what is kept has grown
+-- the same for a function that also takes whether memory sufficed
 abbrev pub of_grown : {A : Type 0} → (ℕ → Bool → Endpoint → Message → A) → Arrival → Bool → A
 of_grown word a grown = word a.now grown a.from a.message.now

@@ -45,7 +45,7 @@ abbrev pub IsDoneFor :
     → Type 0
 IsDoneFor arrival s = IsDone (of_arrival remembers arrival s)
 
--- the same for a step that depends on whether what is kept has grown, which the report says
+-- the same for a step that depends on whether memory sufficed, which the report says
 pub record IsDoneBy (s : Bool → Step) (result : Result Report OutOfMemory)
     (out_old out_new : Datagram) (before after : State)
     : Type 0 where

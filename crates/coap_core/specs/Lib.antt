@@ -1,7 +1,6 @@
 pub mod Arrivals
 pub mod Events
 pub mod Examples
-pub mod Forms
 pub mod Holders
 pub mod Holdings
 pub mod Settings
@@ -9,6 +8,7 @@ pub mod Asked
 pub mod Done
 pub mod Dues
 pub mod Needs
+pub mod Targets
 pub mod Within
 pub mod Storing
 pub mod Told

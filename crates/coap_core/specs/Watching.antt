@@ -40,7 +40,7 @@ abbrev pub waiting_at : State → Option ℕ → ℕ
 waiting_at w None = 0
 waiting_at w (Some number) = count (waits_for number) w.waiters
 
--- how many clients wait for that exchange
+-- how many waiters wait for that exchange
 abbrev pub due_waiting : State → ℕ
 due_waiting w = waiting_at w (number_of_item w (item_due w))
 
@@ -49,7 +49,7 @@ waiter_of_item w None = None
 waiter_of_item w (Some (OfExchange at number)) = None
 waiter_of_item w (Some (OfWaiter at number)) = item_at number w.waiters
 
--- the client that is due
+-- the waiter that is due
 abbrev pub due_waiter : State → Option Waiter
 due_waiter w = waiter_of_item w (item_due w)
 
@@ -64,6 +64,6 @@ abbrev pub awaited : State → Endpoint → Message → Option Exchange
 awaited w source m = exchange_numbered w (number_found (awaiting w source m))
 
 -- the number of Message IDs that are left at the moment of the last step, without those that are
--- reserved for clients and for requests
+-- reserved for waiters and for requests
 abbrev pub free_ids : State → ℕ
 free_ids w = left_of w.last w.ids - count is_waiting w.waiters - count is_queued w.exchanges

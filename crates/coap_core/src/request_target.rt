@@ -3,7 +3,7 @@ ghost use Rattle.std.specs.Prelude.{◌≡◌, OnOk, is_some};
 ghost use Rattle.coap_option.specs.Selection.{tags_of};
 ghost use Rattle.coap_option.specs.Survey.{IsSurvey};
 ghost use Rattle.coap_model.specs.Keys.{request_key};
-ghost use Rattle.coap_core.specs.Forms.{seen};
+ghost use Rattle.coap_core.specs.Targets.{seen};
 
 use crate::setting::Setting;
 use coap_endpoint::{Endpoint, Ip, Target};

@@ -12,7 +12,7 @@ ghost use Rattle.coap_message.specs.Datagram.{holding};
 ghost use Rattle.coap_model.specs.Requests.{lacks_id, refuses, on_key, on_new, on_request};
 ghost use Rattle.coap_model.specs.State.{can_reply};
 ghost use Rattle.coap_core.specs.Arrivals.{of_arrival};
-ghost use Rattle.coap_core.specs.Forms.{seen};
+ghost use Rattle.coap_core.specs.Targets.{seen};
 ghost use Rattle.coap_core.specs.Asked.{IsAsked, IsMissed, verdict_seen};
 ghost use Rattle.coap_core.specs.Done.{IsDone, IsDoneFor, wants_memory};
 ghost use Rattle.coap_core.specs.Needs.{CanDo, CanGoOn, CanRemember, CanReplyTo, CanSend};

@@ -16,10 +16,10 @@ use ordered_index::OrderedIndex;
 use std::alloc::Global;
 
 /// What decides whose turn it is, so that neither exchanges nor endpoints are scanned. The head of
-/// an endpoint is its first queued exchange.
+/// an endpoint is how many outstanding exchanges it has, and its first queued one.
 #[derive(Drop)]
 pub(crate) struct SendQueue {
-    /// The first queued exchange of each endpoint, by the number of exchanges sent to that
+    /// The first queued exchange of each endpoint, by the number of outstanding exchanges of that
     /// endpoint.
     pub(crate) heads: OrderedIndex,
     /// The latest moment of an admission, in milliseconds.
@@ -79,8 +79,8 @@ fn lower(first: Option<ExchangeNumber>, number: ExchangeNumber) -> Option<Exchan
 }
 
 /// The endpoint of which the head may be another after a change of this exchange, or, without a
-/// change, once it is removed. It is that of an exchange that waits for its turn, or that enters or
-/// leaves the sent state.
+/// change, once it is removed. It is that of an exchange that waits for its turn, or that begins or
+/// ceases to be outstanding.
 pub(crate) fn head_may_change_at(
     found: Option<&IndexedExchange>,
     change: &Option<Transition>,

@@ -78,7 +78,7 @@ routed_text ways.Nowhere = []
 routed_text (ways.To target) = codes " " ++ target_text target
 routed_text ways.Unknown = codes " target: out of memory"
 
--- ---- what was noted before the step
+-- ---- what was noted of a turn
 
 pub record Noted : Type 0 where
   -- what a tick is about, and the URI of the target of the exchange that is due

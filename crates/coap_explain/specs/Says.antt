@@ -9,7 +9,7 @@ use Rattle.coap_explain.specs.Ways.{routed_of}
 
 -- a line of a turn was added to what was written
 pub record IsSaid (before : Option (List ℕ)) (t : Told) (after : Option (List ℕ)) : Type 0 where
-  -- the time of day, and what was noted before the step
+  -- the time of day, and what was noted of the turn
   pub time : List ℕ
   pub noted : Noted
   -- where the routes take its request, unless there was no memory to find that

@@ -97,7 +97,7 @@ pub struct LimitValues {
     pub non_records: u64,
     /// The maximum number of exchanges in progress.
     pub exchanges: u64,
-    /// The maximum number of waiting requests.
+    /// The maximum number of requests that wait for an answer, or whose answer isn't acknowledged.
     pub waiters: u64,
     /// The maximum number of outstanding requests to one endpoint: those that are neither
     /// acknowledged nor answered (RFC 7252, 4.7).

@@ -125,8 +125,8 @@ abbrev pub comes_con : Event → Bool
 comes_con (arrival source bytes) = is_con_datagram bytes
 comes_con tick = false
 
--- How many new Message IDs an outcome takes: forwarded requests and replies take one, except for
--- immediate replies to Confirmable messages, which are piggybacked on the acknowledgement, with its
+-- How many new Message IDs an outcome takes: forwarded requests, deliveries and replies take one,
+-- except for replies to Confirmable messages, which are piggybacked on the acknowledgement, with its
 -- id (RFC 7252, 4.4 and 5.2.1).
 abbrev pub ids_given : Bool → Outcome → ℕ
 ids_given con Ignored = 0

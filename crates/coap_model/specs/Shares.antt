@@ -56,7 +56,7 @@ pub record AreShares (limits : Limits) (many : ℕ) : Type 0 where
 --
 -- - A message from an endpoint of which fewer messages are remembered than may be is dropped for
 --   want of room only if as many are remembered of all endpoints as may be.
--- - A request of a client with fewer exchanges and pending requests than it may have gets 5.03 only
+-- - A request of a client with fewer exchanges and waiters than it may have gets 5.03 only
 --   if there are as many of all clients as may be, or if Message IDs are short.
 -- - If so few endpoints have sent anything that the limits for one of them, added up, are no more
 --   than the shared ones, then no such message is dropped, and such a request gets 5.03 only if

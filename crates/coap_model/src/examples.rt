@@ -147,7 +147,7 @@ pub fn replies()
 
 /// The form of a target with a host and a query, and that target read back from it; replies that
 /// the proxy generates, and ids that are put in; what is held, counted and due after some turns;
-/// which pairs of outcomes agree on memory; and the configuration that a proxy is created with.
+/// which pairs of outcomes agree on memory; and the setting that a proxy is created with.
 pub fn forms_and_tables()
     ensures form { spelling (forwarded eight_zeros named None bare_get 7) ≡ named_form }
     ensures own { spelling (own_reply NOT_FOUND [] 7 (0xAA ∷ []))

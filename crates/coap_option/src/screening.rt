@@ -1,5 +1,5 @@
 //! Messages that a proxy refuses to pass on because of an option (RFC 7252, 5.4.1, 5.4.2 and
-//! 5.7.1).
+//! 5.7.1). The core reads what is refused of a request from its `Survey`.
 ghost use Rattle.std.specs.Prelude.{◌≡◌, OnOk, IfErr};
 ghost use Rattle.coap_option.specs.Screening.{is_refused, first_refused};
 

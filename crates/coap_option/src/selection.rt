@@ -1,5 +1,6 @@
 //! Which options of a message are forwarded, are part of the cache key, or determine how it is
-//! cached (RFC 7252, 5.4.2, 5.6, 5.7 and 5.10).
+//! cached (RFC 7252, 5.4.2, 5.6, 5.7 and 5.10). The core has the key of a request, and what goes on,
+//! from its `Survey`.
 ghost use Rattle.std.specs.Prelude.{◌≡◌, ◌≢◌, [], IfOk, OnOk, OnErr, not};
 ghost use Rattle.coap_message.specs.OptRef.{seen};
 ghost use Rattle.coap_option.specs.Selection.{is_forwarded, is_for_proxy, is_key, is_of, is_tag_of_get, is_used_up, key_of, max_age_of, sent_on, is_withheld, tags_of};

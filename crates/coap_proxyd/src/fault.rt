@@ -52,8 +52,8 @@ impl ConfigFault {
 /// of memory is reported where it happens.
 #[derive(Debug, Drop)]
 pub enum Fault {
-    /// The words after the program's name aren't texts, or one of them is for a socket and another
-    /// for a replay.
+    /// The words after the program's name aren't texts, or don't go together: one of them is for a
+    /// socket and another for a replay, say.
     Arguments,
     /// `clap` refuses the words, or they ask for the help or the version. The text ends with a line
     /// end.
@@ -68,7 +68,8 @@ pub enum Fault {
     Config(ConfigFault),
     /// The value of `--map` is refused.
     MapOption,
-    /// The socket couldn't be opened, or can't be read any more.
+    /// The socket, the journal's descriptor or random bytes couldn't be had, or the socket can't be
+    /// read any more.
     Socket,
     /// Out of memory before the run.
     OutOfMemory,

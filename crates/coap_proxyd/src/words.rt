@@ -29,7 +29,7 @@ pub struct Wanted {
 ///
 /// # Errors
 /// The first fault, in this order: `clap`'s, with the help and the version; `Arguments` for words
-/// of which one is for a socket and another for a replay; `-A`; `-P`.
+/// that don't go together; `-A`; `-P`.
 pub fn read_wanted(alloc: Global, words: &[String]) -> Result<Wanted, Fault>
     ensures { spec.Want (map string_bytes words.now) result }
 {
