@@ -333,8 +333,8 @@ impl<S: Store + Drop> State<S> {
         }
     }
 
-    /// Marks as not fresh what is stored for a target, and taints the exchanges for it whose request
-    /// was sent (RFC 7252, 5.9.1).
+    /// Marks what is stored for a target, so that it isn't used before it is validated, and taints
+    /// the exchanges for it whose request was sent (RFC 7252, 5.9.1).
     fn invalidate(&mut self, target: &Target)
         ensures { self.new ≡ with_changed (target.now ∷ []) self.old }
     {

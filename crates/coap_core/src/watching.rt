@@ -99,8 +99,8 @@ impl<S: Store + Drop> Core<S> {
         self.state.under_way.exchanges().joinable(key).is_some()
     }
 
-    /// The cache key of the last new request that wasn't refused for its method, its options or its
-    /// target. The step of that request left it behind, and no clause speaks of it.
+    /// The cache key of the last request whose verdict was `MayAsk`. The step of that request left
+    /// it behind, and no clause speaks of it.
     pub fn last_key(&self) -> &SharedKey {
         &self.query.key
     }

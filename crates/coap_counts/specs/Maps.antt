@@ -14,8 +14,8 @@ use Rattle.coap_counts.specs.declared.maps.Way as program_way
 use Rattle.coap_counts.specs.declared.maps.Way.TheVariants as program
 use Rattle.coap_counts.specs.declared.requests.RequestCounts.{RequestCounts}
 
--- where a request goes: through the maps with a prefix; as its URI says; to the next proxy; or
--- nowhere
+-- what a request counts for: the maps with a prefix; what a URI names; the same if there is a next
+-- proxy; or no map
 pub data Way : Type 0 where
   Mapped : List (List ℕ) → Way
   Forward : Way
@@ -26,8 +26,9 @@ abbrev pub by_map : Option Map → Way
 by_map (Some map) = Mapped map.prefix
 by_map None = Unmapped
 
--- A request that names its target by a URI goes as that says, or to the next proxy, if there is
--- one; any other goes by the map for its path, if there is one (RFC 7252, 5.7.2 and 5.7.3).
+-- A request that names its target by a URI counts as forwarded, or as handed to the next proxy, if
+-- there is one, also if the name is the proxy's own; any other counts for the map for its path, if
+-- there is one (RFC 7252, 5.7.2 and 5.7.3).
 abbrev pub way_of : Routes → Message → Way
 way_of routes m =
     if says_uri m

@@ -11,7 +11,7 @@ use coap_target::{Map, Routes, says_uri};
 use std::alloc::Global;
 use std::marker::Model;
 
-/// Where a request goes.
+/// What a request counts for.
 pub enum Way<'r> {
     /// Its path is mapped, by the map with this prefix.
     Mapped(&'r Pieces),
@@ -84,7 +84,7 @@ impl Model for MapTable {
     } };
 }
 
-/// Where a request goes.
+/// What a request counts for.
 pub fn way_of<'r>(routes: &'r Routes, request: &MessageRef<'_>) -> Way<'r>
     ensures { spec.way_seen result ≡ spec.way_of routes.entry.now request.now }
 {

@@ -30,7 +30,7 @@ use endpoint_counts::{DigestedEndpoint, EndpointMap, Stage, close_one, open_one}
 use std::alloc::Global;
 use std::marker::Model;
 
-/// Exchanges in order of number. A contract sees the table. Only `new`, `seeded` and `admit`
+/// Exchanges by number. A contract sees the table. Only `new`, `seeded` and `admit`
 /// allocate.
 pub struct Exchanges {
     alloc: Global,

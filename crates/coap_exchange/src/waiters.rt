@@ -24,7 +24,7 @@ use endpoint_counts::{DigestedEndpoint, EndpointMap};
 use std::alloc::Global;
 use std::marker::Model;
 
-/// Waiters in order of number. A contract sees the table. Only `new`, `seeded` and `admit`
+/// Waiters by number. A contract sees the table. Only `new`, `seeded` and `admit`
 /// allocate.
 pub struct Waiters {
     pub(crate) table: Table<Waiter>,

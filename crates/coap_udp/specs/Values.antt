@@ -31,8 +31,8 @@ abbrev pub read_waits : ℕ → Bool
 read_waits wait = nat_le 8 wait
 
 -- For how long a port waits after a read that gave nothing. A read that waits takes at least four
--- milliseconds. With a wait of one there is no other if anything was handed over since the turn
--- before: then something more may be due already.
+-- milliseconds. With a wait of one there is no other if anything was handed over since the last
+-- read: then something more may be due already.
 abbrev pub rest_of : ℕ → Bool → ℕ
 rest_of wait handed =
     if read_waits wait then wait - 4 else (if nat_lt 1 wait || not handed then wait else 0)

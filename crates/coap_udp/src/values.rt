@@ -68,7 +68,7 @@ pub(crate) fn read_waits(wait: u64) -> bool
 }
 
 /// For how long a port waits after a read that gave nothing; `handed` says whether anything was
-/// handed over since the turn before.
+/// handed over since the last read.
 pub(crate) fn rest_of(wait: u64, handed: bool) -> u64
     ensures { result ≡ spec.rest_of wait handed }
 {

@@ -1,5 +1,5 @@
 //! How many items of a table each endpoint has: exchanges with an origin, exchanges that a client
-//! opened, or requests of a client that wait.
+//! opened, or waiters of a client.
 //!
 //! # First use
 //!
