@@ -139,9 +139,9 @@ def options_of_the_greatest_lengths_and_numbers_go_on():
 
 
 @case
-def thirty_variants_of_a_target_are_kept_changed_and_validated():
+def a_thousand_variants_of_a_target_are_kept_changed_and_validated():
     script, message_id = Script(), 0
-    variants = [([(ACCEPT, number_bytes(n))], (ETAG, b"%d" % n), b"%d" % n) for n in range(30)]
+    variants = [([(ACCEPT, number_bytes(n))], (ETAG, b"%d" % n), b"%d" % n) for n in range(1000)]
     for more, tag, payload in variants:
         message_id += 1
         here, there = [*path("t"), *more], [TEMP, *more]
@@ -160,7 +160,8 @@ def thirty_variants_of_a_target_are_kept_changed_and_validated():
     for more, tag, payload in variants:
         message_id += 1
         script.hit(1000, CLIENT, [*path("t"), *more], ([tag, max_age(50)], payload), message_id)
-    return script.run("thirty_variants_of_a_target_are_kept_changed_and_validated")
+    limits = "cache_entries = 1000\ncon_records = 2000\nnon_records = 2001"
+    return script.run("a_thousand_variants_of_a_target_are_kept_changed_and_validated", limits)
 
 
 @case

@@ -12,7 +12,7 @@ import termios
 import time
 from datetime import datetime, timedelta
 
-from testing.coap import CON, CONTENT, GET, NON, NOT_SUPPORTED, PROXY_URI, message
+from testing.coap import CHANGED, CON, CONTENT, GET, NON, NOT_SUPPORTED, PROXY_URI, PUT, message
 from testing.network import FAULT, PATIENCE, RESULT, Life, case_list, expect, expect_datagram, free_port
 from testing.statistics import await_metric
 from testing.steps import T, TEMP, expect_hit, max_age
@@ -51,6 +51,14 @@ def expect_sent(wanted, sent):
     expect("how many datagrams the replay sends", len(wanted), len(sent))
 
 
+def expect_replayed(stage, path, *messages):
+    """Waits until a recording is written, and fails if its replay doesn't send these messages."""
+    seen, until = [it.data.hex().upper() for it in messages], time.monotonic() + PATIENCE
+    while replayed(stage.program, path) != seen and time.monotonic() < until:
+        time.sleep(0.2)
+    expect_sent(seen, replayed(stage.program, path))
+
+
 @case("PayloadChanged")
 def a_replay_of_a_recording_sends_the_same(stage):
     origin, path = stage.peer(), os.path.join(stage.folder, "run.events")
@@ -63,11 +71,20 @@ def a_replay_of_a_recording_sends_the_same(stage):
     hit = expect_hit(client, life)[1]
     client.send(request.data)
     again = client.receive("the acknowledgement again")
-    seen = [it.data.hex().upper() for it in (acknowledged, asked, told, hit, again)]
-    until = time.monotonic() + PATIENCE
-    while replayed(stage.program, path) != seen and time.monotonic() < until:
-        time.sleep(0.2)
-    expect_sent(seen, replayed(stage.program, path))
+    expect_replayed(stage, path, acknowledged, asked, told, hit, again)
+
+
+@case("PayloadChanged", "RecordingEndsSoon")
+def a_recording_has_datagrams_of_4096_bytes(stage):
+    origin, path = stage.peer(), os.path.join(stage.folder, "run.events")
+    words = ("--map", f"/t=coap://{origin.authority}/temp", "--record", path)
+    client = stage.peer(to=stage.proxy(*words, config="[limits]\ndatagram = 4096\n"))
+    # Beside a head and a token there are an option and the marker of the payload, and a response has room for a Max-Age.
+    payload, changed = b"x" * (4096 - 12 - 5 - 1), b"y" * (4096 - 12 - 6 - 1)
+    request = client.request(PUT, [T], payload)
+    acknowledged, asked = client.expect_acknowledgement(request), origin.expect_request(PUT, [TEMP], payload)
+    origin.answer(asked, CHANGED, payload=changed)
+    expect_replayed(stage, path, acknowledged, asked, client.expect_separate(request, CHANGED, payload=changed))
 
 
 @case("OtherFirstId")

@@ -1,6 +1,8 @@
 """Replays where tables, and the Message IDs of an endpoint, are as full as they can be."""
 
-from testing.coap import ACK, CON, CONTENT, EMPTY, GET, NON, NOT_FOUND, PROXY_URI, UNAVAILABLE, message, number_bytes
+from testing.coap import (
+    ACK, CON, CONTENT, EMPTY, ETAG, GET, NON, NOT_FOUND, PROXY_URI, UNAVAILABLE, VALID, message, number_bytes,
+)
 from testing.scripted import CLIENT, FOREVER, ORIGIN, Script, endpoint
 from testing.steps import TEMP, max_age, path
 
@@ -213,3 +215,30 @@ def of_16384_clients_each_gives_up_its_own_place():
     script.tick(1)
     name = "of_16384_clients_each_gives_up_its_own_place"
     return script.run(name, "waiters = 16384\nnon_records = 65536")
+
+
+@case
+def a_response_is_validated_while_1000_clients_wait_and_a_request_is_queued():
+    script, count, tag = Script(), 1000, (ETAG, b"\x01")
+    script.fetch(0, *below("old"), ([tag, max_age(1)], b"20"))
+    for n in range(count):
+        script.come(1001, endpoint(n), message(NON, GET, n, number_bytes(n), path("t")))
+    asked = script.ask(1001, ORIGIN, script.new_exchange(), GET, [TEMP])
+    script.come(1001, CLIENT, message(NON, GET, 1, b"", path("t", "new")))
+    new = script.new_exchange()
+    script.come(1001, CLIENT, message(NON, GET, 2, b"", path("t", "old")))
+    validation = script.new_exchange()
+    script.tick(1001)
+    script.answer(1002, ORIGIN, asked, CONTENT, [], b"21")
+    # The next request was due before the answer came.
+    asked = script.ask(1002, ORIGIN, new, GET, path("temp", "new"))
+    for n in range(count):
+        script.deliver(1002, endpoint(n), NON, CONTENT, number_bytes(n), [max_age(60)], b"21")
+    script.answer(1003, ORIGIN, asked, CONTENT, [max_age(9)], b"22")
+    asked = script.ask(1003, ORIGIN, validation, GET, [tag, *path("temp", "old")])
+    script.deliver(1003, CLIENT, NON, CONTENT, b"", [max_age(9)], b"22")
+    script.answer(1004, ORIGIN, asked, VALID, [tag, max_age(30)])
+    script.deliver(1004, CLIENT, NON, CONTENT, b"", [tag, max_age(30)], b"20")
+    script.tick(1004)
+    name = "a_response_is_validated_while_1000_clients_wait_and_a_request_is_queued"
+    return script.run(name, "waiters = 1002\nnon_records = 2000")

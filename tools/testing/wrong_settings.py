@@ -41,6 +41,13 @@ class OtherFirstId(Right):
         return [str(int(it) - 1) if before == "--id" else it for before, it in zip([""] + words, words)]
 
 
+class RecordingEndsSoon(Right):
+    """Has no room for a long datagram in a recording."""
+
+    def words(self, words):
+        return [*words, "--record-bytes", "8000"] if "--record" in words else words
+
+
 class NothingDrawn(Right):
     def words(self, words):
         return [*words, "--id", "1", "--salt", "0"]
