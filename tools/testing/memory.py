@@ -169,7 +169,7 @@ def what_is_said(program, run):
         (comments if line.startswith(b"#") else sent).append(line)
     [said] = [line for line in comments if b" answered " in line]
     said = said.rstrip(b"\n").partition(b" answered ")[2]
-    return said.removeprefix(b"2.05 "), b"".join(sent)
+    return said.replace(b"2.05 ", b"", 1), b"".join(sent)
 
 
 def an_answer_without_memory_is_not_said_to_be_kept(program, run):
