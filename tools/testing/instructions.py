@@ -11,7 +11,7 @@ from concurrent.futures import ThreadPoolExecutor
 from testing import programs
 from testing.network import Failed, Skipped
 
-KINDS = ("miss", "conmiss", "queued", "con", "non", "again", "tick")
+KINDS = ("miss", "conmiss", "queued", "join", "con", "non", "again", "tick")
 NSTART = 16
 CONFIG = f"""version = 2
 names = ["proxy.test"]
@@ -100,10 +100,16 @@ def queued(opened, many):
         yield "1 0 tick"
 
 
+def joining(count):
+    """The lines of a replay: requests of so many clients for one resource, which no origin answers."""
+    for n in range(count):
+        yield f"0 0 10.251.{n >> 8}.{n & 255}:40001 {get(False, n, f'coap://{origin(0)}/open0000')}"
+
+
 def events(kind, opened, many):
     """The lines of a replay: a stored response, `opened` requests that no origin answers, and `many` of the kind."""
-    if kind == "queued":
-        yield from queued(opened, many)
+    if kind in ("queued", "join"):
+        yield from queued(opened, many) if kind == "queued" else joining(opened + many)
         return
     yield from response(200)
     for n in range(opened):
@@ -147,8 +153,7 @@ def answered(kind, count, many):
 
 def clients(count, many):
     """The lines of a replay: an answer for so many clients of one request, and ticks that deliver it to some."""
-    for n in range(count):
-        yield f"0 0 10.251.{n >> 8}.{n & 255}:40001 {get(False, n, f'coap://{origin(0)}/open0000')}"
+    yield from joining(count)
     yield "0 0 tick"
     yield f"1 0 {origin(0)}:5683 {content(1, 1, 10)}"
     for _ in range(many):
