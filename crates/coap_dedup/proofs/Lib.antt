@@ -1,4 +1,5 @@
 pub mod Orders
+pub mod Maps
 pub mod Aging
 pub mod Apart
 pub mod Numbering
