@@ -1,6 +1,6 @@
-//! Indexes of numbered items: pairs of a key and a number, in order. A table that finds its items
-//! by a key has an index for it. All room is made once, for as many pairs as there may ever be: no
-//! change of an index needs memory.
+//! Indexes of numbered items: pairs of a key and a number, in order (`OrderedIndex`) or spread by a
+//! hash of the key (`HashedIndex`). A table that finds its items by a key has an index for it. All
+//! room is made once, for as many pairs as there may ever be: no change of an index needs memory.
 //!
 //! # First use
 //!

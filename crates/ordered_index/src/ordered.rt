@@ -9,8 +9,8 @@ use crate::pair_buffer::PairBuffer;
 use std::alloc::{AllocError, Global};
 use std::marker::Model;
 
-/// An index has room for a sixteenth more pairs than its limit.
-const SPARE: usize = 16;
+/// An index has room for a thirty-second more pairs than its limit.
+const SPARE: usize = 32;
 
 /// Pairs of a key and a number, each at most once, in increasing order. Only `new` allocates.
 pub struct OrderedIndex {
