@@ -10,7 +10,7 @@ KEPT, NOT_KEPT, ENDED, NOT_OFFERED, NOT_SEEN = "kept", "not kept", "ended", "not
 
 # A case: its family's name and the label of its variant, the section, whether it is a MUST or a SHOULD, the function
 # that plays it with its values, the faults of which at least one must be found, what the proxy must offer, whether it
-# takes longer than two minutes, and whether it is played while no other is.
+# takes longer than a minute, and whether it is played while no other is.
 Case = namedtuple("Case", "family label section level function values faults needs is_long is_alone")
 # What came of a case, and a text that says more: what came, or why it wasn't tried.
 Outcome = namedtuple("Outcome", "case result text", defaults=("",))
