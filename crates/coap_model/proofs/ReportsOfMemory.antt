@@ -23,7 +23,7 @@ use Rattle.coap_dedup.specs.declared.record.Record.{Record}
 use Rattle.coap_pending.specs.Exchanges.{is_sent, was_sent_as}
 use Rattle.coap_forward.specs.Messages.{brings_requests, brings_responses, is_con, is_ack, is_bare, acknowledgement}
 use Rattle.coap_model.specs.Answers.{Arrived, with_changed, entry_made, answers_so, keeps_if, may_store, answer_for, answers}
-use Rattle.coap_model.specs.Empties.{on_delivery, acknowledges, settles, on_exchange, on_sent, on_empty}
+use Rattle.coap_model.specs.Empties.{on_delivery, acknowledges, settles, on_exchange, on_found, on_empty}
 use Rattle.coap_model.specs.Requests.{on_request}
 use Rattle.coap_model.specs.Responses.{awaiting, on_not_confirmable, on_new_confirmable, on_unknown, on_response_in, on_response}
 use Rattle.coap_model.specs.Step.{on_no_response, on_no_request, message_in, on_read, step_of}
@@ -104,7 +104,7 @@ found-told w now source m n (Some x) =
     (λ grown. refl)
 
 -- an Empty message for something that was sent
-sent-told : (w : State) (now : ℕ) (source : Endpoint) (m : Message) (o : Option ℕ) → IsTold (λ grown. on_sent w now grown source m o)
+sent-told : (w : State) (now : ℕ) (source : Endpoint) (m : Message) (o : Option ℕ) → IsTold (λ grown. on_found w now grown source m o)
 sent-told w now source m None = λ grown. refl
 sent-told w now source m (Some n) = found-told w now source m n (item_at n w.exchanges)
 

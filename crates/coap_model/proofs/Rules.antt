@@ -40,7 +40,7 @@ use Rattle.coap_model.specs.State.{State, Step, has_record_room, has_room_to_joi
 use Rattle.coap_model.specs.Requests.{lacks_id, refuses, overloads, new_exchange, new_waiter, joins, opens, turns_down, turns_away, hits, on_exchange_needed, on_joinable, on_miss, on_entry, on_key, on_verdict, on_new, on_known, on_request}
 use Rattle.coap_model.specs.Answers.{Arrived, with_changed, may_store, answer_for, entry_made, answers_so, keeps_if, stores, answers_with, answers}
 use Rattle.coap_model.specs.Responses.{awaiting, on_not_confirmable, on_new_confirmable, on_unknown, on_response_in, on_response}
-use Rattle.coap_model.specs.Empties.{acknowledges, closes, on_delivered, on_delivery, settles, on_sent, on_empty}
+use Rattle.coap_model.specs.Empties.{acknowledges, closes, on_delivered, on_delivery, settles, on_found, on_empty}
 use Rattle.coap_model.specs.Empties as empties
 use Rattle.coap_pending.specs.declared.exchange.ExchangeState.{ExchangeState}
 use Rattle.coap_pending.specs.declared.exchange.ExchangeState.TheVariants.{Queued, Sent, Acked, Done}
@@ -588,7 +588,7 @@ module _ (w : State) (now draw : ℕ) (grown : Bool) (source : Endpoint) (bytes 
             let both : false ≡ true = sym other ∙ ap is_sent one ∙ about.sent in
             absurd cc)
 
-    rule_sent : (o : Option ℕ) → first_that (was_sent_as source m.id now) w.exchanges ≡ o → Rule w now draw grown (arrival source bytes) (on_sent w now grown source m o)
+    rule_sent : (o : Option ℕ) → first_that (was_sent_as source m.id now) w.exchanges ≡ o → Rule w now draw grown (arrival source bytes) (on_found w now grown source m o)
     rule_sent None e = of_no_request (λ x about. absurd (let g = sym e ∙ about.first in cc))
     rule_sent (Some n) e = rule_found n e (item_at n w.exchanges) refl
 

@@ -44,11 +44,11 @@ on_exchange w now grown source m number None = on_delivery w now source m
 on_exchange w now grown source m number (Some x) =
     if is_sent x then settles w now grown source m number x else on_delivery w now source m
 
-abbrev pub on_sent : State → ℕ → Bool → Endpoint → Message → Option ℕ → Step
-on_sent w now grown source m None = on_delivery w now source m
-on_sent w now grown source m (Some number) =
+abbrev pub on_found : State → ℕ → Bool → Endpoint → Message → Option ℕ → Step
+on_found w now grown source m None = on_delivery w now source m
+on_found w now grown source m (Some number) =
     on_exchange w now grown source m number (item_at number w.exchanges)
 
 abbrev pub on_empty : State → ℕ → Bool → Endpoint → Message → Step
 on_empty w now grown source m =
-    on_sent w now grown source m (first_that (was_sent_as source m.id now) w.exchanges)
+    on_found w now grown source m (first_that (was_sent_as source m.id now) w.exchanges)

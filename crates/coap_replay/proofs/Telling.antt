@@ -11,7 +11,7 @@ use Rattle.coap_model.specs.Runs.{Run, Taken, Turn, one_turn, step_taken}
 use Rattle.coap_model.specs.State.{Step, State}
 use Rattle.coap_core.specs.Told as watch
 use Rattle.coap_replay.specs.Replays.{DoesTurn, line_for, run_at, taken, state_after}
-use Rattle.coap_replay.specs.Watched.{AreTold, DoesTold, EndsTold, IsTold, TellsTurn, lost_in, told_in}
+use Rattle.coap_replay.specs.Watched.{AreTold, DoesTold, EndsTold, IsToldRun, TellsTurn, lost_in, told_in}
 use Rattle.coap_replay.specs.declared.error.ReplayError.{ReplayError}
 use Rattle.coap_replay.specs.declared.error.ReplayError.TheVariants.{BadEvent, OutOfMemory, Read, Write}
 use Rattle.coap_replay.proofs.Replaying.{run-apart, run-more}
@@ -62,11 +62,11 @@ module _ {V : Type 0} (sees : V → watch.Told → V → Type 0) where
       (told.0, told.1, more (step_taken w u).state told.0 m b ts t told.2 (subst (λ (v : State). sees m (told_in v t) b) (after-more w u ts) one))
 
   -- nothing is told at first
-  pub told-none : (w : State) (a : V) → IsTold sees w a w a
+  pub told-none : (w : State) (a : V) → IsToldRun sees w a w a
   told-none w a = record { turns = []; state = refl; told = refl }
 
   -- a turn that was done is told
-  done-told : (w : State) (a : V) (v : State) (m : V) (v' : State) (b : V) (t : Turn) → IsTold sees w a v m → DoesTold sees v m v' b t → IsTold sees w a v' b
+  done-told : (w : State) (a : V) (v : State) (m : V) (v' : State) (b : V) (t : Turn) → IsToldRun sees w a v m → DoesTold sees v m v' b t → IsToldRun sees w a v' b
   done-told w a v m v' b t is one =
       let u : Taken = taken t one.0 in
       record {
@@ -76,11 +76,11 @@ module _ {V : Type 0} (sees : V → watch.Told → V → Type 0) where
       }
 
   -- after a turn that was done, more may be told
-  pub told-more : (w : State) (a : V) (v : State) (m : V) (v' : State) (b : V) (t : Turn) → IsTold sees w a v m → TellsTurn sees v m v' b t (Ok tt) → IsTold sees w a v' b
+  pub told-more : (w : State) (a : V) (v : State) (m : V) (v' : State) (b : V) (t : Turn) → IsToldRun sees w a v m → TellsTurn sees v m v' b t (Ok tt) → IsToldRun sees w a v' b
   told-more w a v m v' b t is one = done-told w a v m v' b t is one
 
   -- a replay ends with a turn that wasn't done, or whose line wasn't written
-  pub ends-with : (T : Type 0) (w : State) (a : V) (v : State) (m : V) (v' : State) (b : V) (t : Turn) (e : ReplayError) → IsTold sees w a v m → TellsTurn sees v m v' b t (Err e) → EndsTold sees {T = T} w a v' b (Err e)
+  pub ends-with : (T : Type 0) (w : State) (a : V) (v : State) (m : V) (v' : State) (b : V) (t : Turn) (e : ReplayError) → IsToldRun sees w a v m → TellsTurn sees v m v' b t (Err e) → EndsTold sees {T = T} w a v' b (Err e)
   ends-with T w a v m v' b t (BadEvent line) is one = absurd one
   ends-with T w a v m v' b t (OutOfMemory line) is one =
       inr (m, t, rw one.0 is, rw one.0 one.1)
@@ -88,7 +88,7 @@ module _ {V : Type 0} (sees : V → watch.Told → V → Type 0) where
   ends-with T w a v m v' b t Write is one = done-told w a v m v' b t is one
 
   -- a replay ends without one more turn
-  pub ends-without : (T : Type 0) (w : State) (a : V) (v : State) (b : V) (r : Result T ReplayError) → IsTold sees w a v b → EndsTold sees w a v b r
+  pub ends-without : (T : Type 0) (w : State) (a : V) (v : State) (b : V) (r : Result T ReplayError) → IsToldRun sees w a v b → EndsTold sees w a v b r
   ends-without T w a v b (Ok n) is = is
   ends-without T w a v b (Err (BadEvent line)) is = is
   ends-without T w a v b (Err (OutOfMemory line)) is = inl is

@@ -29,7 +29,7 @@ module _ {V : Type 0} (sees : V → watch.Told → V → Type 0) where
       (m : V) × sees a (told_in w t) m × AreTold (step_taken w t).state m turns b
 
   -- it was told of turns that lead from a proxy to what the proxy is now
-  pub record IsTold (w : State) (a : V) (v : State) (b : V) : Type 0 where
+  pub record IsToldRun (w : State) (a : V) (v : State) (b : V) : Type 0 where
     pub turns : List Taken
     pub state : v ≡ state_after w turns
     pub told : AreTold w a turns b
@@ -50,9 +50,9 @@ module _ {V : Type 0} (sees : V → watch.Told → V → Type 0) where
   -- it was told of the turns that a replay did, which ended so; if memory ran out for one more, it
   -- was told of that as well, which it wasn't if memory ran out before the first line
   abbrev pub EndsTold : {T : Type 0} → State → V → State → V → Result T ReplayError → Type 0
-  EndsTold w a v b (Ok n) = IsTold w a v b
-  EndsTold w a v b (Err (BadEvent line)) = IsTold w a v b
-  EndsTold w a v b (Err (OutOfMemory line)) = IsTold w a v b
-      ⊎ ((m : V) × (t : Turn) × IsTold w a v m × sees m (lost_in v t) b)
-  EndsTold w a v b (Err Read) = IsTold w a v b
-  EndsTold w a v b (Err Write) = IsTold w a v b
+  EndsTold w a v b (Ok n) = IsToldRun w a v b
+  EndsTold w a v b (Err (BadEvent line)) = IsToldRun w a v b
+  EndsTold w a v b (Err (OutOfMemory line)) = IsToldRun w a v b
+      ⊎ ((m : V) × (t : Turn) × IsToldRun w a v m × sees m (lost_in v t) b)
+  EndsTold w a v b (Err Read) = IsToldRun w a v b
+  EndsTold w a v b (Err Write) = IsToldRun w a v b
