@@ -74,4 +74,4 @@ header_text version start words config = ended (header_lines version start words
 
 -- the comment that says since when is recorded
 abbrev pub since_line : List ℕ → List ℕ
-since_line moment = codes "# recorded since " ++ word_shown moment
+since_line date = codes "# recorded since " ++ word_shown date

@@ -63,22 +63,22 @@ pub fn header_of(
     Ok(out)
 }
 
-/// Adds the comment that says since when is recorded, with a line feed: `# recorded since MOMENT`.
+/// Adds the comment that says since when is recorded, with a line feed: `# recorded since DATE`.
 /// A replay skips it, too.
 ///
 /// # Errors
 /// `TooLong` if it is longer than the 16,384 bytes that a replay reads; `OutOfMemory`. Part of it
 /// may have been added then.
-pub fn put_since(header: &mut Vec<u8>, moment: &str) -> Result<(), HeaderError>
+pub fn put_since(header: &mut Vec<u8>, date: &str) -> Result<(), HeaderError>
     ensures exact { OnOk result (header.new.items
-        ≡ header.old.items ++ ended (spec.since_line moment.now ∷ [])) }
+        ≡ header.old.items ++ ended (spec.since_line date.now ∷ [])) }
     ensures skipped { (lines : List (List ℕ)) → AreSkipped lines header.old.items
-        → OnOk result (AreSkipped (lines ++ spec.since_line moment.now ∷ []) header.new.items) }
-    ensures long { result ≡ Err errors.TooLong → is_too_long (spec.since_line moment.now) ≡ true }
+        → OnOk result (AreSkipped (lines ++ spec.since_line date.now ∷ []) header.new.items) }
+    ensures long { result ≡ Err errors.TooLong → is_too_long (spec.since_line date.now) ≡ true }
 {
     let begin = header.len();
     header.extend_from_slice(b"# recorded since ")?;
-    put_word(header, moment.as_bytes())?;
+    put_word(header, date.as_bytes())?;
     if header.len() - begin > LONGEST {
         return Err(HeaderError::TooLong);
     }

@@ -36,7 +36,8 @@ fn is_silent(wait: u64, from: Option<Endpoint>) -> bool
 ///
 /// The lines are kept in a buffer that was allocated before, and written where it is full, where
 /// the port is about to wait after a wait in which nothing came, and at the end, by `finish`. So a
-/// turn takes no memory for its line, and no system call while datagrams come.
+/// turn takes no memory for its line, and while datagrams come the writer is called once for 64 KB
+/// of lines.
 ///
 /// No turn fails because its line can't be written. What the writer doesn't take is lost then, and
 /// nothing more is recorded (`has_ended`).
