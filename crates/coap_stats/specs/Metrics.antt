@@ -68,7 +68,7 @@ requests =
 abbrev pub answers : Metric
 answers =
     counter (codes "coap_proxyd_answers_total")
-    (codes "Responses of origin servers by what the cache did with them.")
+    (codes "Responses of origin servers, Resets among them, by what the cache did with them.")
 
 abbrev pub opened : Metric
 opened =

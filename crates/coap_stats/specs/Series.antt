@@ -40,7 +40,7 @@ series_text parts s = head_text s.metric ++ flat_map s.text parts
 abbrev pub map_requests : Metric
 map_requests =
     counter (codes "coap_proxyd_map_requests_total")
-    (codes "Requests by the map that they go through, and what became of them.")
+    (codes "Requests by the map whose prefix they have, and what became of them.")
 
 -- the ways that requests go, each with its counts: the prefixes of maps, and the three others
 abbrev pub by_prefix : MapCounts → Part × RequestCounts
@@ -84,7 +84,7 @@ origin_answers =
 abbrev pub origin_silence : Metric
 origin_silence =
     gauge (codes "coap_proxyd_origin_seconds_since_answer")
-    (codes "Full seconds since the last response of an origin server.")
+    (codes "Full seconds since the last response or Reset of an origin server.")
 
 abbrev pub origin_times : Metric
 origin_times = record {

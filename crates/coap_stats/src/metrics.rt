@@ -76,7 +76,7 @@ const REQUESTS: Metric = Metric {
 const ANSWERS: Metric = Metric {
     name: "coap_proxyd_answers_total",
     kind: "counter",
-    help: "Responses of origin servers by what the cache did with them.",
+    help: "Responses of origin servers, Resets among them, by what the cache did with them.",
 };
 
 const OPENED: Metric = Metric {

@@ -20,7 +20,7 @@ use coap_message::{Moment, OutOfMemory};
 const MAP_REQUESTS: Metric = Metric {
     name: "coap_proxyd_map_requests_total",
     kind: "counter",
-    help: "Requests by the map that they go through, and what became of them.",
+    help: "Requests by the map whose prefix they have, and what became of them.",
 };
 
 const ORIGIN_SENT: Metric = Metric {
@@ -50,7 +50,7 @@ const ORIGIN_GAVE_UP: Metric = Metric {
 const ORIGIN_SILENCE: Metric = Metric {
     name: "coap_proxyd_origin_seconds_since_answer",
     kind: "gauge",
-    help: "Full seconds since the last response of an origin server.",
+    help: "Full seconds since the last response or Reset of an origin server.",
 };
 
 const ORIGIN_TIMES: Metric = Metric {
