@@ -54,16 +54,17 @@ pub struct Holder {
     pub count: u64,
     pub limit: u64,
     pub ip: Ip,
-    /// How much of it this address has, and with how many of its ports.
+    /// How much of it this address has, and with how many of its ports. Records that have expired
+    /// and weren't removed yet are among them, but not in `count`.
     pub held: u64,
     pub ports: u64,
     /// When it was found, in milliseconds.
     pub found: Moment,
 }
 
-/// Which address had more of each table than any other when it was last found full. One is looked
-/// for at most once a minute: when a message was turned away for want of room in a table, or of its
-/// client's share in it. Only `new` allocates.
+/// Which address had more of each table than any other when it was last found full, as it is also
+/// for a client that has its share of it. One is looked for at most once a minute: when a message
+/// was turned away for want of room. Only `new` allocates.
 #[derive(Drop)]
 pub struct Holders {
     /// What each endpoint has, while somebody is looked for.

@@ -1,4 +1,4 @@
--- How many waiters there are, and how many wait for each exchange.
+-- How many waiters wait, in all and for each exchange.
 use Rattle.std.specs.Prelude.{◌≡◌, ℕ, List}
 use Rattle.ordered_index.specs.Ordered.{Pair, many_of}
 use Rattle.coap_pending.specs.declared.waiter.Waiter.{Waiter}

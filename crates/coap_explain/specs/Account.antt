@@ -148,7 +148,7 @@ abbrev pub answered_text : Answering → Storing → Result Message DecodeError 
 answered_text answering storing (Ok m) = answering_text answering m.code storing
 answered_text answering storing (Err e) = []
 
--- what a client holds of a proxy, without the Message ID of its own 5.03
+-- what was in use before a 5.03 of this type took its Message ID
 abbrev pub is_non : Kind → Bool
 is_non Non = true
 is_non _ = false

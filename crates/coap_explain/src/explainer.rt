@@ -28,8 +28,9 @@ const ROOM: usize = 65_536;
 /// Writes a line for each turn that it is told, as a comment of a replay: `# NUMBER MOMENT SOURCE
 /// TYPE CODE TARGET OUTCOME ..`. NUMBER is that of the event, SOURCE is `tick` for a tick, TARGET
 /// is there for a request that the routes take somewhere, and behind the outcome stand the cause of
-/// a refusal and what was sent; of what was given up or delivered also its target and its origin,
-/// how often the request was sent, and how long it took.
+/// a refusal and what was sent; of an exchange that was given up and of an answer that was delivered
+/// also its target and its origin, how often the request was sent, and how long it took; of an
+/// answer that was given up its client.
 pub struct Explainer<W: Write> {
     alloc: Global,
     output: W,

@@ -186,7 +186,7 @@ impl<W: Write> Logger<W> {
         self.line.put_number("ports", holder.ports)
     }
 
-    /// Logs that an origin answers again, which was silent since this moment.
+    /// Logs that an origin is heard again, which was silent since this moment.
     pub(crate) fn tell_heard(&mut self, from: Endpoint, since: Moment, now: Moment)
         // Unless one more line is left out, this one is written.
         ensures { self.new.left_out ≡ 0

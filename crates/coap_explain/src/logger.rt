@@ -27,7 +27,7 @@ const CAUSES: usize = 4_096;
 
 /// Logs what goes wrong, in lines `WORD KEY=VALUE ..`: an exchange that is given up, a client that
 /// is sent 5.02, 5.03 or 5.04, a message that is dropped, who has most of a table that is full, and
-/// an origin that was silent and answers again. At most 20 lines are written at once, and 5 more a
+/// an origin that was silent and is heard again. At most 20 lines are written at once, and 5 more a
 /// second; how many were left out is said before the next one. A line that the output doesn't take
 /// is left out, too.
 ///
@@ -223,7 +223,7 @@ impl<W: Write> Logger<W> {
         }
     }
 
-    /// Logs that an origin answers again, if it was silent.
+    /// Logs that an origin is heard again, if it was silent: an acknowledgement is enough.
     fn on_heard(&mut self, from: Endpoint, now: Moment) {
         if let Some(since) = self.silent.hear(from) {
             self.tell_heard(from, since, now);

@@ -1,4 +1,4 @@
-//! The origins that were given up and haven't answered since.
+//! The origins that were given up and weren't heard since.
 
 use crate::ring::Ring;
 use coap_endpoint::Endpoint;
@@ -16,7 +16,7 @@ struct SilentOrigin {
     since: Moment,
 }
 
-/// The origins that were given up last and haven't answered since, up to 256.
+/// The origins that were given up last and weren't heard since, up to 256.
 #[derive(Drop)]
 pub(crate) struct SilentOrigins {
     all: Ring<SilentOrigin>,

@@ -19,8 +19,8 @@ escape b =
 abbrev pub escaped : List ℕ → List ℕ
 escaped bytes = flat_map escape bytes
 
--- a byte that ends no line, no word and no key: not a control character, a blank, a quotation mark
--- or an equals sign
+-- a byte that ends no line, no word and no key: neither the blank nor a byte below it, as a line
+-- feed, nor a quotation mark or an equals sign
 pub record EndsNothing (b : ℕ) : Type 0 where
   pub printed : 0x20 < b
   pub quotation : b ≢ 0x22

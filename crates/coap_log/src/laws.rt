@@ -4,8 +4,8 @@ ghost use Rattle.std.specs.List.{All};
 ghost use Rattle.coap_log.specs.Values.{EndsNothing, escaped};
 ghost use Rattle.coap_log.specs.Limiter.{AreWithin, written};
 
-/// A value forges no line, no word of a line and no key, whoever chose it: it has no control
-/// character, no blank, no quotation mark and no equals sign.
+/// A value forges no line, no word of a line and no key, whoever chose it: it has no blank and no
+/// byte below it, as a line feed, no quotation mark and no equals sign.
 pub fn values_forge_nothing()
     ensures { (bytes : List ℕ) → All EndsNothing (escaped bytes) }
 {}

@@ -5,7 +5,7 @@ ghost use Rattle.coap_message.specs.declared.error.DecodeError.TheVariants as er
 use std::alloc::{AllocError, AllocFailed};
 use thiserror::Error;
 
-/// Allocation failed. What was to grow is unchanged.
+/// Allocation failed. Each call says what it leaves then.
 #[derive(Clone, Copy, Debug, PartialEq, Eq, Error)]
 #[error("out of memory")]
 pub struct OutOfMemory;

@@ -1,5 +1,5 @@
 //! Messages that a proxy refuses to pass on because of an option (RFC 7252, 5.4.1, 5.4.2 and
-//! 5.7.1). The core reads what is refused of a request from its `Survey`.
+//! 5.7.1). What is refused of a request the core learns from `survey_request`, whose error it is.
 ghost use Rattle.std.specs.Prelude.{◌≡◌, OnOk, IfErr};
 ghost use Rattle.coap_option.specs.Screening.{is_refused, first_refused};
 

@@ -34,7 +34,7 @@ fn max_age_list(alloc: Global, seconds: u64) -> Result<OptionList, OutOfMemory>
 }
 
 /// The newer options, in their places among the older ones, replacing all older ones with their
-/// numbers. Allocates one block of just their bytes.
+/// numbers. They stand in one block of just their bytes.
 ///
 /// # Errors
 /// Out of memory.
