@@ -69,9 +69,9 @@ def hits(kind, here, count):
 
 
 def expect_requests(program, kind, here, count):
-    """Has each hit in a message of this type make so many requests for memory, besides those of the map in which its
-    record is found: a node of it has room for 15."""
-    few, many = (requests_of(program, hits(kind, here, n)) for n in (100, 300))
+    """Has each hit in a message of this type make so many requests for memory, besides those of the maps in which records
+    are found: each of the 256, one for each last byte of a Message ID, has a node by then, with room for 15."""
+    few, many = (requests_of(program, hits(kind, here, n)) for n in (300, 500))
     expect_between("how many requests for memory 200 hits make", 200 * count, 200 * count + 40, many - few)
 
 
@@ -133,8 +133,8 @@ def exchanges_that_come_and_go_take_no_memory_for_their_tables(program):
             start = memory.requests_of_start(memory.Refusals(folder, program), run)
         made.append(requests_of(program, run) - start)
     expect("how many requests for memory they make in tables that are almost full, and in others", made[1], made[0])
-    # Five for each, and some for what is made once: what is shared is copied for nobody.
-    expect_between("how many requests for memory they make", 0, 5 * 427 + 100, made[0])
+    # Five for each, one for each map of records, and some for what is made once: what is shared is copied for nobody.
+    expect_between("how many requests for memory they make", 0, 5 * 427 + 256 + 100, made[0])
 
 
 # Address space
