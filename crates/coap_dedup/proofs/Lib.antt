@@ -1,5 +1,5 @@
 pub mod Orders
-pub mod Maps
+pub mod Spreading
 pub mod Aging
 pub mod Apart
 pub mod Numbering

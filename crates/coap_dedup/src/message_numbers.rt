@@ -5,6 +5,7 @@ ghost use Rattle.coap_dedup.specs.MessageNumbers.{HasMaps, map_of, number_at};
 ghost use Rattle.coap_dedup.specs.declared.key.Key.{Key};
 
 use crate::key::Key;
+use crate::maps::empty_maps;
 use coap_message::OutOfMemory;
 use std::alloc::Global;
 use std::collections::BTreeMap;
@@ -13,7 +14,7 @@ use std::collections::BTreeMap;
 const MAPS: usize = 256;
 
 /// A number for each of some messages. It stands in a map of those whose Message IDs end in the
-/// same byte, so that a search goes through fewer nodes than in one map of all.
+/// same byte.
 pub(crate) struct MessageNumbers {
     pub(crate) maps: Vec<BTreeMap<Key, u64>>,
 }
@@ -33,11 +34,9 @@ impl MessageNumbers {
         ensures all { IfOk result (λ numbers. HasMaps numbers) }
         ensures none { IfOk result (λ numbers. (k : Key) → number_at numbers.maps.items k ≡ None) }
     {
-        let mut maps = Vec::with_capacity(alloc, MAPS)?;
-        'maps: while maps.len() < MAPS {
-            maps.push(BTreeMap::new(alloc))?;
-        }
-        Ok(MessageNumbers { maps })
+        Ok(MessageNumbers {
+            maps: empty_maps(alloc, MAPS)?,
+        })
     }
 
     /// The number of a message, if it has one.
@@ -61,7 +60,8 @@ impl MessageNumbers {
         ensures put { OnOk result ((k : Key)
             → number_at self.new.maps.items k
             ≡ (if same_key key k then Some number else number_at self.old.maps.items k)) }
-        ensures err { OnErr result ((k : Key) → number_at self.new.maps.items k ≡ number_at self.old.maps.items k) }
+        ensures err { OnErr result ((k : Key)
+            → number_at self.new.maps.items k ≡ number_at self.old.maps.items k) }
     {
         if let Some(map) = self.maps.get_mut(map_of(&key)) {
             map.insert(key, number)?;

@@ -4,6 +4,7 @@ ghost use Rattle.coap_dedup.specs.declared.record.Record.{Record};
 ghost use Rattle.coap_dedup.specs.Indexing.{AreNumbersOf};
 ghost use Rattle.coap_dedup.specs.Lists.{AreApart};
 ghost use Rattle.coap_dedup.specs.MessageNumbers.{HasMaps};
+ghost use Rattle.coap_dedup.specs.Sources.{HaveMaps};
 
 use crate::message_numbers::MessageNumbers;
 use crate::record::Record;
@@ -81,6 +82,7 @@ impl Numbers {
     /// of the same one. Doesn't allocate.
     pub(crate) fn release_first(&mut self, first: &Record, last: &Record)
         requires all { HasMaps self.old.by_message }
+        requires sources { HaveMaps self.old.by_source.shares }
         ensures numbered { (records : List Record)
             → AreApart (first.now ∷ records)
             → AreNumbersOf self.old (first.now ∷ (records ++ last.now ∷ []))

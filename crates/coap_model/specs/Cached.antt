@@ -1,5 +1,5 @@
 -- The cache of a history: which storable responses arrived in it, and in which order they are kept
--- (RFC 7252, 5.6 and 5.9.1). This file names no table.
+-- (RFC 7252, 5.6 and 5.9.1). No table is named before the last part, which says what a store has.
 use Rattle.std.specs.Prelude.{◌≡◌, ℕ, ◌<◌, Bool, true, false, List, [], ◌∷◌, Option, Some, None, Ok, option_map}
 use Rattle.coap_message.specs.Message.{Message}
 use Rattle.coap_endpoint.specs.declared.endpoint.Endpoint.{Endpoint}

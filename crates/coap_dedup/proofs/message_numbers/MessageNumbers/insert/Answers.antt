@@ -1,6 +1,6 @@
 use Rattle.std.proofs.Common.{Some, ap, ◌∙◌, arith, slice_index_or, slice_set}
 use Rattle.coap_dedup.specs.MessageNumbers.{number_at}
-use Rattle.coap_dedup.proofs.Maps.{number_at-set}
+use Rattle.coap_dedup.proofs.Spreading.{number_at-set}
 use Rattle.coap_dedup.proofs.message_numbers.MessageNumbers.insert.Goals as goal
 
 pub returns-in_ok-insert-clause-put : goal.returns-in_ok-insert-clause-put

@@ -1,6 +1,6 @@
 use Rattle.std.proofs.Common.{None, ap, ◌∙◌, arith, slice_index_or, slice_set}
 use Rattle.coap_dedup.specs.MessageNumbers.{number_at}
-use Rattle.coap_dedup.proofs.Maps.{number_at-set}
+use Rattle.coap_dedup.proofs.Spreading.{number_at-set}
 use Rattle.coap_dedup.proofs.message_numbers.MessageNumbers.remove.Goals as goal
 
 pub returns-in-Some-clause-taken : goal.returns-in-Some-clause-taken

@@ -35,7 +35,7 @@ returns-in-Ok-clause-numbered c =
       by_message =
           AreNumbered-push old.first old.by_message.maps.items c.insert.new.self.maps.items rs x number are.by_message is
           (subst (λ (j : Key). (k : Key) → number_at c.insert.new.self.maps.items k ≡ cond (same_key j k) (Some number) (number_at old.by_message.maps.items k)) c.key.ensures c.in_ok-insert.ensures.put);
-      by_source = AreSourced-push old.first old.by_source c.add.new.self rs x number (omega (arith, are.by_message.is_first)) (omega (arith, c.len.ensures.len, c.len.ensures.within)) is c.in-Ok.ensures.shares (ap (λ b. b.items) c.in-Ok.ensures.nexts) are.by_source;
+      by_source = AreSourced-push old.first old.by_source c.add.new.self rs x number (omega (arith, are.by_message.is_first)) (omega (arith, c.len.ensures.len, c.len.ensures.within)) is c.in-Ok.ensures.shares (ap (λ b. b.items) c.in-Ok.ensures.nexts) c.add.ensures.all are.by_source;
     }
 
 pub returns-in-Err-clause-err : goal.returns-in-Err-clause-err
@@ -51,5 +51,5 @@ returns-in-Err-clause-err c =
           AreNumbered-undone old.first old.by_message.maps.items c.insert.new.self.maps.items c.remove.new.self.maps.items rs x number (unshared x.from x.id old.first rs (sym c.in-Err.ensures.new ∙ are.by_source.shared x.from))
           (subst (λ (j : Key). (k : Key) → number_at c.insert.new.self.maps.items k ≡ cond (same_key j k) (Some number) (number_at old.by_message.maps.items k)) c.key.ensures c.in_ok-insert.ensures.put)
           (subst (λ (j : Key). (k : Key) → number_at c.remove.new.self.maps.items k ≡ cond (same_key j k) None (number_at c.insert.new.self.maps.items k)) c.key-in-Err.ensures c.remove.ensures.taken) are.by_message;
-      by_source = AreSourced-same old.first old.by_source c.add.new.self rs c.in-Err.ensures.same_shares c.in-Err.ensures.same_nexts are.by_source;
+      by_source = AreSourced-same old.first old.by_source c.add.new.self rs c.in-Err.ensures.same_shares c.in-Err.ensures.same_nexts c.add.ensures.all are.by_source;
     }

@@ -19,7 +19,7 @@ returns-then-ne-clause-numbered c = λ records apart are.
       by_message =
           first-goes old.first old.by_message.maps.items r records x are.by_message c.remove.new.self.maps.items apart.0 other
           (subst (λ (j : Key). (k : Key) → number_at c.remove.new.self.maps.items k ≡ cond (same_key j k) None (number_at old.by_message.maps.items k)) c.key-key.ensures c.remove.ensures.taken);
-      by_source = AreSourced-rest old.first old.by_source c.release_first.new.self r (records ++ x ∷ []) c.release_first.ensures.shares (ap (λ b. b.items) c.release_first.ensures.nexts) are.by_source;
+      by_source = AreSourced-rest old.first old.by_source c.release_first.new.self r (records ++ x ∷ []) c.release_first.ensures.shares (ap (λ b. b.items) c.release_first.ensures.nexts) c.release_first.ensures.all are.by_source;
     }
 
 pub returns-else-ne-clause-numbered : goal.returns-else-ne-clause-numbered
@@ -32,5 +32,5 @@ returns-else-ne-clause-numbered c = λ records apart are.
     record {
       all = are.all;
       by_message = first-stays old.first old.by_message.maps.items r records x are.by_message same;
-      by_source = AreSourced-rest old.first old.by_source c.release_first.new.self r (records ++ x ∷ []) c.release_first.ensures.shares (ap (λ b. b.items) c.release_first.ensures.nexts) are.by_source;
+      by_source = AreSourced-rest old.first old.by_source c.release_first.new.self r (records ++ x ∷ []) c.release_first.ensures.shares (ap (λ b. b.items) c.release_first.ensures.nexts) c.release_first.ensures.all are.by_source;
     }
