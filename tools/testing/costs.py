@@ -70,7 +70,8 @@ def hits(kind, here, count):
 
 def expect_requests(program, kind, here, count):
     """Has each hit in a message of this type make so many requests for memory, besides those of the maps in which records
-    are found: each of the 256, one for each last byte of a Message ID, has a node by then, with room for 15."""
+    are found: each of the 256, one for each last byte of a Message ID, has a node by then, with room for 15, and so has
+    that of the only client."""
     few, many = (requests_of(program, hits(kind, here, n)) for n in (300, 500))
     expect_between("how many requests for memory 200 hits make", 200 * count, 200 * count + 40, many - few)
 
