@@ -113,29 +113,43 @@ def a_longer_request_takes_no_more_memory(program):
         expect("how many requests for memory longer requests make", short, long)
 
 
-def coming_and_going(room):
-    """A replay of 27 requests that aren't answered, and of four hundred more, one after the other, that are. There is room
-    for so many."""
+def replay(opened=0, clients=1, fetched=0, life=0, room=1000):
+    """A replay of so many requests of so many clients that aren't answered, and of so many more, one after the other, that are.
+    An answer may be stored for so many seconds, and there is room for so many exchanges."""
     script = Script()
-    for n in range(27):
-        script.come(0, endpoint(n), message(NON, GET, n, b"", [(PROXY_URI, f"coap://{endpoint(n)}/{n}".encode())]))
+    for n in range(opened):
+        asked = message(NON, GET, n, b"", [(PROXY_URI, f"coap://{endpoint(n)}/{n}".encode())])
+        script.come(0, endpoint(n % clients), asked)
         script.ask(0, endpoint(n), script.new_exchange(), GET, path(f"{n}"))
-    for n in range(400):
-        script.fetch(0, path("t", f"{n}"), [TEMP, *path(f"{n}")], ([max_age(0)], b"21"), n)
-    return script.run("coming_and_going", f"exchanges = {room}\nwaiters = {room}", "names = ['proxy.test']\n")
+    for n in range(fetched):
+        script.fetch(0, path("t", f"{n}"), [TEMP, *path(f"{n}")], ([max_age(life)], b"21"), n)
+    return script.run("replay", f"exchanges = {room}\nwaiters = {room}", "names = ['proxy.test']\n")
 
 
 @case("ExplainsAll")
 def exchanges_that_come_and_go_take_no_memory_for_their_tables(program):
     made = []
     for room in (28, 1000):
-        run = coming_and_going(room)
+        run = replay(27, clients=27, fetched=400, room=room)
         with tempfile.TemporaryDirectory(prefix="coap-proxyd-test-") as folder:
             start = memory.requests_of_start(memory.Refusals(folder, program), run)
         made.append(requests_of(program, run) - start)
     expect("how many requests for memory they make in tables that are almost full, and in others", made[1], made[0])
     # Five for each, one for each map of records, and some for what is made once: what is shared is copied for nobody.
     expect_between("how many requests for memory they make", 0, 5 * 427 + 256 + 100, made[0])
+
+
+@case("ExplainsAll")
+def an_exchange_takes_no_memory_for_its_places_in_tables(program):
+    """They have room for it from the start. For the first one of a client there is a node of a map, too."""
+    made = [requests_of(program, replay(opened=count)) for count in range(1, 28)]
+    expect("how many requests for memory each of 26 more makes", 26 * [5], [more - less for less, more in zip(made, made[1:])])
+
+
+@case("ExplainsAll")
+def an_answer_that_is_stored_is_copied_for_nobody(program):
+    few, many = (requests_of(program, replay(fetched=count, life=60)) for count in (300, 500))
+    expect_between("how many requests for memory 200 answers make that are stored", 200 * 7, 200 * 7 + 40, many - few)
 
 
 # Address space

@@ -1,4 +1,5 @@
-"""The instructions that the program takes for an event, by valgrind's callgrind, and how many it may take."""
+"""The instructions that the program takes for an event, by valgrind's callgrind, and how many it may take: in all, and next
+to many as next to few."""
 
 import functools
 import os
@@ -9,7 +10,7 @@ import tempfile
 from concurrent.futures import ThreadPoolExecutor
 
 from testing import programs
-from testing.network import Failed, Skipped
+from testing.network import Failed, Skipped, expect_between
 
 KINDS = ("miss", "conmiss", "queued", "join", "con", "non", "again", "tick")
 NSTART = 16
@@ -43,6 +44,11 @@ MORE = 1.04
 MORE_IN_OUT = 1.26
 # How many events one number is the average of: what comes before them takes more or less with each start's secrets.
 FEW = 300
+# Next to how few and how many open exchanges, or clients of one, an event of a kind is counted, and how many times as many
+# instructions it may take next to many. If it takes less than LEAST times as many, something is refused there.
+BESIDE_EXCHANGES = {"miss": (1, 4000, 1.08), "conmiss": (1, 4000, 1.08), "tick": (1, 4000, 1.1)}
+BESIDE_CLIENTS = {"join": (1, 15_900, 1.1), "delivery": (1000, 16_000, 1.1)}
+LEAST = 0.9
 
 
 # The events of a replay
@@ -194,11 +200,11 @@ def of_replay(program, client_records, lines, before=(), more=()):
     return int(found[1].replace(",", ""))
 
 
-def each(program, client_records, lines, many):
+def each(program, client_records, lines, many, before=()):
     """The instructions of one event more, on an average of so many, given a function from a number of events to the lines
-    of a replay."""
+    of a replay: perhaps started by the words before."""
     # The first is left out: it may pay for what the others find made.
-    less, more = (of_replay(program, client_records, lines(count)) for count in (1, 1 + many))
+    less, more = (of_replay(program, client_records, lines(count), before) for count in (1, 1 + many))
     return (more - less) // many
 
 
@@ -225,3 +231,40 @@ def an_event_takes_no_more_instructions_than_it_may(program):
         if number > most(program[-1], kind, opened):
             wanted = f"at most {most(program[-1], kind, opened)}, got {number}"
             raise Failed(f"instructions for {kind} next to {opened} open exchanges: {wanted}")
+
+
+# Next to many
+
+
+def next_to(kind, count):
+    """The function from a number of events of a kind, next to so many exchanges or clients, to the lines of a replay."""
+    return functools.partial(clients, count) if kind == "delivery" else functools.partial(events, kind, count)
+
+
+def expect_the_same(program, limits, kinds, of):
+    """Has events of some kinds take about as many instructions next to many of something as next to few."""
+    need_valgrind(program)
+    with ThreadPoolExecutor(2) as pool:
+
+        def numbers(kind):
+            return [each(program[-1], 65536, next_to(kind, count), FEW, program[:-1]) for count in limits[kind][:2]]
+
+        for kind, (number, beside_many) in zip(kinds, pool.map(numbers, kinds)):
+            few, many, most = limits[kind]
+            what = f"how many times as many instructions a {kind} takes next to {many:,} {of} as next to {few:,}"
+            expect_between(what, LEAST, most, beside_many / number)
+
+
+def an_event_costs_the_same_beside_many_exchanges(program, kinds=tuple(BESIDE_EXCHANGES)):
+    expect_the_same(program, BESIDE_EXCHANGES, kinds, "open exchanges")
+
+
+def an_event_costs_the_same_beside_many_clients(program, kinds=tuple(BESIDE_CLIENTS)):
+    expect_the_same(program, BESIDE_CLIENTS, kinds, "clients of one exchange")
+
+
+# Each case that compares events, a stand-in that it must find wrong, and the kind that is tried with a stand-in.
+COMPARED = [
+    (an_event_costs_the_same_beside_many_exchanges, "LooksAtAll", "tick"),
+    (an_event_costs_the_same_beside_many_clients, "LooksAtAll", "delivery"),
+]

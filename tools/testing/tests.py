@@ -117,11 +117,11 @@ def instruction_tests(program):
     """The tests of how many instructions it takes, and those of stand-ins for them, whose own aren't counted."""
     function = instructions.an_event_takes_no_more_instructions_than_it_may
     yield Test(f"cost {function.__name__}", function, (program,))
-    for function, wrong in chosen.COUNTED:
+    for function, wrong, kind in [(*it, "endpoints") for it in chosen.COUNTED] + instructions.COMPARED:
         name = f"cost {function.__name__}"
         yield Test(name, function, (program,))
-        yield Test(f"stand-in Right and {name}", function, ([*PLAYER, "Right", *program], ["endpoints"]))
-        yield Test(f"stand-in {wrong} and {name}", must_fail, (wrong, program, play_end, function))
+        yield Test(f"stand-in Right and {name}", function, ([*PLAYER, "Right", *program], [kind]))
+        yield Test(f"stand-in {wrong} and {name}", must_fail, (wrong, program, function, [kind]))
 
 
 def observing_tests(program):

@@ -100,6 +100,16 @@ class MovesTheOthers(Right):
         return done.returncode, done.stdout, done.stderr
 
 
+class LooksAtAll(Right):
+    """Takes more instructions for an event the more came before: for each 2,000 as many as to ignore a datagram."""
+
+    def replay(self, program, words):
+        events = sys.stdin.buffer.read()
+        events += events.count(b"\n") ** 2 // 4000 * b"1 0 10.252.0.0:40001 00000000\n"
+        done = subprocess.run([program, *words], input=events, capture_output=True)
+        return done.returncode, done.stdout, done.stderr
+
+
 class SpreadByTheSalt(Right):
     """Does half as much again, and takes twice as long, in a replay with --salt where the clients' endpoints would meet if the
     salt spread them: after each event there are ticks, which have nothing to do."""
