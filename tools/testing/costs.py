@@ -114,8 +114,8 @@ def a_longer_request_takes_no_more_memory(program):
 
 
 def replay(opened=0, clients=1, fetched=0, life=0, room=1000):
-    """A replay of so many requests of so many clients that aren't answered, and of so many more, one after the other, that are.
-    An answer may be stored for so many seconds, and there is room for so many exchanges."""
+    """A replay of so many requests of so many clients that aren't answered, and of so many more, one after the other, that
+    are. An answer may be stored for so many seconds, and there is room for so many exchanges."""
     script = Script()
     for n in range(opened):
         asked = message(NON, GET, n, b"", [(PROXY_URI, f"coap://{endpoint(n)}/{n}".encode())])
