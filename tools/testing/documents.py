@@ -57,6 +57,7 @@ README / Side by side: run: suite; apt-get and whole runs, which take minutes, a
 CONTRIBUTING / The tests: run: tools/test itself
 CONTRIBUTING / Slips: run: slip, with a build of the test's own
 CONTRIBUTING / The gate: not run: it takes the kit, and runs these tests
+CONTRIBUTING / Wrong bodies, tests and worked runs: run: refusal, with a crate of the test's own
 CONTRIBUTING / The form of a commit: no command
 docs/TRYING / Trying it, and seeing what it does: run: document what_is_tried_with_libcoap_is_printed
 docs/TRYING / An answer from the cache: run: document what_is_tried_with_libcoap_is_printed
