@@ -125,14 +125,22 @@ def below(name, uses):
     return found
 
 
-def lacking(checker, top):
-    """Which library below a crate isn't built, or is older than its sources."""
-    for name in checker.below:
-        built = os.path.join(top, "crates", name, "out", "rlib", f"{name}.rlib", "format")
-        if not os.path.isfile(built):
-            return f"{name} isn't built"
-        for part in ("src", "specs", "proofs"):
-            for at, _, files in os.walk(os.path.join(top, "crates", name, part)):
-                if any(os.path.getmtime(os.path.join(at, it)) > os.path.getmtime(built) for it in files):
-                    return f"{name} has changed since it was built"
-    return None
+def is_newer(crate, built):
+    """Whether a source of a crate has changed since a file was written."""
+    for part in ("src", "specs", "proofs"):
+        for at, _, files in os.walk(os.path.join(crate, part)):
+            if any(os.path.getmtime(os.path.join(at, it)) > os.path.getmtime(built) for it in files):
+                return True
+    return False
+
+
+def built(name, top):
+    """Has a library be there as its sources are: one that isn't, or is older than these, is built. Returns why it can't be."""
+    crate = os.path.join(top, "crates", name)
+    there = os.path.join(crate, "out", "rlib", f"{name}.rlib", "format")
+    if os.path.isfile(there) and not is_newer(crate, there):
+        return None
+    pipes = {"stdin": subprocess.DEVNULL, "stdout": subprocess.PIPE, "stderr": subprocess.STDOUT}
+    done = subprocess.run(["rt", "lib"], cwd=crate, errors="replace", **pipes)
+    said = done.stdout.strip().split("\n")[-1]
+    return None if done.returncode == 0 and os.path.isfile(there) else f"{name} can't be built: {said[-200:]}"

@@ -43,6 +43,13 @@ is_proved = all(word in ("right", "harmless") for word in words)
 print("logic=proved functions=9" if is_proved else "logic=not-proved")
 sys.exit(0 if is_proved else 1)
 """
+# In place of the kit's command: it names the kit's first page, and builds a library that has a source.
+KIT = """#!/bin/sh
+[ "$1" != doc ] || { echo TOP/kit/START-HERE.md; exit; }
+[ -f src/lib.rt ] || { echo 'no source'; exit 1; }
+name=$(basename "$PWD")
+mkdir -p out/rlib/$name.rlib && echo built >> out/rlib/$name.rlib/format
+"""
 LIBRARY = """mod table;
 pub fn first(a: u64) -> u64
     ensures { same { result } }
@@ -93,7 +100,7 @@ def repository(edits, sources=None):
     with tempfile.TemporaryDirectory(prefix="coap-proxyd-test-") as folder:
         shutil.copytree(os.path.join(TOOLS, "refusing"), os.path.join(folder, "tools", "refusing"))
         shutil.copy(os.path.join(TOOLS, "refuse"), os.path.join(folder, "tools"))
-        kit = {"rt": f"#!/bin/sh\necho {folder}/kit/START-HERE.md\n", "rattle": PROVER, "../KIT-ID": "a kit\n"}
+        kit = {"rt": KIT.replace("TOP", folder), "rattle": PROVER, "../KIT-ID": "a kit\n"}
         files = {f"kit/bin/{name}": text for name, text in kit.items()}
         files["crates.txt"] = "# The crates.\nkinds:\n"
         for name, text in (sources or {"lib": LIBRARY, "table": TABLE}).items():
@@ -216,19 +223,23 @@ def what_was_refused_is_kept():
 
 
 def libraries_are_built_before():
-    """One below that isn't built, or has changed since, is told, and nothing above it is tried."""
+    """One below that isn't there, or has changed since; and where one can't be built, nothing above it is tried."""
     with repository({"one": edit("lib", "first", "wrong")}) as folder:
         put(os.path.join(folder, "crates.txt"), "low:\nkinds: low\n")
-        put(os.path.join(folder, "crates", "low", "src", "lib.rt"), "")
+        low = os.path.join(folder, "crates", "low")
+        os.makedirs(low)
         missing = refuse(folder)
-        put(os.path.join(folder, "crates", "low", "out", "rlib", "low.rlib", "format"), "")
-        built = refuse(folder)
-        os.utime(os.path.join(folder, "crates", "low", "src", "lib.rt"), (2**32, 2**32))
-        changed = refuse(folder, "--anew")
+        put(os.path.join(low, "src", "lib.rt"), "")
+        lines = [refuse(folder, "--anew")[1][-1] for _ in range(2)]
+        os.utime(os.path.join(low, "src", "lib.rt"), (2**32, 2**32))
+        lines.append(refuse(folder, "--anew")[1][-1])
+        with open(os.path.join(low, "out", "rlib", "low.rlib", "format"), encoding="utf-8") as file:
+            times = len(file.readlines())
         unknown = refuse(folder, "kind")
-    expect("one that isn't built", ["kinds/one: NOT TRIED: low isn't built", "0 passed, 1 failed"], missing[1])
-    expect("one that is built", "1 passed, 0 failed", built[1][-1])
-    expect_in("one that has changed", "kinds/one: NOT TRIED: low has changed since it was built", changed[1])
+    wanted = ["kinds/one: NOT TRIED: low can't be built: no source", "0 passed, 1 failed"]
+    expect("one that can't be built", wanted, missing[1])
+    expect("one that can", 3 * ["1 passed, 0 failed"], lines)
+    expect("how often it was built", 2, times)
     expect("a crate that isn't there", (1, ["refuse: kind: crates.txt has no such crate"]), unknown[:2], "the status", "lines")
 
 
