@@ -1,5 +1,4 @@
 pub mod Orders
-pub mod Spreading
 pub mod Aging
 pub mod Apart
 pub mod Numbering

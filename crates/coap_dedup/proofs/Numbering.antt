@@ -1,14 +1,15 @@
 -- The numbers of records: which record has which one, and how they change as records come and go.
 use Rattle.std.proofs.Common.{◌≡◌, ℕ, ◌+◌, ◌-◌, ◌%◌, ◌^◌, ◌<◌, Bool, true, false, cond, List, [], ◌∷◌, ◌++◌, length, zero, suc, Option, Some, None, refl, sym, ap, subst, ◌∙◌, arith, slice_get}
+use Rattle.std.specs.BTreeMap.{get}
 use Rattle.std.specs.Option.{option_or}
+use Rattle.std.specs.Ordering.{is_eq}
 use Rattle.coap_dedup.specs.declared.key.Key.{Key}
 use Rattle.coap_dedup.specs.declared.record.Record.{Record}
-use Rattle.coap_dedup.specs.Indexing.{AreNumbered, Index, number_of}
+use Rattle.coap_dedup.specs.Indexing.{AreNumbered, Index, key_cmp, number_of}
 use Rattle.coap_dedup.specs.Keys.{key_of, same_key}
 use Rattle.coap_dedup.specs.Lists.{is_of, record_of, AreApart}
-use Rattle.coap_dedup.specs.MessageNumbers.{number_at}
 use Rattle.coap_dedup.proofs.Apart.{apart-rest, not-first, record_of-others}
-use Rattle.coap_dedup.proofs.Orders.{same_key-only, same_key-flips}
+use Rattle.coap_dedup.proofs.Orders.{same_key-only, same_key-flips, is_eq-key_cmp}
 
 -- a message without a record has no number
 pub number_of-none : (n : ℕ) (k : Key) (rs : List Record) → record_of k.from k.id rs ≡ None → number_of n k rs ≡ None
@@ -64,7 +65,7 @@ record_of-unnumbered n k (r ∷ rs) none = go (is_of k.from k.id r) (number_of (
 -- ---- the index
 
 -- a record is found by its number and that of the first
-pub found-at : (first : ℕ) (index : Index) (rs : List Record) (k : Key) (m : ℕ) → AreApart rs → AreNumbered first index rs → length rs < 2 ^ 63 → number_at index k ≡ Some m
+pub found-at : (first : ℕ) (index : Index) (rs : List Record) (k : Key) (m : ℕ) → AreApart rs → AreNumbered first index rs → length rs < 2 ^ 63 → get key_cmp index k ≡ Some m
     → slice_get rs ((m + (2 ^ 64 - first)) % 2 ^ 64) ≡ record_of k.from k.id rs
 found-at first index rs k m apart are few number =
     let (i, within, place, at) = number_of-place are.origin k rs m apart (sym (are.numbered k) ∙ number) in
@@ -73,40 +74,40 @@ found-at first index rs k m apart are few number =
     ap (slice_get rs) here ∙ at
 
 -- one more record gets the next number
-pub AreNumbered-push : (first : ℕ) (index new : Index) (rs : List Record) (x : Record) (next : ℕ) → AreNumbered first index rs → next ≡ (first + length rs) % 2 ^ 64 → ((k : Key) → number_at new k ≡ cond (same_key (key_of x) k) (Some next) (number_at index k)) → AreNumbered first new (rs ++ x ∷ [])
+pub AreNumbered-push : (first : ℕ) (index new : Index) (rs : List Record) (x : Record) (next : ℕ) → AreNumbered first index rs → next ≡ (first + length rs) % 2 ^ 64 → ((k : Key) → get key_cmp new k ≡ cond (is_eq (key_cmp (key_of x) k)) (Some next) (get key_cmp index k)) → AreNumbered first new (rs ++ x ∷ [])
 AreNumbered-push first index new rs x next are is_next puts = record {
   origin = are.origin;
   is_first = are.is_first;
-  numbered = λ k. puts k ∙ ap (λ o. cond (same_key (key_of x) k) (Some next) o) (are.numbered k) ∙ ap (λ m. cond (same_key (key_of x) k) (Some m) (number_of are.origin k rs)) same ∙ sym (number_of-push are.origin k rs x);
+  numbered = λ k. puts k ∙ ap (λ b. cond b (Some next) (get key_cmp index k)) (is_eq-key_cmp (key_of x) k) ∙ ap (λ o. cond (same_key (key_of x) k) (Some next) o) (are.numbered k) ∙ ap (λ m. cond (same_key (key_of x) k) (Some m) (number_of are.origin k rs)) same ∙ sym (number_of-push are.origin k rs x);
 }
   where
     same : next ≡ (are.origin + length rs) % 2 ^ 64
     same = let value = are.is_first in omega arith
 
 -- and without it the numbers are those of before, if there was no record of its message
-pub AreNumbered-undone : (first : ℕ) (index put new : Index) (rs : List Record) (x : Record) (next : ℕ) → record_of x.from x.id rs ≡ None → ((k : Key) → number_at put k ≡ cond (same_key (key_of x) k) (Some next) (number_at index k)) → ((k : Key) → number_at new k ≡ cond (same_key (key_of x) k) None (number_at put k))
+pub AreNumbered-undone : (first : ℕ) (index put new : Index) (rs : List Record) (x : Record) (next : ℕ) → record_of x.from x.id rs ≡ None → ((k : Key) → get key_cmp put k ≡ cond (is_eq (key_cmp (key_of x) k)) (Some next) (get key_cmp index k)) → ((k : Key) → get key_cmp new k ≡ cond (is_eq (key_cmp (key_of x) k)) None (get key_cmp put k))
     → AreNumbered first index rs → AreNumbered first new rs
 AreNumbered-undone first index put new rs x next none puts takes are = record {
   origin = are.origin;
   is_first = are.is_first;
-  numbered = λ k. takes k ∙ go k (same_key (key_of x) k) refl (puts k);
+  numbered = λ k. takes k ∙ go k (is_eq (key_cmp (key_of x) k)) (is_eq-key_cmp (key_of x) k) (puts k);
 }
   where
-    go : (k : Key) (b : Bool) → b ≡ same_key (key_of x) k → number_at put k ≡ cond b (Some next) (number_at index k) → cond b None (number_at put k) ≡ number_of are.origin k rs
+    go : (k : Key) (b : Bool) → b ≡ same_key (key_of x) k → get key_cmp put k ≡ cond b (Some next) (get key_cmp index k) → cond b None (get key_cmp put k) ≡ number_of are.origin k rs
     go k true same is = sym (number_of-none are.origin k rs (subst (λ (j : Key). record_of j.from j.id rs ≡ None) (same_key-only (key_of x) k (sym same)) none))
     go k false other is = is ∙ are.numbered k
 
 -- the numbers of a list, without its first record
 module _ (first : ℕ) (index new : Index) (r : Record) (rs : List Record) where
   -- the number of the first record is removed, if none of the others is of the same message
-  AreNumbered-rest : record_of r.from r.id rs ≡ None → ((k : Key) → number_at new k ≡ cond (same_key (key_of r) k) None (number_at index k)) → AreNumbered first index (r ∷ rs) → AreNumbered ((first + 1) % 2 ^ 64) new rs
+  AreNumbered-rest : record_of r.from r.id rs ≡ None → ((k : Key) → get key_cmp new k ≡ cond (is_eq (key_cmp (key_of r) k)) None (get key_cmp index k)) → AreNumbered first index (r ∷ rs) → AreNumbered ((first + 1) % 2 ^ 64) new rs
   AreNumbered-rest none takes are = record {
     origin = are.origin + 1;
     is_first = (let value = are.is_first in omega arith);
-    numbered = λ k. takes k ∙ go k (same_key (key_of r) k) refl;
+    numbered = λ k. takes k ∙ ap (λ b. cond b None (get key_cmp index k)) (is_eq-key_cmp (key_of r) k) ∙ go k (same_key (key_of r) k) refl;
   }
     where
-      go : (k : Key) (b : Bool) → same_key (key_of r) k ≡ b → cond b None (number_at index k) ≡ number_of (are.origin + 1) k rs
+      go : (k : Key) (b : Bool) → same_key (key_of r) k ≡ b → cond b None (get key_cmp index k) ≡ number_of (are.origin + 1) k rs
       go k true same = sym (number_of-none (are.origin + 1) k rs (subst (λ (j : Key). record_of j.from j.id rs ≡ None) (same_key-only (key_of r) k same) none))
       go k false other = are.numbered k ∙ rw other (last (number_of (are.origin + 1) k rs))
         where
@@ -117,7 +118,7 @@ module _ (first : ℕ) (index new : Index) (r : Record) (rs : List Record) where
 -- The first record is released, and the last one has come already.
 module _ (first : ℕ) (index : Index) (r : Record) (rs : List Record) (x : Record) (are : AreNumbered first index (r ∷ (rs ++ x ∷ []))) where
   -- if they are of different messages, the number of the first is removed
-  pub first-goes : (new : Index) → record_of r.from r.id rs ≡ None → same_key (key_of r) (key_of x) ≡ false → ((k : Key) → number_at new k ≡ cond (same_key (key_of r) k) None (number_at index k)) → AreNumbered ((first + 1) % 2 ^ 64) new (rs ++ x ∷ [])
+  pub first-goes : (new : Index) → record_of r.from r.id rs ≡ None → same_key (key_of r) (key_of x) ≡ false → ((k : Key) → get key_cmp new k ≡ cond (is_eq (key_cmp (key_of r) k)) None (get key_cmp index k)) → AreNumbered ((first + 1) % 2 ^ 64) new (rs ++ x ∷ [])
   first-goes new none other takes =
       let left : record_of r.from r.id (rs ++ x ∷ []) ≡ None = record_of-others r.from r.id rs x (same_key-flips (key_of x) (key_of r) ∙ other) ∙ none in
       AreNumbered-rest first index new r (rs ++ x ∷ []) left takes are

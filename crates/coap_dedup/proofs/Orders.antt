@@ -8,7 +8,7 @@ use Rattle.coap_endpoint.specs.contracts.endpoint.EndpointOrd.TheImpl.Laws as en
 use Rattle.coap_endpoint.proofs.Equality.{Tells-endpoint}
 use Rattle.coap_dedup.specs.contracts.key.KeyOrd.TheImpl.Laws as key_order
 use Rattle.coap_dedup.specs.declared.key.Key.{Key}
-use Rattle.coap_dedup.specs.MessageNumbers.{key_cmp}
+use Rattle.coap_dedup.specs.Indexing.{key_cmp}
 use Rattle.coap_dedup.specs.Keys.{same_key}
 use Rattle.coap_dedup.specs.Sources.{is_same}
 

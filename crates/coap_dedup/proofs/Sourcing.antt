@@ -10,7 +10,7 @@ use Rattle.coap_dedup.specs.declared.record.Record.{Record}
 use Rattle.coap_dedup.specs.declared.sources.Share.{Share}
 use Rattle.coap_dedup.specs.declared.sources.Sources.{Sources}
 use Rattle.coap_dedup.specs.Lists.{is_from, record_of}
-use Rattle.coap_dedup.specs.Sources.{AreLinked, AreSourced, HaveMaps, IsNext, grown, is_same, last_of, numbers_from, place_of, share_in, share_of, shrunk}
+use Rattle.coap_dedup.specs.Sources.{AreLinked, AreSourced, IsNext, grown, is_same, last_of, numbers_from, place_of, share_in, share_of, shrunk}
 use Rattle.coap_dedup.proofs.Orders.{is_same-same_endpoint}
 
 -- ---- shares
@@ -217,9 +217,8 @@ linked-at from n (x ∷ nexts) (r ∷ rs) j m k are at next = go (is_from from r
 pub AreSourced-push : (first : ℕ) (old new : Sources) (rs : List Record) (x : Record) (number : ℕ) → first < 2 ^ 64 → length rs < 2 ^ 63 → number ≡ (first + length rs) % 2 ^ 64
     → ((e : Endpoint) → share_in new.shares e ≡ cond (is_same x.from e) (Some (grown (share_in old.shares x.from) number)) (share_in old.shares e))
     → new.nexts.items ≡ option_map_or (λ (s : Share). slice_set old.nexts.items (place_of first s.last) number) (share_in old.shares x.from) old.nexts.items ++ number ∷ []
-    → HaveMaps new.shares → AreSourced first old rs → AreSourced first new (rs ++ x ∷ [])
-AreSourced-push first old new rs x number fits few is shares nexts all are = record {
-  all = all;
+    → AreSourced first old rs → AreSourced first new (rs ++ x ∷ [])
+AreSourced-push first old new rs x number fits few is shares nexts are = record {
   shared = λ e. shares e ∙ ap (λ b. cond b (Some (grown (share_in old.shares x.from) number)) (share_in old.shares e)) (is_same-same_endpoint x.from e) ∙ go e (same_endpoint x.from e) refl ∙ ap share_of (sym (numbers_from-push first e rs x));
   linked = subst (λ ns. AreLinked first ns (rs ++ x ∷ [])) (sym (nexts ∙ ap (λ (o : List ℕ). o ++ number ∷ []) (place (numbers_from first x.from rs) refl))) (AreLinked-push first old.nexts.items rs x number are.linked is);
 }
@@ -240,13 +239,12 @@ AreSourced-push first old new rs x number fits few is shares nexts all are = rec
 -- the first goes
 pub AreSourced-rest : (first : ℕ) (old new : Sources) (r : Record) (rs : List Record)
     → IfSome (slice_get old.nexts.items 0) (λ next. (e : Endpoint) → share_in new.shares e ≡ cond (is_same r.from e) (shrunk (share_in old.shares r.from) next) (share_in old.shares e))
-    → new.nexts.items ≡ drop 1 old.nexts.items → HaveMaps new.shares → AreSourced first old (r ∷ rs) → AreSourced ((first + 1) % 2 ^ 64) new rs
-AreSourced-rest first old new r rs shares nexts all are = go old.nexts.items shares nexts are.linked
+    → new.nexts.items ≡ drop 1 old.nexts.items → AreSourced first old (r ∷ rs) → AreSourced ((first + 1) % 2 ^ 64) new rs
+AreSourced-rest first old new r rs shares nexts are = go old.nexts.items shares nexts are.linked
   where
     go : (ns : List ℕ) → IfSome (slice_get ns 0) (λ next. (e : Endpoint) → share_in new.shares e ≡ cond (is_same r.from e) (shrunk (share_in old.shares r.from) next) (share_in old.shares e)) → new.nexts.items ≡ drop 1 ns → AreLinked first ns (r ∷ rs) → AreSourced ((first + 1) % 2 ^ 64) new rs
     go [] takes left links = absurd links
     go (next ∷ ns) takes left links = record {
-      all = all;
       shared = λ e. takes e ∙ ap (λ b. cond b (shrunk (share_in old.shares r.from) next) (share_in old.shares e)) (is_same-same_endpoint r.from e) ∙ each e (same_endpoint r.from e) refl (are.shared e) ∙ ap share_of (numbers_from-as (first + 1) ((first + 1) % 2 ^ 64) e rs (omega arith));
       linked = subst (λ ls. AreLinked ((first + 1) % 2 ^ 64) ls rs) (sym left) (AreLinked-as (first + 1) ((first + 1) % 2 ^ 64) ns rs (omega arith) links.1);
     }
@@ -259,9 +257,8 @@ AreSourced-rest first old new r rs shares nexts all are = go old.nexts.items sha
         each e false other is = is
 
 -- the shares and links are those of before
-pub AreSourced-same : (first : ℕ) (old new : Sources) (rs : List Record) → ((e : Endpoint) → share_in new.shares e ≡ share_in old.shares e) → new.nexts ≡ old.nexts → HaveMaps new.shares → AreSourced first old rs → AreSourced first new rs
-AreSourced-same first old new rs shares nexts all are = record {
-  all = all;
+pub AreSourced-same : (first : ℕ) (old new : Sources) (rs : List Record) → ((e : Endpoint) → share_in new.shares e ≡ share_in old.shares e) → new.nexts ≡ old.nexts → AreSourced first old rs → AreSourced first new rs
+AreSourced-same first old new rs shares nexts are = record {
   shared = λ e. shares e ∙ are.shared e;
   linked = subst (λ (b : Buffer ℕ). AreLinked first b.items rs) (sym nexts) are.linked;
 }

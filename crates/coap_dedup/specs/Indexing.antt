@@ -1,18 +1,23 @@
 -- The index of a ring of records.
 use Rattle.std.specs.Prelude.{◌≡◌, ℕ, ◌+◌, ◌%◌, ◌^◌, if◌then◌else◌, List, [], ◌∷◌, Option, Some, None}
-use Rattle.std.specs.BTreeMap.{BTreeMap}
+use Rattle.std.specs.declared.cmp.Ordering.{Ordering}
+use Rattle.std.specs.BTreeMap.{BTreeMap, get}
 use Rattle.std.specs.Option.{option_or}
 use Rattle.coap_dedup.specs.declared.key.Key.{Key}
 use Rattle.coap_dedup.specs.declared.numbers.Numbers.{Numbers}
 use Rattle.coap_dedup.specs.declared.record.Record.{Record}
+use Rattle.coap_dedup.specs.contracts.key.KeyOrd.TheImpl as order
 use Rattle.coap_dedup.specs.Lists.{is_of}
-use Rattle.coap_dedup.specs.MessageNumbers.{HasMaps, number_at}
 use Rattle.coap_dedup.specs.Records.{Records, AreRecords}
 use Rattle.coap_dedup.specs.Sources.{AreSourced}
 
+-- the order of the keys in the index
+abbrev pub key_cmp : Key → Key → Ordering
+key_cmp = (order.ghosts).cmp
+
 -- an index: the number of each key in it
 abbrev pub Index : Type 0
-Index = List (BTreeMap Key ℕ)
+Index = BTreeMap Key ℕ
 
 -- The number of the last record with a key, if the first record has this number and each further
 -- one has the next. Numbers wrap around to 0 after the greatest that fits in 64 bits.
@@ -28,12 +33,11 @@ number_of n key (r ∷ rs) =
 pub record AreNumbered (first : ℕ) (index : Index) (records : List Record) : Type 0 where
   pub origin : ℕ
   pub is_first : first ≡ origin % 2 ^ 64
-  pub numbered : (key : Key) → number_at index key ≡ number_of origin key records
+  pub numbered : (key : Key) → get key_cmp index key ≡ number_of origin key records
 
 -- they are the numbers of these records, by message and by source
 pub record AreNumbersOf (numbers : Numbers) (records : List Record) : Type 0 where
-  pub all : HasMaps numbers.by_message
-  pub by_message : AreNumbered numbers.first numbers.by_message.maps.items records
+  pub by_message : AreNumbered numbers.first numbers.by_message records
   pub by_source : AreSourced numbers.first numbers.by_source records
 
 -- what holds for the records in a ring and for their numbers

@@ -3,8 +3,6 @@ pub mod Lists
 pub mod Records
 pub mod Seen
 pub mod Keys
-pub mod Maps
-pub mod MessageNumbers
 pub mod Indexing
 pub mod Sources
 pub mod Examples

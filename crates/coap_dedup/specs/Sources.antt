@@ -1,18 +1,14 @@
 -- Which records are of messages from which endpoint.
-use Rattle.std.specs.Prelude.{◌≡◌, ℕ, Bool, ◌+◌, ◌-◌, ◌%◌, ◌^◌, if◌then◌else◌, nat_lt, List, [], ◌∷◌, length, Option, Some, None, slice_index_or}
+use Rattle.std.specs.Prelude.{◌≡◌, ℕ, Bool, ◌+◌, ◌-◌, ◌%◌, ◌^◌, if◌then◌else◌, nat_lt, List, [], ◌∷◌, length, Option, Some, None}
 use Rattle.std.specs.declared.cmp.Ordering.{Ordering}
-use Rattle.std.specs.BTreeMap.{BTreeMap}
-use Rattle.std.specs.Global.{Vec}
+use Rattle.std.specs.BTreeMap.{BTreeMap, get}
 use Rattle.std.specs.Ordering.{is_eq}
 use Rattle.coap_endpoint.specs.declared.endpoint.Endpoint.{Endpoint}
-use Rattle.coap_endpoint.specs.declared.endpoint.Ip.{Ip}
-use Rattle.coap_endpoint.specs.declared.endpoint.Ip.TheVariants.{V4, V6}
 use Rattle.coap_endpoint.specs.contracts.endpoint.EndpointOrd.TheImpl as order
 use Rattle.coap_dedup.specs.declared.record.Record.{Record}
 use Rattle.coap_dedup.specs.declared.sources.Share.{Share}
 use Rattle.coap_dedup.specs.declared.sources.Sources.{Sources}
 use Rattle.coap_dedup.specs.Lists.{is_from}
-use Rattle.coap_dedup.specs.Maps.{value_at}
 
 -- the order of the endpoints in the map of their shares
 abbrev pub source_cmp : Endpoint → Endpoint → Ordering
@@ -23,23 +19,11 @@ abbrev pub is_same : Endpoint → Endpoint → Bool
 is_same a b = is_eq (source_cmp a b)
 
 abbrev pub Shares : Type 0
-Shares = Vec (BTreeMap Endpoint Share)
-
-abbrev pub last_byte : Ip → ℕ
-last_byte (V4 bytes) = slice_index_or bytes 3 0
-last_byte (V6 bytes) = slice_index_or bytes 15 0
-
--- which of 64 maps has the share of an endpoint: neighbours, and ports of one address, differ in it
-abbrev pub map_of_source : Endpoint → ℕ
-map_of_source from = (last_byte from.ip + from.port) % 64
-
--- each endpoint has a map
-abbrev pub HaveMaps : Shares → Type 0
-HaveMaps shares = length shares.items ≡ 64
+Shares = BTreeMap Endpoint Share
 
 -- the share of an endpoint, if it has one
 abbrev pub share_in : Shares → Endpoint → Option Share
-share_in shares from = value_at source_cmp map_of_source shares.items from
+share_in shares from = get source_cmp shares from
 
 -- the numbers of an endpoint's records, if the first record has this number and each further one
 -- has the next, modulo 2^64
@@ -92,7 +76,6 @@ AreLinked n (next ∷ nexts) (r ∷ rs) =
 
 -- exactly the endpoints that have records have a share, and their records are linked
 pub record AreSourced (first : ℕ) (sources : Sources) (records : List Record) : Type 0 where
-  pub all : HaveMaps sources.shares
   pub shared :
       (from : Endpoint) → share_in sources.shares from ≡ share_of (numbers_from first from records)
   pub linked : AreLinked first sources.nexts.items records

@@ -17,8 +17,6 @@ mod error;
 pub mod examples;
 mod key;
 pub mod laws;
-mod maps;
-mod message_numbers;
 mod numbers;
 mod record;
 mod records;

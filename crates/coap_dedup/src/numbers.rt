@@ -3,20 +3,19 @@ ghost use Rattle.std.specs.Prelude.{◌≡◌, ◌+◌, ◌<◌, ◌^◌, ◌++�
 ghost use Rattle.coap_dedup.specs.declared.record.Record.{Record};
 ghost use Rattle.coap_dedup.specs.Indexing.{AreNumbersOf};
 ghost use Rattle.coap_dedup.specs.Lists.{AreApart};
-ghost use Rattle.coap_dedup.specs.MessageNumbers.{HasMaps};
-ghost use Rattle.coap_dedup.specs.Sources.{HaveMaps};
 
-use crate::message_numbers::MessageNumbers;
+use crate::key::Key;
 use crate::record::Record;
 use crate::sources::Sources;
 use circular_buffer::HeapCircularBuffer;
 use coap_message::OutOfMemory;
 use std::alloc::Global;
+use std::collections::BTreeMap;
 
 /// The numbers of records: each has one more than the record before it, wrapping around to 0 after
 /// the greatest.
 pub(crate) struct Numbers {
-    pub(crate) by_message: MessageNumbers,
+    pub(crate) by_message: BTreeMap<Key, u64>,
     pub(crate) by_source: Sources,
     /// The number of the first record, or of the next one if there is none.
     pub(crate) first: u64,
@@ -43,7 +42,7 @@ impl Numbers {
         ensures capacity { IfOk result (λ numbers. numbers.by_source.nexts.capacity ≡ limit + 1) }
     {
         Ok(Numbers {
-            by_message: MessageNumbers::new(alloc)?,
+            by_message: BTreeMap::new(alloc),
             by_source: Sources::new(alloc, limit)?,
             first: 0,
         })
@@ -81,8 +80,6 @@ impl Numbers {
     /// Takes back the number of the first record. That of its message stays if the last record is
     /// of the same one. Doesn't allocate.
     pub(crate) fn release_first(&mut self, first: &Record, last: &Record)
-        requires all { HasMaps self.old.by_message }
-        requires sources { HaveMaps self.old.by_source.shares }
         ensures numbered { (records : List Record)
             → AreApart (first.now ∷ records)
             → AreNumbersOf self.old (first.now ∷ (records ++ last.now ∷ []))

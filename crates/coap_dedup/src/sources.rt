@@ -3,19 +3,14 @@ ghost use Rattle.std.specs.Prelude.{◌≡◌, ◌+◌, ◌<◌, ◌^◌, ◌++�
 ghost use Rattle.std.specs.Option.{option_map, option_map_or};
 ghost use Rattle.circular_buffer.specs.Buffer.{buffer};
 ghost use Rattle.coap_endpoint.specs.declared.endpoint.Endpoint.{Endpoint};
-ghost use Rattle.std.specs.BTreeMap.{get};
-ghost use Rattle.coap_dedup.specs.Sources.{AreSourced, HaveMaps, grown, is_same, map_of_source, place_of, share_in, shrunk, source_cmp};
+ghost use Rattle.coap_dedup.specs.Sources.{AreSourced, grown, is_same, place_of, share_in, shrunk};
 
-use crate::maps::empty_maps;
 use circular_buffer::HeapCircularBuffer;
-use coap_endpoint::{Endpoint, Ip};
+use coap_endpoint::Endpoint;
 use coap_message::OutOfMemory;
 use std::alloc::Global;
 use std::collections::BTreeMap;
 use std::collections::btree_map::Entry;
-
-/// How many maps the shares are in.
-const MAPS: usize = 64;
 
 /// What an endpoint has of the records.
 #[derive(Clone, Copy)]
@@ -28,8 +23,8 @@ pub(crate) struct Share {
     pub(crate) last: u64,
 }
 
-/// The share of each endpoint that has records, in the map of those that `map_of` puts together.
-pub(crate) type Shares = Vec<BTreeMap<Endpoint, Share>>;
+/// The share of each endpoint that has records.
+pub(crate) type Shares = BTreeMap<Endpoint, Share>;
 
 /// Which records are of messages from which endpoint.
 pub(crate) struct Sources {
@@ -58,7 +53,7 @@ impl Sources {
         ensures capacity { IfOk result (λ sources. sources.nexts.capacity ≡ limit + 1) }
     {
         Ok(Sources {
-            shares: empty_maps(alloc, MAPS)?,
+            shares: BTreeMap::new(alloc),
             nexts: HeapCircularBuffer::with_capacity(alloc, limit + 1)?,
         })
     }
@@ -67,8 +62,7 @@ impl Sources {
     pub(crate) fn share_of(&self, from: Endpoint) -> Option<Share>
         ensures { result ≡ share_in self.now.shares from }
     {
-        let map = self.shares.get(map_of(from))?;
-        match map.get(&from) {
+        match self.shares.get(&from) {
             Some(share) => Some(*share),
             None => None,
         }
@@ -90,7 +84,6 @@ impl Sources {
     /// # Errors
     /// Out of memory, which only an endpoint without a share needs. Nothing is changed then.
     pub(crate) fn add(&mut self, from: Endpoint, number: u64, first: u64) -> Result<(), OutOfMemory>
-        requires all { HaveMaps self.old.shares }
         requires within { length self.old.nexts.items < self.old.nexts.capacity }
         requires few { IfSome (share_in self.old.shares from) (λ share. share.count < 2 ^ 63) }
         ensures shares { OnOk result ((e : Endpoint)
@@ -107,7 +100,6 @@ impl Sources {
             self.old.nexts.items
             ++ number ∷ [])
             self.old.nexts.capacity) }
-        ensures all { HaveMaps self.new.shares }
         ensures new { OnErr result (share_in self.old.shares from ≡ None) }
         ensures same_shares { OnErr result ((e : Endpoint)
             → share_in self.new.shares e ≡ share_in self.old.shares e) }
@@ -123,8 +115,6 @@ impl Sources {
     /// Removes the first record, which is of this endpoint, and with its last one its share.
     /// Doesn't allocate.
     pub(crate) fn release_first(&mut self, from: Endpoint)
-        requires all { HaveMaps self.old.shares }
-        ensures all { HaveMaps self.new.shares }
         ensures shares { IfSome (slice_get self.old.nexts.items 0) (λ next.
             (e : Endpoint)
             → share_in self.new.shares e
@@ -136,22 +126,11 @@ impl Sources {
             ≡ buffer (drop 1 self.old.nexts.items) self.old.nexts.capacity }
     {
         if let Some(next) = self.nexts.pop_front() {
-            if let Some(map) = self.shares.get_mut(map_of(from)) {
-                release_in(map, from, next);
+            if shrink(&mut self.shares, from, next) {
+                self.shares.remove(&from);
             }
         }
     }
-}
-
-/// Which map has the share of an endpoint.
-fn map_of(from: Endpoint) -> usize
-    ensures { result ≡ map_of_source from }
-{
-    let low = match from.ip {
-        Ip::V4(address) => address[3],
-        Ip::V6(address) => address[15],
-    };
-    (usize::from(low) + usize::from(from.port)) % MAPS
 }
 
 /// Adds a record with this number to the share of an endpoint, and returns the number of the one
@@ -160,9 +139,7 @@ fn map_of(from: Endpoint) -> usize
 /// # Errors
 /// Out of memory, which only an endpoint without a share needs. Nothing is changed then.
 fn grow(shares: &mut Shares, from: Endpoint, number: u64) -> Result<Option<u64>, OutOfMemory>
-    requires all { HaveMaps shares.old }
     requires few { IfSome (share_in shares.old from) (λ share. share.count < 2 ^ 63) }
-    ensures all { HaveMaps shares.new }
     ensures last { IfOk result (λ last. last
         ≡ option_map (λ share. share.last) (share_in shares.old from)) }
     ensures grown { OnOk result ((e : Endpoint)
@@ -174,32 +151,7 @@ fn grow(shares: &mut Shares, from: Endpoint, number: u64) -> Result<Option<u64>,
     ensures new { OnErr result (share_in shares.old from ≡ None) }
     ensures same { OnErr result ((e : Endpoint) → share_in shares.new e ≡ share_in shares.old e) }
 {
-    match shares.get_mut(map_of(from)) {
-        Some(map) => grow_in(map, from, number),
-        None => Ok(None),
-    }
-}
-
-/// Does what `grow` does in the map of the endpoint.
-fn grow_in(
-    map: &mut BTreeMap<Endpoint, Share>,
-    from: Endpoint,
-    number: u64,
-) -> Result<Option<u64>, OutOfMemory>
-    requires few { IfSome (get source_cmp map.old from) (λ share. share.count < 2 ^ 63) }
-    ensures last { IfOk result (λ last. last
-        ≡ option_map (λ share. share.last) (get source_cmp map.old from)) }
-    ensures grown { OnOk result ((e : Endpoint)
-        → get source_cmp map.new e
-        ≡ (if is_same from e then
-        Some (grown (get source_cmp map.old from) number)
-        else
-        get source_cmp map.old e)) }
-    ensures new { OnErr result (get source_cmp map.old from ≡ None) }
-    ensures same { OnErr result ((e : Endpoint)
-        → get source_cmp map.new e ≡ get source_cmp map.old e) }
-{
-    match map.entry(from)? {
+    match shares.entry(from)? {
         Entry::Vacant(entry) => {
             entry.insert(Share {
                 count: 1,
@@ -228,37 +180,22 @@ fn link(nexts: &mut HeapCircularBuffer<u64>, place: usize, number: u64)
     }
 }
 
-/// Takes the first record off the share of an endpoint in its map, and with the last one the share.
-/// The next one has this number.
-fn release_in(map: &mut BTreeMap<Endpoint, Share>, from: Endpoint, next: u64)
-    ensures { (e : Endpoint)
-        → get source_cmp map.new e
-        ≡ (if is_same from e then
-        shrunk (get source_cmp map.old from) next
-        else
-        get source_cmp map.old e) }
-{
-    if shrink(map, from, next) {
-        map.remove(&from);
-    }
-}
-
 /// Takes the first record off the share of an endpoint, whose next one has this number. Returns
 /// whether there is no next one; if so, the share is to be removed.
-fn shrink(map: &mut BTreeMap<Endpoint, Share>, from: Endpoint, next: u64) -> bool
+fn shrink(shares: &mut Shares, from: Endpoint, next: u64) -> bool
     ensures left { IsFalse result
         → (e : Endpoint)
-        → get source_cmp map.new e
+        → share_in shares.new e
         ≡ (if is_same from e then
-        shrunk (get source_cmp map.old from) next
+        shrunk (share_in shares.old from) next
         else
-        get source_cmp map.old e) }
-    ensures last { IsTrue result → shrunk (get source_cmp map.old from) next ≡ None }
+        share_in shares.old e) }
+    ensures last { IsTrue result → shrunk (share_in shares.old from) next ≡ None }
     ensures others { (e : Endpoint)
         → is_same from e ≡ false
-        → get source_cmp map.new e ≡ get source_cmp map.old e }
+        → share_in shares.new e ≡ share_in shares.old e }
 {
-    match map.get_mut(&from) {
+    match shares.get_mut(&from) {
         Some(share) => {
             if share.count <= 1 {
                 return true;
