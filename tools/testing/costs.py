@@ -69,10 +69,9 @@ def hits(kind, here, count):
 
 
 def expect_requests(program, kind, here, count):
-    """Has each hit in a message of this type make so many requests for memory, besides those of the maps in which records
-    are found: each of the 256, one for each last byte of a Message ID, has a node by then, with room for 15, and so has
-    that of the only client."""
-    few, many = (requests_of(program, hits(kind, here, n)) for n in (300, 500))
+    """Has each hit in a message of this type make so many requests for memory, besides those of the map in which its
+    record is found: a node of it has room for 15, and is split in two when it is full."""
+    few, many = (requests_of(program, hits(kind, here, n)) for n in (100, 300))
     expect_between("how many requests for memory 200 hits make", 200 * count, 200 * count + 40, many - few)
 
 
@@ -135,15 +134,17 @@ def exchanges_that_come_and_go_take_no_memory_for_their_tables(program):
             start = memory.requests_of_start(memory.Refusals(folder, program), run)
         made.append(requests_of(program, run) - start)
     expect("how many requests for memory they make in tables that are almost full, and in others", made[1], made[0])
-    # Five for each, one for each map of records, and some for what is made once: what is shared is copied for nobody.
-    expect_between("how many requests for memory they make", 0, 5 * 427 + 256 + 100, made[0])
+    # Five for each, and some for what is made once and for nodes of maps: what is shared is copied for nobody.
+    expect_between("how many requests for memory they make", 0, 5 * 427 + 100, made[0])
 
 
 @case("ExplainsAll")
 def an_exchange_takes_no_memory_for_its_places_in_tables(program):
-    """They have room for it from the start. For the first one of a client there is a node of a map, too."""
+    """They have room for it from the start. Only the map in which records are found grows: its first node, which has room for
+    15, is split into two below another by the 16th record, and one of these by the 24th."""
     made = [requests_of(program, replay(opened=count)) for count in range(1, 28)]
-    expect("how many requests for memory each of 26 more makes", 26 * [5], [more - less for less, more in zip(made, made[1:])])
+    wanted = [4 + {16: 2, 24: 1}.get(count, 0) for count in range(2, 28)]
+    expect("how many requests for memory each of 26 more makes", wanted, [more - less for less, more in zip(made, made[1:])])
 
 
 @case("ExplainsAll")

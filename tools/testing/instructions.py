@@ -47,7 +47,7 @@ FEW = 300
 # Next to how few and how many open exchanges, or clients of one, an event of a kind is counted, and how many times as many
 # instructions it may take next to many. If it takes less than LEAST times as many, something is refused there.
 BESIDE_EXCHANGES = {"miss": (1, 4000, 1.08), "conmiss": (1, 4000, 1.08), "tick": (1, 4000, 1.1)}
-BESIDE_CLIENTS = {"join": (1, 15_900, 1.1), "delivery": (1000, 16_000, 1.1)}
+BESIDE_CLIENTS = {"join": (1, 15_900, 1.17), "delivery": (1000, 16_000, 1.1)}
 LEAST = 0.9
 
 
