@@ -32,8 +32,9 @@ impl PartialEq for Key {
     }
 }
 
-/// By Message ID, and then by endpoint. `Greater` comes first: a search of a map goes on there, and
-/// then needs no other test.
+/// By Message ID, the greatest first, and then by endpoint. A client counts its IDs up, so a search
+/// for a new message mostly goes no further than the first key of each node. `Greater` is tested
+/// first: a search goes on there, and then needs no other test.
 impl Ord for Key {
     ghost cmp = { id_then_source };
 
@@ -44,10 +45,10 @@ impl Ord for Key {
     ghost matches_eq = { keys_tied };
 
     fn cmp(&self, other: &Key) -> Ordering {
-        if self.id > other.id {
+        if self.id < other.id {
             return Ordering::Greater;
         }
-        if self.id < other.id {
+        if self.id > other.id {
             return Ordering::Less;
         }
         self.from.cmp(&other.from)
