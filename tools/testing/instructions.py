@@ -84,10 +84,10 @@ def response(max_age):
 def hits(records, endpoints, expires, many):
     """The lines of a replay: a stored response, and hits until there are so many records, and `many` more."""
     yield from response(1_000_000)
-    step = LIFETIME // records if expires else 0
+    step, later = (LIFETIME // records, LIFETIME) if expires else (0, 0)
     for n in range(records + many):
         client = f"10.252.{n % endpoints >> 8}.{n % endpoints & 255}:40001"
-        yield f"{n * step if n < records else LIFETIME + (n - records) * step} 0 {client} {get(True, n, STORED)}"
+        yield f"{n * step if n < records else later + (n - records) * step} 0 {client} {get(True, n, STORED)}"
 
 
 def queued(opened, many):
