@@ -52,14 +52,6 @@ impl<T> Seq<T> {
         Seq { items }
     }
 
-    /// The `Vec`, without copying.
-    pub fn into_vec(self) -> Vec<T>
-        ensures { result.items ≡ self }
-    {
-        let Seq { items } = self;
-        items
-    }
-
     /// The list as a slice.
     pub fn as_slice(&self) -> &[T]
         ensures { result.now ≡ self.now }

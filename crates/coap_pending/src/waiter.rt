@@ -1,6 +1,6 @@
 //! Waiters: requests that wait for an exchange, or whose answer isn't acknowledged yet.
 ghost use Rattle.std.specs.Prelude.{◌≡◌, ◌≤◌, ◌^◌};
-ghost use Rattle.coap_pending.specs.Waiters.{after_transition, exchange_of, fire_of_state, fired_waiter, is_waiting, joined, was_sent_as, waits_for, CanChange, CanFire};
+ghost use Rattle.coap_pending.specs.Waiters.{after_transition, exchange_of, fire_of_state, fired_waiter, is_waiting, joined, was_sent_as, CanChange, CanFire};
 
 use crate::exchange::ExchangeNumber;
 use crate::timer::{Fire, Timer};
@@ -119,16 +119,6 @@ impl Waiter {
     {
         match &self.state {
             WaiterState::Waiting(_) => true,
-            WaiterState::Delivering { .. } => false,
-        }
-    }
-
-    /// Whether it waits for the exchange of this number.
-    pub fn waits_for(&self, exchange: ExchangeNumber) -> bool
-        ensures exact { result ≡ waits_for exchange self.now }
-    {
-        match &self.state {
-            WaiterState::Waiting(number) => *number == exchange,
             WaiterState::Delivering { .. } => false,
         }
     }
