@@ -58,6 +58,20 @@ impl KeySource for Keyed<'_, '_, '_> {
     ghost made = { λ keyed. request_key (seen keyed.target.now) keyed.request.now };
 
     fn write_to(&self, key: &mut CacheKey) -> Result<(), OutOfMemory> {
+        let written = self.write_parts(key);
+        if written.is_err() {
+            key.clear();
+        }
+        written
+    }
+}
+
+impl Keyed<'_, '_, '_> {
+    /// `write_to`, except that if memory runs out, the key may hold parts of both.
+    fn write_parts(&self, key: &mut CacheKey) -> Result<(), OutOfMemory>
+        ensures { OnOk result
+            (key.new ≡ request_key (seen self.now.target.now) self.now.request.now) }
+    {
         self.target.copy_to(&mut key.target)?;
         self.survey.key_options_into(&mut key.options, self.request)
     }

@@ -1,9 +1,10 @@
 //! Cache keys that are found by their digests.
-ghost use Rattle.std.specs.Prelude.{◌≡◌, min, IfOk, OnOk};
+ghost use Rattle.std.specs.Prelude.{◌≡◌, ◌⊎◌, min, IfOk, OnOk, OnErr};
 ghost use Rattle.std.specs.Cmp.{partial_equiv_from_equiv};
 ghost use Rattle.coap_store.specs.DigestedAlike.{digested_equiv, digested_fed};
 ghost use Rattle.coap_store.specs.Digested.{digested, fed_digested, same_digested};
 ghost use Rattle.coap_store.specs.Digests.{digests_of};
+ghost use Rattle.coap_store.specs.Keys.{IsEmptiedKey};
 ghost use Rattle.coap_store.specs.Sizes.{key_size};
 
 use crate::digests::{Digests, digests_of};
@@ -158,18 +159,20 @@ impl DigestedKey {
     /// the new key with this secret.
     ///
     /// # Errors
-    /// Out of memory, or somebody else shares it. It may then hold parts of both keys.
+    /// - Out of memory. The key is then empty.
+    /// - Somebody else shares it. Then nothing is changed.
     pub(crate) fn overwrite<S: KeySource>(
         &mut self,
         source: &S,
         secret: u64,
     ) -> Result<(), OutOfMemory>
-        ensures { OnOk result (self.new ≡ digested secret (S.made source.now)) }
+        ensures made { OnOk result (self.new ≡ digested secret (S.made source.now)) }
+        ensures emptied { OnErr result ((self.new ≡ self.old) ⊎ IsEmptiedKey self.new.key) }
     {
-        let written = match Rc::get_mut(&mut self.shared) {
-            Some(counted) => counted.overwrite(source),
-            None => Err(OutOfMemory),
+        let Some(counted) = Rc::get_mut(&mut self.shared) else {
+            return Err(OutOfMemory);
         };
+        let written = counted.overwrite(source);
         self.secret = secret;
         self.digests = digests_of(secret, &self.shared.as_ref().key);
         written
@@ -180,9 +183,10 @@ impl CountedKey {
     /// Overwrites the key, which isn't counted then.
     ///
     /// # Errors
-    /// Out of memory. The key may then hold parts of both.
+    /// Out of memory. The key is then empty.
     fn overwrite<S: KeySource>(&mut self, source: &S) -> Result<(), OutOfMemory>
         ensures key { OnOk result (self.new.key ≡ S.made source.now) }
+        ensures emptied { OnErr result (IsEmptiedKey self.new.key) }
         ensures uncounted { self.new.bytes ≡ None }
     {
         self.bytes = None;

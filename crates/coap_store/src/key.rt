@@ -2,7 +2,7 @@
 ghost use Rattle.std.specs.Prelude.{◌≡◌, IfOk};
 ghost use Rattle.std.specs.Cmp.{partial_equiv_from_equiv};
 ghost use Rattle.coap_store.specs.Alike.{fed_key, keys_equiv, keys_fed};
-ghost use Rattle.coap_store.specs.Keys.{same_key};
+ghost use Rattle.coap_store.specs.Keys.{same_key, IsEmptiedKey};
 
 use coap_endpoint::Target;
 use coap_message::{OptionList, OutOfMemory};
@@ -52,6 +52,15 @@ impl Hash for CacheKey {
 }
 
 impl CacheKey {
+    /// Removes all bytes of its target's host, path and query and all its options, and keeps their
+    /// room.
+    pub fn clear(&mut self)
+        ensures { IsEmptiedKey self.new }
+    {
+        self.target.clear();
+        self.options.clear();
+    }
+
     /// A copy, with no spare capacity.
     ///
     /// # Errors

@@ -1,10 +1,10 @@
 //! Cache keys that are shared.
-ghost use Rattle.std.specs.Prelude.{◌≡◌, min, IfOk, OnOk};
+ghost use Rattle.std.specs.Prelude.{◌≡◌, ◌⊎◌, min, IfOk, OnOk, OnErr};
 ghost use Rattle.std.specs.Cmp.{partial_equiv_from_equiv};
 ghost use Rattle.coap_store.specs.Alike.{keys_equiv};
 ghost use Rattle.coap_store.specs.Digested.{digested};
 ghost use Rattle.coap_store.specs.Digests.{digests_of};
-ghost use Rattle.coap_store.specs.Keys.{same_key};
+ghost use Rattle.coap_store.specs.Keys.{same_key, IsEmptiedKey};
 ghost use Rattle.coap_store.specs.Sizes.{key_size};
 
 use crate::digested_key::DigestedKey;
@@ -40,9 +40,10 @@ pub trait KeySource {
     /// Overwrites a key with the one that is made, and reuses its room.
     ///
     /// # Errors
-    /// Out of memory. The key may then hold parts of both.
+    /// Out of memory. The key is then empty.
     fn write_to(&self, key: &mut CacheKey) -> Result<(), OutOfMemory>
-        ensures { OnOk result (key.new ≡ made self.now) };
+        ensures made { OnOk result (key.new ≡ made self.now) }
+        ensures emptied { OnErr result (IsEmptiedKey key.new) };
 }
 
 impl SharedKey {
@@ -129,9 +130,11 @@ impl SharedKey {
     /// secret.
     ///
     /// # Errors
-    /// Out of memory, or somebody else shares it. It may then hold parts of both keys.
+    /// - Out of memory. The key is then empty.
+    /// - Somebody else shares it. Then it is unchanged.
     pub fn overwrite<S: KeySource>(&mut self, source: &S, secret: u64) -> Result<(), OutOfMemory>
-        ensures { OnOk result (self.new ≡ S.made source.now) }
+        ensures made { OnOk result (self.new ≡ S.made source.now) }
+        ensures emptied { OnErr result ((self.new ≡ self.old) ⊎ IsEmptiedKey self.new) }
     {
         self.digested.overwrite(source, secret)
     }
