@@ -13,7 +13,7 @@ use Rattle.coap_store.specs.Lists.{are_distinct, has_other_key, of_key, others, 
 use Rattle.coap_store.proofs.Distinct.{distinct-filter, distinct-front, distinct-map}
 use Rattle.coap_store.proofs.Held.{IsStore-used, front-length, map-total, marked-key, marked-size}
 use Rattle.coap_store.specs.Alike.{same_key-only}
-use Rattle.coap_store_lru.proofs.Recency.{found-held, held-front, held-others, held-used, total-others}
+use Rattle.coap_store_lru.proofs.Recency.{found-held, held-front, held-others, held-used, none_held, total-others}
 
 module _ (entries : List Entry) (bytes : ℕ) (indexed : CacheKey → Bool) (are : AreThoseOf entries bytes indexed) where
   -- without the entry with a key
@@ -79,6 +79,14 @@ held_already indexed entries k x are found q = go (same_key k q) refl
   where
     go : (p : Bool) → same_key k q ≡ p → indexed q ≡ (p || indexed q)
     go true e = subst (λ j. indexed j ≡ true) (same_key-only k q e) (are k ∙ found-held k entries x found)
+    go false e = refl
+
+-- a key without an entry that was added to the groups, and removed again, left them as they were
+pub added_removed : (indexed : CacheKey → Bool) (entries : List Entry) (k : CacheKey) → ((q : CacheKey) → indexed q ≡ is_held entries q) → of_key entry_key k entries ≡ None → (q : CacheKey) → (not (same_key k q) && (same_key k q || indexed q)) ≡ indexed q
+added_removed indexed entries k are none q = go (same_key k q) refl
+  where
+    go : (p : Bool) → same_key k q ≡ p → (not p && (p || indexed q)) ≡ indexed q
+    go true e = sym (subst (λ j. indexed j ≡ false) (same_key-only k q e) (are k ∙ none_held k entries none))
     go false e = refl
 
 -- whether there is a usable entry, by what is stored for its key

@@ -1,6 +1,6 @@
 -- The keys of a store's entries, in groups by the digests of their targets.
 use Rattle.std.specs.Prelude.{◌≡◌, ◌≢◌, ◌==◌, ◌&&◌, ℕ, Bool, true, false, if◌then◌else◌, nat_eq, List, [], ◌∷◌, length, map}
-use Rattle.std.specs.List.{list_any, slice_get}
+use Rattle.std.specs.List.{list_any}
 use Rattle.std.specs.Option.{ForSome, option_map_or}
 use Rattle.std.specs.HashMap.{HashMap, get}
 use Rattle.coap_endpoint.specs.declared.target.Target.{Target}
@@ -55,10 +55,6 @@ is_own secret target key = (key.secret == secret) && is_of target key.key
 -- there is an entry with the key
 abbrev pub is_held : List Entry → CacheKey → Bool
 is_held entries key = list_any (same_key key) (map entry_key entries)
-
--- the first entry has the key
-abbrev pub is_first : CacheKey → List Entry → Bool
-is_first key entries = option_map_or (λ entry. same_key entry.0 key) (slice_get entries 0) false
 
 -- an entry, marked if its key passes a test
 abbrev pub marked_by : (CacheKey → Bool) → Entry → Entry

@@ -6,9 +6,10 @@ ghost use Rattle.std.specs.List.{IsDistinct, fold};
 ghost use Rattle.coap_store.specs.declared.key.CacheKey.{CacheKey};
 ghost use Rattle.coap_store.specs.Entries.{entry_key, entry_size};
 ghost use Rattle.coap_store.specs.Evicting.{beyond, evictions_of};
-ghost use Rattle.coap_store_lru.specs.Indexing.{AreThoseOf, has, is_first, is_indexed, is_of, is_own, keys_in, marked_by};
+ghost use Rattle.coap_store_lru.specs.Indexing.{AreThoseOf, has, is_held, is_indexed, is_of, is_own, keys_in, marked_by};
 ghost use Rattle.coap_store_lru.specs.Recent.{recent_of};
 ghost use Rattle.coap_store.specs.Digested.{digested, same_digested};
+ghost use Rattle.coap_store.specs.Keys.{same_key};
 ghost use Rattle.coap_store.specs.Lists.{are_distinct, cut, of_key, others, used};
 ghost use Rattle.coap_store.specs.Sizes.{size_of};
 
@@ -216,7 +217,8 @@ fn take_out<H: BuildHasher + Copy>(
     }
 }
 
-/// Puts an entry first, replacing the one with its key.
+/// Puts an entry first, replacing the one with its key. The index takes a new key first, and loses
+/// it again if there is no memory for the entry.
 fn put_first<H: BuildHasher + Copy>(
     recent: &mut Recent,
     total: &mut u64,
@@ -243,43 +245,46 @@ fn put_first<H: BuildHasher + Copy>(
 {
     let _laws = recent.len();
     let Measured { key, stored, size } = entry;
-    match recent.push(key, stored)? {
-        Some((of, former)) => {
+    index_new(recent, index, &key)?;
+    match recent.push(key, stored) {
+        Ok(Some((of, former))) => {
             let former = bytes_of(&of, &former);
             *total = *total - former + size;
+            Ok(())
         }
-        None => {
-            index_first(recent, index)?;
+        Ok(None) => {
             *total += size;
+            Ok(())
+        }
+        Err(refused) => {
+            index.remove(&refused);
+            Err(OutOfMemory)
         }
     }
-    Ok(())
 }
 
-/// Adds the key of the first entry to the index. If memory runs out, the first entry is removed
-/// again.
-fn index_first<H: BuildHasher + Copy>(
-    recent: &mut Recent,
+/// Adds a key to the index, if it is new: one with an entry is in it already. If memory runs out,
+/// nothing is changed.
+fn index_new<H: BuildHasher + Copy>(
+    recent: &Recent,
     index: &mut TargetIndex<H>,
+    key: &DigestedKey,
 ) -> Result<(), OutOfMemory>
-    requires hashed { recent.old.secret ≡ index.old.secret }
+    requires own { key.now.secret ≡ recent.now.secret }
+    requires hashed { recent.now.secret ≡ index.old.secret }
+    requires those { (k : CacheKey)
+        → is_indexed index.old.secret index.old.groups k ≡ is_held recent.now.entries k }
     ensures secret { index.new.secret ≡ index.old.secret }
-    ensures ok { OnOk result (recent.new ≡ recent.old) }
-    ensures err { OnErr result
-        (recent.new ≡ recent_of (drop 1 recent.old.entries) recent.old.secret) }
     ensures indexed { (k : CacheKey)
         → is_indexed index.new.secret index.new.groups k
-        ≡ ((is_ok result && is_first k recent.old.entries)
+        ≡ ((is_ok result && same_key key.now.key k)
         || is_indexed index.old.secret index.old.groups k) }
+    ensures err_new { OnErr result (of_key entry_key key.now.key recent.now.entries ≡ None) }
 {
-    let added = match recent.first() {
-        Some((key, _)) => index.insert(key),
-        None => Ok(()),
-    };
-    if added.is_err() {
-        recent.remove_first();
+    match recent.peek(key) {
+        Some(_) => Ok(()),
+        None => index.insert(key),
     }
-    added
 }
 
 /// Evicts the least recently used entries until there is room for the rest, and returns how many

@@ -1,5 +1,5 @@
 //! An LRU map whose keys are hashed as their digests.
-ghost use Rattle.std.specs.Prelude.{◌≡◌, ◌<◌, ◌^◌, ◌-◌, ◌∷◌, [], None, IfOk, IfNone, IfSome, OnOk, OnErr, drop, length, map, option_map, slice_get, take, true};
+ghost use Rattle.std.specs.Prelude.{◌≡◌, ◌<◌, ◌^◌, ◌-◌, ◌∷◌, [], None, IfErr, IfOk, IfNone, IfSome, OnOk, OnErr, length, map, option_map, slice_get, take, true};
 ghost use Rattle.std.specs.Map.{lookup, set_value};
 ghost use Rattle.lru.specs.LruCache.{lru_cache};
 ghost use Rattle.coap_store.specs.Digested.{same_digested};
@@ -13,7 +13,7 @@ use coap_endpoint::Seeded;
 use coap_message::OutOfMemory;
 use coap_store::{DigestedKey, Stored};
 use lru::LruCache;
-use std::alloc::Global;
+use std::alloc::{AllocFailed, Global};
 use std::marker::Model;
 
 /// Entries, the most recently used first. Their keys are hashed as their digests, all of which were
@@ -116,12 +116,12 @@ impl Recent {
     /// Puts an entry first, and returns the one with its key that it replaces.
     ///
     /// # Errors
-    /// Out of memory, which only a new key needs. Nothing is changed then.
+    /// Out of memory, which only a new key needs: the key, and nothing is changed.
     pub(crate) fn push(
         &mut self,
         key: DigestedKey,
         stored: Stored,
-    ) -> Result<Option<(DigestedKey, Stored)>, OutOfMemory>
+    ) -> Result<Option<(DigestedKey, Stored)>, DigestedKey>
         requires own { key.secret ≡ self.old.secret }
         requires distinct { are_distinct entry_key self.old.entries ≡ true }
         ensures old { IfOk result (λ old.
@@ -131,10 +131,14 @@ impl Recent {
             ≡ recent_of ((key.key, stored) ∷ others entry_key key.key self.old.entries)
             self.old.secret) }
         ensures err { OnErr result (self.new ≡ self.old) }
+        ensures refused { IfErr result (λ refused. refused ≡ key) }
         ensures err_new { OnErr result (of_key entry_key key.key self.old.entries ≡ None) }
     {
         let _laws = self.entries.len();
-        Ok(self.entries.push(key, stored)?)
+        match self.entries.push(key, stored) {
+            Ok(old) => Ok(old),
+            Err(AllocFailed { value: (key, _) }) => Err(key),
+        }
     }
 
     /// Removes the entry with a key, and returns it.
@@ -148,13 +152,6 @@ impl Recent {
             ≡ recent_of (others entry_key key.now.key self.old.entries) self.old.secret }
     {
         self.entries.pop_entry(key)
-    }
-
-    /// Removes the most recently used entry.
-    pub(crate) fn remove_first(&mut self)
-        ensures { self.new ≡ recent_of (drop 1 self.old.entries) self.old.secret }
-    {
-        self.entries.pop_mru();
     }
 
     /// Removes the least recently used entry, and returns it.
