@@ -54,6 +54,7 @@ LIBRARY = """mod table;
 pub fn first(a: u64) -> u64
     ensures { same { result } }
 {
+    let more = 1;
     says first right
 }
 fn second(a: (u64, [u8; 2])) -> u64 {
@@ -159,8 +160,10 @@ def nothing_counts_where_another_function_is_refused():
 
 
 def edits_of_one_function_are_tried_apart():
-    edits = {name: edit("lib", "first", "wrong") for name in ("one", "two")}
-    with repository({**edits, "three": edit("lib", "second", "wrong")}) as folder:
+    """Also if they change other texts of it."""
+    other = "file: src/lib.rt\nold: let more = 1;\nnew: let more = 2; says first wrong\n"
+    edits = {"one": edit("lib", "first", "wrong"), "two": other, "three": edit("lib", "second", "wrong")}
+    with repository(edits) as folder:
         status, lines, checks = refuse(folder)
     expect("the status and the last line", (0, "3 passed, 0 failed"), (status, lines[-1]), "the status", "the line")
     expect("what was checked together", [["first", "second"], ["first"]], checks)
