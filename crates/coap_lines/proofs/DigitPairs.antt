@@ -1,16 +1,16 @@
--- The two hexadecimal digits of a byte, by the table; what each entry of a table is, by a test.
+-- The two hexadecimal digits of a byte, by the table.
 use Rattle.std.proofs.Common.{◌≡◌, ◌==◌, ◌&&◌, ◌+◌, ◌*◌, ◌/◌, ◌%◌, ◌<◌, ℕ, zero, suc, Bool, true, refl, arith, get_or, inl, inr}
 use Rattle.std.proofs.lemmas.Bool.{and_parts, cases_lt, eqb-true}
 use Rattle.hex.specs.Hex.{upper_digits}
 use Rattle.coap_lines.specs.declared.writing.datagram.TheConstants.{PAIRS}
 
 -- the first n numbers pass a test
-abbrev pub all_pass : (ℕ → Bool) → ℕ → Bool
+abbrev all_pass : (ℕ → Bool) → ℕ → Bool
 all_pass test zero = true
 all_pass test (suc n) = test n && all_pass test n
 
 -- so each of them does
-pub passes-at : (test : ℕ → Bool) (n k : ℕ) → all_pass test n ≡ true → k < n → test k ≡ true
+passes-at : (test : ℕ → Bool) (n k : ℕ) → all_pass test n ≡ true → k < n → test k ≡ true
 passes-at test zero k all below = absurd (omega arith)
 passes-at test (suc n) k all below =
     let parts = and_parts (test n) (all_pass test n) all in

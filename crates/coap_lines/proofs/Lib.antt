@@ -1,7 +1,6 @@
 pub mod CutInputs
 pub mod Cuts
 pub mod DigitPairs
-pub mod DigitValues
 pub mod Eights
 pub mod EndpointTexts
 pub mod GroupTexts

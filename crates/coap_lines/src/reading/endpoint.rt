@@ -55,7 +55,7 @@ fn read_octet_before(text: &[u8], byte: u8) -> Option<(u8, &[u8])>
 }
 
 /// The endpoint of an IPv4 address and a port before a space, and what follows that space. It goes
-/// over the text once. It is kept apart, and so is `read_pairs`, so that each has all registers.
+/// over the text once. It is kept apart, and so is `read_digits`, so that each has all registers.
 #[inline(never)]
 #[tactic(auto, unfolding(crate::specs::Endpoints::v4_source))]
 fn read_v4_source(text: &[u8]) -> Option<(Endpoint, &[u8])>
