@@ -6,9 +6,9 @@ ghost use Rattle.coap_config.specs.declared.config_error.ConfigError.TheVariants
 use coap_message::OutOfMemory;
 use coap_target::RouteError;
 use std::alloc::{AllocError, AllocFailed, Global};
-use std::error::Error;
 use std::fmt;
 use std::marker::Model;
+use thiserror::Error;
 
 /// The name of a key, after the name of its table and a dot. A contract sees its bytes.
 #[derive(Debug, Drop)]
@@ -53,7 +53,7 @@ impl KeyName {
 
 /// Why a text isn't a configuration: the first fault, in the order of `read_config`. `OutOfMemory`
 /// may be returned in place of a later fault.
-#[derive(Debug, Drop)]
+#[derive(Debug, Drop, Error)]
 pub enum ConfigError {
     /// It isn't UTF-8, or isn't TOML.
     Syntax,
@@ -104,5 +104,3 @@ impl fmt::Display for ConfigError {
         }
     }
 }
-
-impl Error for ConfigError {}

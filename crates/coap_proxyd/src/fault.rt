@@ -7,9 +7,9 @@ use coap_config::{ConfigError, MapOptionError, ProxyOptionError, WordsError};
 use coap_port::DriveError;
 use coap_replay::ReplayError;
 use coap_uri::UriError;
-use std::error::Error;
 use std::fmt;
 use std::marker::Model;
+use thiserror::Error;
 
 /// Why a configuration is refused: not because memory ran out. A contract sees the error.
 #[derive(Debug, Drop)]
@@ -50,7 +50,7 @@ impl ConfigFault {
 /// Why the program stops before it is done. Faults of the arguments, of the configuration and of
 /// the socket are reported in this order; a hasher that can't be seeded is `File`, and running out
 /// of memory is reported where it happens.
-#[derive(Debug, Drop)]
+#[derive(Debug, Drop, Error)]
 pub enum Fault {
     /// The words after the program's name aren't texts, or don't go together: one of them is for a
     /// socket and another for a replay, say.
@@ -196,5 +196,3 @@ impl fmt::Display for Fault {
         }
     }
 }
-
-impl Error for Fault {}
