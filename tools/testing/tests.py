@@ -6,8 +6,8 @@ from collections import namedtuple
 from testing import accounts, caching, captures, chosen, clients, configurations, costs, days, deployments, documents
 from testing import draws, endings, faults, fleets, forwarding, gateways, hosts, instructions, kernels, leaps, libcoap
 from testing import limits, links, logs, memory, messages, monitoring, pages, parents, periods, pictures, programs
-from testing import questions, ranges, readings, recordings, refusals, script, sends, services, silences, slips, spreads
-from testing import statistics, suites, uptimes, watching, worked, writes
+from testing import questions, ranges, readings, recordings, refusals, roles, script, sends, services, silences
+from testing import slips, spreads, statistics, suites, uptimes, watching, worked, writes
 from testing.network import Stage
 from testing.stand_ins import PLAYER, SAID, differences_are_told, must_fail, must_say
 
@@ -262,6 +262,8 @@ def tests(program):
         yield Test(f"slip {function.__name__}", function, ())
     for function in refusals.CASES:
         yield Test(f"refusal {function.__name__}", function, ())
+    for function in roles.CASES:
+        yield Test(f"role {function.__name__}", function, ())
     yield Test("slow link loses_no_answer", links.loses_no_answer, (program,))
     for address in ("0.0.0.0", "::"):
         name = f"gateway accounts_for_both_interfaces at {address}"
