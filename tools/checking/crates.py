@@ -24,7 +24,8 @@ COMMENT_OR_TEXT = re.compile(r"""//[^\n]*|/\*.*?\*/|b?r(#*)".*?"\1|b?"(?:\\.|[^"
 CALL = re.compile(r"(?<![\w.:])(?<!fn )((?:\w+(?:::<[^()]*>)?::)*[a-z_]\w*)(?:::<[^()]*>)?\(")
 USE = re.compile(r"^ *(?:pub(?:\(\w+\))? )?use ([^;]*);", re.M)
 RESULT = re.compile(r"(?<![\w:])Result<")
-TYPE = re.compile(r"((?:#\[[^\]]*\]\s*)*)pub (?:enum|struct) (\w+)")
+# An error is an enum, or has no fields: a result may also give back what it was given.
+TYPE = re.compile(r"((?:#\[[^\]]*\]\s*)*)pub (?:enum (\w+)|struct (\w+);)")
 
 
 def code_of(text):
@@ -68,7 +69,8 @@ def errors_in(code):
 def underived(code, errors):
     """The names of these errors that code declares as public without deriving `thiserror::Error`."""
     derive = names_from("thiserror", code) - {"thiserror"}
-    for attributes, name in TYPE.findall(code):
+    for attributes, *names in TYPE.findall(code):
+        name = "".join(names)
         derived = re.findall(r"[\w:]+", " ".join(re.findall(r"\bderive\((.*?)\)", attributes, re.S)))
         if name in errors and not derive.union({"thiserror::Error"}).intersection(derived):
             yield name
