@@ -9,7 +9,7 @@ ghost use Rattle.coap_model.specs.Ticks.{next_due, on_tick};
 ghost use Rattle.coap_model.specs.History.{grown_of};
 ghost use Rattle.coap_model.specs.Step.{step_of};
 ghost use Rattle.coap_model.specs.Carries.{Carries};
-ghost use Rattle.coap_core.specs.Events.{IsUnread, seen};
+ghost use Rattle.coap_core.specs.Events.{HoldsEmpty, IsUnread, seen};
 ghost use Rattle.coap_core.specs.Done.{CarriesOn, Does, GivesConfirmable, KeepsWordOn, LeavesRoomOn, PromisesOn, observation_told, wants_memory};
 ghost use Rattle.coap_core.specs.Within.{AreWithinLimits};
 
@@ -178,12 +178,16 @@ impl<S: Store + Drop> Core<S> {
         // It can only run out of memory when a new request is remembered, a response becomes the
         // answer of its exchange, or a client is sent an answer that is kept until it is
         // acknowledged. So a tick only allocates to send a client its answer in a Confirmable
-        // message, and neither a duplicate nor a datagram without a message allocates.
+        // message, and neither a duplicate, nor a datagram without a message, nor one with an Empty
+        // message allocates: the proxy's own answer for an exchange whose request was rejected with
+        // a Reset takes no memory.
         ensures memory { OnErr result
             (wants_memory (step_of self.old now draw true (seen event.entry)) ≡ true) }
         ensures ticks { seen event.entry ≡ tick
             → OnErr result (GivesConfirmable (on_tick self.old now draw)) }
         ensures unread { IsUnread self.old.setting.limits.datagram (seen event.entry)
+            → IsOk result }
+        ensures empty { HoldsEmpty self.old.setting.limits.datagram (seen event.entry)
             → IsOk result }
     {
         laws::steps_are_carried();

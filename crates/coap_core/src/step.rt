@@ -1,14 +1,15 @@
 //! One step: a datagram or a tick at a moment.
-ghost use Rattle.std.specs.Prelude.{◌≡◌, ◌≤◌, ◌<◌, [], true, length, None, IfOk, IsOk, OnErr};
+ghost use Rattle.std.specs.Prelude.{◌≡◌, ◌≤◌, ◌<◌, [], true, length, None, Some, IfOk, IsOk, OnErr, option_map};
 ghost use Rattle.coap_model.specs.Events.{tick};
 ghost use Rattle.coap_message.specs.declared.kind.Kind.{Kind};
 ghost use Rattle.coap_message.specs.Datagram.{holding};
+ghost use Rattle.coap_forward.specs.Messages.{is_empty};
 ghost use Rattle.coap_model.specs.History.{grown_of};
 ghost use Rattle.coap_model.specs.State.{ignores, rejects, unprocessed};
 ghost use Rattle.coap_model.specs.Step.{message_in, on_message, on_datagram, step_of};
 ghost use Rattle.coap_model.specs.Ticks.{item_due, on_tick};
 ghost use Rattle.coap_core.specs.Arrivals.{of_grown};
-ghost use Rattle.coap_core.specs.Events.{IsUnread, seen};
+ghost use Rattle.coap_core.specs.Events.{HoldsEmpty, IsUnread, seen};
 ghost use Rattle.coap_core.specs.Done.{Does, GivesConfirmable, IsDoneBy, wants_memory};
 ghost use Rattle.coap_core.specs.Needs.{CanDo, CanGoOn};
 
@@ -51,6 +52,8 @@ impl<S: Store + Drop> State<S> {
             → OnErr result (GivesConfirmable (on_tick self.old timing.now timing.draw)) }
         ensures unread { IsUnread self.old.setting.limits.datagram (seen event.entry)
             → IsOk result }
+        ensures empty { HoldsEmpty self.old.setting.limits.datagram (seen event.entry)
+            → IsOk result }
     {
         let done = match event {
             Event::Datagram { from, bytes } => {
@@ -80,6 +83,10 @@ impl<S: Store + Drop> State<S> {
             (wants_memory (on_datagram self.old now true source bytes.now) ≡ true) }
         ensures unread { message_in self.old.setting.limits.datagram bytes.now ≡ None
             → IsOk result }
+        ensures empty { option_map (λ m. is_empty m.code)
+            (message_in self.old.setting.limits.datagram bytes.now)
+            ≡ Some true
+            → IsOk result }
     {
         if let Some(message) = self.message_in(bytes) {
             let arrival = Arrival {
@@ -107,6 +114,7 @@ impl<S: Store + Drop> State<S> {
     }
 
     /// Handles a request, a response or an Empty message; anything else isn't processed.
+    #[tactic(auto, using(crate::proofs::Read::no_request, crate::proofs::Read::no_response))]
     fn on_message(
         &mut self,
         arrival: Arrival<'_, '_>,
@@ -119,6 +127,7 @@ impl<S: Store + Drop> State<S> {
             result out.old out.new self.old self.new }
         ensures memory { OnErr result
             (wants_memory (of_grown (on_message self.old) arrival.entry true) ≡ true) }
+        ensures empty { is_empty arrival.message.now.code ≡ true → IsOk result }
     {
         match arrival.message.kind() {
             Kind::Con | Kind::Non if arrival.message.code().is_request() => {

@@ -6,7 +6,9 @@ use Rattle.coap_model.specs.History.{is_con_datagram}
 
 -- Whether a step with this outcome, which sends these bytes, may allocate memory: a new request is
 -- remembered, whatever its outcome; an answer that arrives is kept; and so is one that is sent to a
--- client in a Confirmable message, until it is acknowledged. No other step allocates.
+-- client in a Confirmable message, until it is acknowledged. No other step allocates, nor does that
+-- of a Reset, which has the outcome of an answer that isn't stored: the core says so of each Empty
+-- message.
 abbrev pub takes_memory : Outcome → List ℕ → Bool
 takes_memory Ignored bytes = false
 takes_memory Rejected bytes = false

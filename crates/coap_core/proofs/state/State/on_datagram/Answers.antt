@@ -1,5 +1,9 @@
-use Rattle.std.proofs.Common.{rules, ◌≡◌, ◌≤◌, Bool, OnErr, true, length, sym, subst}
+use Rattle.std.proofs.Common.{rules, ◌≡◌, ◌≤◌, ◌∙◌, Bool, OnErr, true, ap, length, sym, subst}
+use Rattle.std.specs.Option.{option_map}
+use Rattle.std.proofs.lemmas.Option.{same_Some}
 use Rattle.std.proofs.lemmas.Result.{IfOk-weaker}
+use Rattle.coap_message.specs.Message.{Message}
+use Rattle.coap_forward.specs.Messages.{is_empty}
 use Rattle.coap_model.specs.declared.report.Report.{Report}
 use Rattle.coap_model.specs.History.{grown_of}
 use Rattle.coap_model.specs.Step.{on_message, on_datagram}
@@ -40,3 +44,7 @@ returns-in-Some-clause-done g c =
 pub returns-in-Some-clause-memory : goal.returns-in-Some-clause-memory
 returns-in-Some-clause-memory g c =
     subst (λ (s : Step). OnErr c.on_message.result (wants_memory s ≡ true)) (sym (same g true (goal.at.returns-in-Some-clause-memory g c).In-Some)) c.on_message.ensures.memory
+
+pub returns-in-Some-clause-empty : goal.returns-in-Some-clause-empty
+returns-in-Some-clause-empty g c empty =
+    c.on_message.ensures.empty (same_Some _ _ (ap (option_map (λ (m : Message). is_empty m.code)) c.in-Some.ensures ∙ empty))
