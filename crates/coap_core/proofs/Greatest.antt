@@ -49,6 +49,7 @@ greatest-of es ps s are is = record {
   held = is.held ∙ held-of es ps are s.last.ip;
   ports = is.ports ∙ ports-of es ps are s.last.ip;
   most = λ ip. (let held = held-of es ps are ip in let most = is.most ip in omega arith);
+  lowest = λ ip equal. is.lowest ip (held-of es ps are ip ∙ equal);
 }
 
 -- if one is found

@@ -4,12 +4,14 @@ use Rattle.std.specs.Cmp.{IsTotalOrder}
 use Rattle.std.specs.declared.cmp.Ordering.{Ordering}
 use Rattle.std.specs.declared.cmp.Ordering.TheVariants.{Less, Equal, Greater}
 use Rattle.std.specs.Ordering.{is_lt, is_eq, ordering_then, ordering_reverse}
+use Rattle.std.specs.List.{AllByRecursion}
 use Rattle.std.specs.List.Sorted.{IsSorted}
 use Rattle.std.proofs.lemmas.List.Sorted.{ranks_by, sorted_far}
 use Rattle.coap_endpoint.specs.declared.endpoint.Endpoint.{Endpoint}
 use Rattle.coap_endpoint.specs.declared.endpoint.Ip.{Ip}
 use Rattle.coap_endpoint.specs.declared.endpoint.Ip.TheVariants.{V4, V6}
 use Rattle.coap_endpoint.specs.Endpoint.{same_endpoint, same_ip}
+use Rattle.coap_endpoint.specs.Order as order
 use Rattle.coap_endpoint.specs.contracts.endpoint.IpOrd.TheImpl as ips
 use Rattle.coap_endpoint.specs.contracts.endpoint.IpOrd.TheImpl.Laws as ip_laws
 use Rattle.coap_endpoint.specs.contracts.endpoint.EndpointOrd.TheImpl as endpoints
@@ -19,7 +21,7 @@ use Rattle.coap_core.specs.contracts.most.HoldingOrd.TheImpl.Laws as holding_law
 use Rattle.coap_endpoint.specs.Alike.{endpoint_same, ip_itself, ip_same}
 use Rattle.coap_core.specs.declared.most.Holding.{Holding}
 use Rattle.coap_core.specs.Holders.{is_among}
-use Rattle.coap_core.specs.Holdings.{AreGrouped, StartsGroup, ends, held_in}
+use Rattle.coap_core.specs.Holdings.{AreGrouped, AreRising, StartsGroup, ends, held_in}
 
 -- the orders of holdings, of addresses and of endpoints
 holding_cmp : Holding → Holding → Ordering
@@ -80,6 +82,16 @@ ip-tied (V4 a) (V4 b) = sym (ip_laws.matches_eq-law (V4 a) (V4 b))
 ip-tied (V6 a) (V6 b) = sym (ip_laws.matches_eq-law (V6 a) (V6 b))
 ip-tied (V4 a) (V6 b) = refl
 ip-tied (V6 a) (V4 b) = refl
+
+-- no address is lower than itself
+pub ip-itself : (a : Ip) → is_lt (order.ip_cmp a a) ≡ false
+unfolding ip_cmp
+ip-itself a = go (ip_cmp a a) (ip-tied a a ∙ ip_itself a)
+  where
+    go : (o : Ordering) → is_eq o ≡ true → is_lt o ≡ false
+    go Less e = absurd cc
+    go Equal e = refl
+    go Greater e = refl
 
 -- so does that of endpoints
 endpoint-tied : (a b : Endpoint) → is_eq (endpoint_cmp a b) ≡ same_endpoint a b
@@ -172,7 +184,21 @@ up-grouped : (ps : List Holding) → AreUp ps → AreGrouped ps
 up-grouped [] ups = tt
 up-grouped (p ∷ ps) ups = (starts p ps ups.0 ups.1, up-grouped ps ups.1)
 
+-- and their addresses rise
+all-rising : (p : Holding) (ps : List Holding) → AllUp p ps → AllByRecursion (λ q. is_lt (order.ip_cmp q.at.ip p.at.ip) ≡ false) ps
+unfolding ip_cmp
+all-rising p [] ups = tt
+all-rising p (q ∷ qs) ups = (endpoint-ip q.at p.at (holding-endpoint q p ups.0), all-rising p qs ups.1)
+
+up-rising : (ps : List Holding) → AreUp ps → AreRising ps
+up-rising [] ups = tt
+up-rising (p ∷ ps) ups = (all-rising p ps ups.0, up-rising ps ups.1)
+
 -- as a sort leaves them
 pub sorted-grouped : (ps : List Holding) → IsSorted (λ a b. holdings.ghosts.cmp a b) ps → AreGrouped ps
 unfolding holding_cmp
 sorted-grouped ps h = up-grouped ps (are-up ps h)
+
+pub sorted-rising : (ps : List Holding) → IsSorted (λ a b. holdings.ghosts.cmp a b) ps → AreRising ps
+unfolding holding_cmp
+sorted-rising ps h = up-rising ps (are-up ps h)

@@ -1,16 +1,20 @@
 -- What the addresses of holdings have, counted from the last holding on.
 use Rattle.std.proofs.Common.{◌≡◌, ℕ, suc, zero, ◌+◌, ◌-◌, ◌<◌, ◌≤◌, List, [], ◌∷◌, length, drop, get_or, Bool, true, false, cond, Option, Some, None, IfSome, refl, sym, ap, ◌∙◌, subst, arith, eq-eqb}
 use Rattle.std.specs.Prelude.{◌==◌, nat_lt}
+use Rattle.std.specs.List.{AllByRecursion}
+use Rattle.std.specs.Ordering.{is_lt}
 use Rattle.std.proofs.Math.Seq.{drop-cons}
 use Rattle.std.proofs.lemmas.Bool.{eqb-true, ltb-false, ltb-true}
 use Rattle.coap_endpoint.specs.declared.endpoint.Endpoint.{Endpoint}
 use Rattle.coap_endpoint.specs.declared.endpoint.Ip.{Ip}
 use Rattle.coap_endpoint.specs.Endpoint.{same_endpoint, same_ip}
+use Rattle.coap_endpoint.specs.Order.{ip_cmp}
 use Rattle.coap_endpoint.specs.Alike.{endpoint_itself, endpoint_same, ip_itself, ip_same}
+use Rattle.coap_core.proofs.Grouping.{ip-itself}
 use Rattle.coap_core.specs.declared.most.Holding.{Holding}
 use Rattle.coap_core.specs.declared.most.Sum.{Sum}
 use Rattle.coap_core.specs.Holders.{is_among, ports_of}
-use Rattle.coap_core.specs.Holdings.{AreGrouped, AreSome, IsGreatest, IsMost, IsOfFirst, StartsGroup, ends, held_in, greater_of, sum_with}
+use Rattle.coap_core.specs.Holdings.{AreGrouped, AreRising, AreSome, IsGreatest, IsMost, IsOfFirst, StartsGroup, ends, held_in, greater_of, sum_with}
 
 -- what an address has with one holding more
 held-own : (p : Holding) (ps : List Holding) → held_in p.at.ip (p ∷ ps) ≡ p.count + held_in p.at.ip ps
@@ -57,6 +61,12 @@ pub grouped-drop : (k : ℕ) (ps : List Holding) → AreGrouped ps → AreGroupe
 grouped-drop zero ps h = h
 grouped-drop (suc k) [] h = tt
 grouped-drop (suc k) (p ∷ ps) h = grouped-drop k ps h.1
+
+-- whose addresses rise
+rising-drop : (k : ℕ) (ps : List Holding) → AreRising ps → AreRising (drop k ps)
+rising-drop zero ps h = h
+rising-drop (suc k) [] h = tt
+rising-drop (suc k) (p ∷ ps) h = rising-drop k ps h.1
 
 -- that are from a place on
 pub some-drop : (k : ℕ) (ps : List Holding) → AreSome ps → AreSome (drop k ps)
@@ -142,7 +152,20 @@ fits-more p (q ∷ qs) (Some s) most some is few = λ e.
     let one = some.0 in
     (omega arith, omega arith)
 
-module _ (p : Holding) (ps : List Holding) (s : Sum) (is : IsOfFirst (p ∷ ps) (Some s)) where
+-- no address of these holdings is lower than this one
+abbrev pub AreNotBelow : Ip → List Holding → Type 0
+AreNotBelow low ps = AllByRecursion (λ q. is_lt (ip_cmp q.at.ip low) ≡ false) ps
+
+-- so none that has something is
+not-below : (low ip : Ip) (ps : List Holding) → AreNotBelow low ps → 0 < held_in ip ps → is_lt (ip_cmp ip low) ≡ false
+not-below low ip [] up some = absurd (omega (arith, some))
+not-below low ip (q ∷ qs) up some = pick (same_ip q.at.ip ip) refl (λ more. not-below low ip qs up.1 more)
+  where
+    pick : (b : Bool) → same_ip q.at.ip ip ≡ b → (0 < held_in ip qs → is_lt (ip_cmp ip low) ≡ false) → is_lt (ip_cmp ip low) ≡ false
+    pick true e rest = subst (λ (x : Ip). is_lt (ip_cmp x low) ≡ false) (ip_same q.at.ip ip e) up.0
+    pick false e rest = let same = held-other ip q qs e in rest (omega arith)
+
+module _ (p : Holding) (ps : List Holding) (s : Sum) (is : IsOfFirst (p ∷ ps) (Some s)) (up : AreNotBelow p.at.ip ps) (one : 0 < p.count) where
   -- the sum is that of its address
   sum-held : s.held ≡ held_in s.last.ip (p ∷ ps)
   sum-held = subst (λ (x : Ip). s.held ≡ held_in x (p ∷ ps)) (sym (ap (λ (e : Endpoint). e.ip) is.0)) is.1
@@ -161,14 +184,29 @@ module _ (p : Holding) (ps : List Holding) (s : Sum) (is : IsOfFirst (p ∷ ps) 
           omega arith
       pick false e = let same = held-other ip p ps e in omega arith
 
+  -- an address that has as much isn't lower
+  sum-lowest : (ip : Ip) → held_in ip (p ∷ ps) ≡ s.held → is_lt (ip_cmp ip s.last.ip) ≡ false
+  sum-lowest ip equal = subst (λ (x : Ip). is_lt (ip_cmp ip x) ≡ false) (sym (ap (λ (e : Endpoint). e.ip) is.0)) (pick (same_ip p.at.ip ip) refl)
+    where
+      pick : (b : Bool) → same_ip p.at.ip ip ≡ b → is_lt (ip_cmp ip p.at.ip) ≡ false
+      pick true e = subst (λ (x : Ip). is_lt (ip_cmp x p.at.ip) ≡ false) (ip_same p.at.ip ip e) (ip-itself p.at.ip)
+      pick false e = let same = held-other ip p ps e in let held = is.1 in let own = held-own p ps in not-below p.at.ip ip ps up (omega arith)
+
   -- so its address has most if no other has more of the rest
   most-new : ((ip : Ip) → held_in ip ps ≤ s.held) → IsGreatest (p ∷ ps) s
-  most-new none = record { held = sum-held; ports = sum-ports; most = λ ip. within ip s.held (none ip) (omega arith) }
+  most-new none = record { held = sum-held; ports = sum-ports; most = λ ip. within ip s.held (none ip) (omega arith); lowest = sum-lowest }
 
   -- and the one that had most still has if that is more
   most-kept : (it : Sum) → IsGreatest ps it → s.held < it.held → IsGreatest (p ∷ ps) it
   most-kept it has less = pick (same_ip p.at.ip it.last.ip) refl
     where
+      -- an address that has as much as that one isn't the sum's
+      others : (ip : Ip) → held_in ip (p ∷ ps) ≡ it.held → (b : Bool) → same_ip p.at.ip ip ≡ b → is_lt (ip_cmp ip it.last.ip) ≡ false
+      others ip equal true e = absurd (
+          let all : s.held ≡ held_in ip (p ∷ ps) = subst (λ (x : Ip). s.held ≡ held_in x (p ∷ ps)) (ip_same p.at.ip ip e) is.1 in
+          omega arith)
+      others ip equal false e = has.lowest ip (sym (held-other ip p ps e) ∙ equal)
+
       pick : (b : Bool) → same_ip p.at.ip it.last.ip ≡ b → IsGreatest (p ∷ ps) it
       pick true e = absurd (
           let ips = ip_same p.at.ip it.last.ip e in
@@ -180,6 +218,7 @@ module _ (p : Holding) (ps : List Holding) (s : Sum) (is : IsOfFirst (p ∷ ps) 
         held = has.held ∙ sym (held-other it.last.ip p ps e);
         ports = has.ports ∙ sym (ports-other it.last.ip p ps e);
         most = λ ip. within ip it.held (has.most ip) (omega arith);
+        lowest = λ ip equal. others ip equal (same_ip p.at.ip ip) refl;
       }
 
   -- whichever is more
@@ -191,11 +230,13 @@ module _ (p : Holding) (ps : List Holding) (s : Sum) (is : IsOfFirst (p ∷ ps) 
 pub most-more :
     (p : Holding) (ps : List Holding) (most : Option Sum) (s : Sum)
     → IsOfFirst (p ∷ ps) (Some s)
+    → AreNotBelow p.at.ip ps
+    → 0 < p.count
     → IsMost ps most
     → IsMost (p ∷ ps) (greater_of most s)
-most-more p [] most s is are = rw are (most-new p [] s is (λ ip. omega arith))
-most-more p (q ∷ qs) None s is are = absurd are
-most-more p (q ∷ qs) (Some it) s is are = most-either p (q ∷ qs) s is it are (nat_lt s.held it.held) refl
+most-more p [] most s is up one are = rw are (most-new p [] s is up one (λ ip. omega arith))
+most-more p (q ∷ qs) None s is up one are = absurd are
+most-more p (q ∷ qs) (Some it) s is up one are = most-either p (q ∷ qs) s is up one it are (nat_lt s.held it.held) refl
 
 -- the holdings from one place before on
 drop-first : (k : ℕ) (ps : List Holding) (d : Holding) → 0 < k → k ≤ length ps → drop (k - 1) ps ≡ get_or ps (k - 1) d ∷ drop k ps
@@ -219,12 +260,15 @@ step-first k ps d sum low high grouped some is =
 pub step-most :
     (k : ℕ) (ps : List Holding) (d : Holding) (most : Option Sum) (s : Sum)
     → 0 < k → k ≤ length ps
+    → AreRising ps → AreSome ps
     → IsOfFirst (drop (k - 1) ps) (Some s)
     → IsMost (drop k ps) most
     → IsMost (drop (k - 1) ps) (greater_of most s)
-step-most k ps d most s low high is are =
+step-most k ps d most s low high rising some is are =
     let e = drop-first k ps d low high in
-    rw e (most-more (get_or ps (k - 1) d) (drop k ps) most s (subst (λ qs. IsOfFirst qs (Some s)) e is) are)
+    let up = subst AreRising e (rising-drop (k - 1) ps rising) in
+    let ones = subst AreSome e (some-drop (k - 1) ps some) in
+    rw e (most-more (get_or ps (k - 1) d) (drop k ps) most s (subst (λ qs. IsOfFirst qs (Some s)) e is) up.0 ones.0 are)
 
 -- and no number in it is too great
 pub step-fits :

@@ -1,10 +1,12 @@
 -- Who has most of a table that is full: when that is looked for, and what is found.
 use Rattle.std.specs.Prelude.{◌≡◌, ℕ, ◌+◌, ◌-◌, ◌^◌, ◌≤◌, ◌&&◌, ◌||◌, Bool, true, false, not, nat_le, min, max, if◌then◌else◌, List, [], ◌∷◌, codes, map, Option, Some, None}
+use Rattle.std.specs.Ordering.{is_lt}
 use Rattle.coap_message.specs.declared.message.Head.{Head}
 use Rattle.coap_message.specs.Reading.{head_at}
 use Rattle.coap_endpoint.specs.declared.endpoint.Endpoint.{Endpoint}
 use Rattle.coap_endpoint.specs.declared.endpoint.Ip.{Ip}
 use Rattle.coap_endpoint.specs.Endpoint.{same_endpoint, same_ip}
+use Rattle.coap_endpoint.specs.Order.{ip_cmp}
 use Rattle.coap_forward.specs.Messages.{is_con}
 use Rattle.coap_limits.specs.Limits.{Limits}
 use Rattle.coap_model.specs.Events.{Event, arrival}
@@ -62,12 +64,13 @@ limit_of Exchanges l = l.exchanges
 limit_of Waiters l = l.waiters
 
 -- This address has most of the table, so much of it, and with so many of its ports: no other has
--- more.
+-- more, and of equal ones it is the lowest.
 pub record HasMost (of : SharedTable) (now : ℕ) (w : State) (h : Holder) : Type 0 where
   pub table : h.table ≡ of
   pub held : h.held ≡ held_by h.ip (owners of w)
   pub ports : h.ports ≡ ports_of h.ip (owners of w)
   pub most : (ip : Ip) → held_by ip (owners of w) ≤ h.held
+  pub lowest : (ip : Ip) → held_by ip (owners of w) ≡ h.held → is_lt (ip_cmp ip h.ip) ≡ false
   pub count : h.count ≡ used_of of w
   pub limit : h.limit ≡ limit_of of w.setting.limits
   pub found : h.found ≡ now

@@ -1,9 +1,11 @@
 -- What endpoints have of a table, in holdings.
 use Rattle.std.specs.Prelude.{◌≡◌, ℕ, ◌+◌, ◌<◌, ◌≤◌, ◌==◌, nat_lt, false, if◌then◌else◌, List, [], ◌∷◌, map, Option, Some, None}
 use Rattle.std.specs.List.{AllByRecursion}
+use Rattle.std.specs.Ordering.{is_lt}
 use Rattle.coap_endpoint.specs.declared.endpoint.Endpoint.{Endpoint}
 use Rattle.coap_endpoint.specs.declared.endpoint.Ip.{Ip}
 use Rattle.coap_endpoint.specs.Endpoint.{same_endpoint, same_ip}
+use Rattle.coap_endpoint.specs.Order.{ip_cmp}
 use Rattle.coap_dedup.specs.declared.record.Record.{Record}
 use Rattle.coap_pending.specs.Table.{Numbered}
 use Rattle.endpoint_counts.specs.declared.slots.Entry.{Entry}
@@ -40,6 +42,12 @@ abbrev pub AreGrouped : List Holding → Type 0
 AreGrouped [] = Unit {0}
 AreGrouped (p ∷ ps) = StartsGroup p ps × AreGrouped ps
 
+-- no address is lower than that of a holding before it
+abbrev pub AreRising : List Holding → Type 0
+AreRising [] = Unit {0}
+AreRising (p ∷ ps) =
+    AllByRecursion (λ q. is_lt (ip_cmp q.at.ip p.at.ip) ≡ false) ps × AreRising ps
+
 -- a sum with one holding more
 abbrev pub sum_with : Option Sum → Holding → Sum
 sum_with None p = record { last = p.at; held = p.count; ports = 1 }
@@ -57,11 +65,13 @@ abbrev pub greater_of : Option Sum → Sum → Option Sum
 greater_of None s = Some s
 greater_of (Some it) s = if nat_lt s.held it.held then Some it else Some s
 
--- a sum is of all holdings of an address, with how many ports it has them, and no address has more
+-- a sum is of all holdings of an address, with how many ports it has them; no address has more, and
+-- none that has as much is lower
 pub record IsGreatest (ps : List Holding) (s : Sum) : Type 0 where
   pub held : s.held ≡ held_in s.last.ip ps
   pub ports : s.ports ≡ ports_of s.last.ip (ends ps)
   pub most : (ip : Ip) → held_in ip ps ≤ s.held
+  pub lowest : (ip : Ip) → held_in ip ps ≡ s.held → is_lt (ip_cmp ip s.last.ip) ≡ false
 
 -- a sum is of the holdings of the first one's address
 abbrev pub IsOfFirst : List Holding → Option Sum → Type 0
@@ -89,11 +99,12 @@ pub record AreOf (es : List Endpoint) (ps : List Holding) : Type 0 where
   pub some : AreSome ps
   pub each : (e : Endpoint) → had_by e ps ≡ had_by e (holdings_of es)
 
--- the sum of an address that has most of items that are these endpoints'
+-- the sum of the lowest address that has most of items that are these endpoints'
 pub record IsGreatestOf (es : List Endpoint) (s : Sum) : Type 0 where
   pub held : s.held ≡ held_by s.last.ip es
   pub ports : s.ports ≡ ports_of s.last.ip es
   pub most : (ip : Ip) → held_by ip es ≤ s.held
+  pub lowest : (ip : Ip) → held_by ip es ≡ s.held → is_lt (ip_cmp ip s.last.ip) ≡ false
 
 -- one holding for each record, and one for each client
 abbrev pub record_holdings : List Record → List Holding

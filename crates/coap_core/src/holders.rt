@@ -46,7 +46,7 @@ impl SharedTable {
     }
 }
 
-/// The address that has more of a table than any other, or as much.
+/// The address that has more of a table than any other; of equal ones, the lowest.
 #[derive(Clone, Copy, Debug, PartialEq, Eq)]
 pub struct Holder {
     pub table: SharedTable,
@@ -155,7 +155,7 @@ impl Holders {
         ensures same { spec.looks_in self.old (told turn.entry core.now) ≡ None
             → self.new ≡ self.old }
 
-        // Otherwise it is an address of which no other has more.
+        // Otherwise it is an address than which no other has more, and of equal ones the lowest.
         ensures found { IfSome (spec.looks_in self.old (told turn.entry core.now)) (λ table.
             spec.IsFound table turn.entry.now core.now self.old result self.new) }
     {

@@ -2,7 +2,7 @@
 ghost use Rattle.std.specs.Prelude.{◌≡◌, ℕ, ◌<◌, ◌+◌, ◌^◌, [], true, IfNone, IfSome};
 ghost use Rattle.coap_endpoint.specs.declared.endpoint.Ip.{Ip};
 ghost use Rattle.coap_endpoint.specs.Endpoint.{same_ip};
-ghost use Rattle.coap_core.specs.Holdings.{AreGrouped, IsGreatest, greater_of, held_in, sum_with, AreSome};
+ghost use Rattle.coap_core.specs.Holdings.{AreGrouped, AreRising, IsGreatest, greater_of, held_in, sum_with, AreSome};
 
 use coap_endpoint::Endpoint;
 
@@ -58,6 +58,7 @@ fn greater_of(most: Option<Sum>, sum: Sum) -> Option<Sum>
 /// The address that has more than any other; of equal ones, the lowest.
 pub(crate) fn most_of(holdings: &[Holding]) -> Option<Sum>
     requires grouped { AreGrouped holdings.now }
+    requires rising { AreRising holdings.now }
     requires some { AreSome holdings.now }
     requires few { (ip : Ip) → held_in ip holdings.now < 2 ^ 64 }
     ensures none { IfNone result (holdings.now ≡ []) }

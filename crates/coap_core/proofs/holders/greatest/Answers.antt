@@ -2,7 +2,7 @@ use Rattle.std.proofs.Common.{◌^◌, arith}
 use Rattle.coap_core.specs.Holders.{owners}
 use Rattle.coap_core.specs.Holdings.{AreOf}
 use Rattle.coap_core.proofs.Greatest.{are-permuted, few-of, greatest-there, none-there}
-use Rattle.coap_core.proofs.Grouping.{sorted-grouped}
+use Rattle.coap_core.proofs.Grouping.{sorted-grouped, sorted-rising}
 use Rattle.coap_core.proofs.holders.greatest.Given.{Over}
 use Rattle.coap_core.proofs.holders.greatest.Goals.{After-as_slice}
 use Rattle.coap_core.proofs.holders.greatest.Goals as goal
@@ -13,6 +13,9 @@ are g c = rw c.as_slice.ensures.value (are-permuted _ _ _ c.sort_unstable.ensure
 
 pub most_of-requires-clause-grouped : goal.most_of-requires-clause-grouped
 most_of-requires-clause-grouped g c = rw c.as_slice.ensures.value (sorted-grouped _ c.sort_unstable.ensures.sorted)
+
+pub most_of-requires-clause-rising : goal.most_of-requires-clause-rising
+most_of-requires-clause-rising g c = rw c.as_slice.ensures.value (sorted-rising _ c.sort_unstable.ensures.sorted)
 
 pub most_of-requires-clause-some : goal.most_of-requires-clause-some
 most_of-requires-clause-some g c = (are g c).some

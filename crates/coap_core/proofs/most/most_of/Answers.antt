@@ -13,5 +13,5 @@ loop-place-preserved c =
     rw c.sum_with-next.ensures (step-first c.loop-place.place c.args.holdings.now _ c.loop-place.sum c.loop-place-test.true c.loop-place.auto.place c.requires.grouped c.requires.some c.loop-place.invariant.sum) in
     record {
       sum = sum;
-      most = rw c.greater_of-most.ensures (step-most c.loop-place.place c.args.holdings.now (record { at = record { ip = V4 []; port = 0 }; count = 0 }) c.loop-place.most c.sum_with-next.result c.loop-place-test.true c.loop-place.auto.place sum c.loop-place.invariant.most);
+      most = rw c.greater_of-most.ensures (step-most c.loop-place.place c.args.holdings.now (record { at = record { ip = V4 []; port = 0 }; count = 0 }) c.loop-place.most c.sum_with-next.result c.loop-place-test.true c.loop-place.auto.place c.requires.rising c.requires.some sum c.loop-place.invariant.most);
     }
