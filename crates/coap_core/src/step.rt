@@ -127,7 +127,7 @@ impl<S: Store + Drop> State<S> {
             result out.old out.new self.old self.new }
         ensures memory { OnErr result
             (wants_memory (of_grown (on_message self.old) arrival.entry true) ≡ true) }
-        ensures empty { is_empty arrival.message.now.code ≡ true → IsOk result }
+        ensures empty { is_empty arrival.entry.message.now.code ≡ true → IsOk result }
     {
         match arrival.message.kind() {
             Kind::Con | Kind::Non if arrival.message.code().is_request() => {
