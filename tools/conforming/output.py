@@ -28,8 +28,9 @@ def tap_lines(number, outcome):
         return [f"ok {number} - {text}"]
     if outcome.result in (NOT_OFFERED, NOT_SEEN):
         return [f"ok {number} - {text} # SKIP {outcome.result}: {outcome.text}"]
-    # A SHOULD that isn't kept is no failure to a harness: there may be reasons for it.
-    lines = [f"not ok {number} - {text}" + (" # TODO a SHOULD" if case.level == SHOULD else "")]
+    # A SHOULD that isn't kept is no failure to a harness: there may be reasons for it. For an end there are none.
+    is_todo = case.level == SHOULD and outcome.result == NOT_KEPT
+    lines = [f"not ok {number} - {text}" + (" # TODO a SHOULD" if is_todo else "")]
     fields = {
         "result": outcome.result, "level": case.level, "section": case.section,
         "requirement": rows.words_of(case.family), "rfc": sentence_of(case), "came": outcome.text,

@@ -1,5 +1,5 @@
 """Plays cases against a proxy: many at once, again where the machine may have been too slow, and each alone where the
-proxy's process ended."""
+proxy's process ended. A proxy that ends is never a pass: at least the cases that were in play have ended it."""
 
 import time
 from concurrent.futures import ThreadPoolExecutor, as_completed
@@ -13,6 +13,7 @@ from conforming.stage import Stage
 AT_ONCE, AGAIN_AT_ONCE, SUSPECTS_AT_ONCE = 40, 12, 6
 # How long a run without long cases may take, in seconds, before no more cases are begun.
 BOUND = 105
+GONE = "the proxy answered no more"
 
 
 def missing(case, offers):
@@ -49,11 +50,16 @@ class Play:
 
     def __init__(self, proxy, is_long=False, tries=2, at_once=AT_ONCE, tell=lambda count: None):
         self.proxy, self.is_long, self.tries, self.at_once, self.tell = proxy, is_long, tries, at_once, tell
-        self.outcomes, self.suspects, self.is_gone = {}, [], False
+        # What came of the cases; those in play when a process ended, and the last of them; whether a proxy that wasn't
+        # started here answers no more.
+        self.outcomes, self.suspects, self.last_suspects, self.is_gone = {}, [], [], False
         self.until = time.monotonic() + BOUND
 
     def note(self, outcome):
-        self.outcomes[name_of(outcome.case)] = outcome
+        """Notes what came of a case. What was played before and isn't seen now stays as it was."""
+        before = self.outcomes.get(name_of(outcome.case))
+        if before is None or outcome.result != NOT_SEEN:
+            self.outcomes[name_of(outcome.case)] = outcome
         self.tell(len(self.outcomes))
 
     def has_time(self):
@@ -64,11 +70,12 @@ class Play:
         if not self.has_time():
             return Outcome(case, NOT_SEEN, "no time was left for it"), False
         if self.is_gone:
-            return Outcome(case, NOT_SEEN, "the proxy answered no more"), False
+            return Outcome(case, NOT_SEEN, GONE), False
         count = self.proxy.start()
         outcome = try_case(self.proxy, case, self.proxy.scale)
-        if outcome.result == NOT_KEPT and not self.proxy.setup.command:
-            self.is_gone = self.is_gone or not self.proxy.answers()
+        if not self.proxy.setup.command and not self.proxy.answers():
+            self.is_gone = True
+            return Outcome(case, ENDED, GONE + (f"; {outcome.text}" if outcome.text else "")), False
         time.sleep(0.02 if case.is_alone else 0)
         has_ended = not self.proxy.is_running() or self.proxy.count != count
         return outcome, has_ended
@@ -88,6 +95,7 @@ class Play:
         """Notes what came of a case, unless the process ended meanwhile."""
         if has_ended:
             self.suspects.append(outcome.case)
+            self.last_suspects = self.suspects
         else:
             self.note(outcome)
 
@@ -127,6 +135,7 @@ class Play:
         finally:
             if own is not self.proxy:
                 own.close()
+        self.is_gone = self.is_gone or other.is_gone
         ended = [Outcome(it, ENDED, "the process of the proxy ended beside other long cases") for it in other.suspects]
         return [*other.outcomes.values(), *ended]
 
@@ -138,8 +147,18 @@ class Play:
             failed = [it.case for it in self.outcomes.values() if it.result == NOT_KEPT and not it.case.is_long]
             if self.has_time():
                 self.play_many(failed, AGAIN_AT_ONCE)
+        self.play_suspects()
+        if not self.is_gone:
+            self.proxy.start()
+
+    def play_suspects(self):
+        """Plays what was in play when the process ended, beside few others and then alone. If it ends at none of them,
+        those that were in play at the last end count as what ended it."""
         suspects, self.suspects = self.suspects, []
         self.play_many(suspects, SUSPECTS_AT_ONCE)
         for case in self.suspects:
             self.play_alone(case)
-        self.proxy.start()
+        if not any(it.result == ENDED for it in self.outcomes.values()):
+            count = len(self.last_suspects)
+            for case in self.last_suspects:
+                self.note(Outcome(case, ENDED, f"the process of the proxy ended while {count} cases were in play"))

@@ -24,7 +24,8 @@ from testing.network import STARTED, end, free_port
 Setup = namedtuple("Setup", "command host port name is_forward prefixes file chained", defaults=(None, ()))
 # How many origins a command has places for: {origin}, {origin2} ..
 ORIGINS = 8
-READY = 20
+# How long a proxy may take until it answers after its start, and while cases are played, in seconds.
+READY, STILL_READY = 20, 6
 
 
 class Lease:
@@ -129,12 +130,21 @@ class Proxy:
         return not self.setup.command or (self.process is not None and self.process.poll() is None)
 
     def answers(self):
-        """Whether the proxy still answers."""
+        """Whether the proxy still answers: rejects an Empty message, as it must, or answers something else."""
+        client, ping = Client(self.client_host, self.address), wire.message(CON, EMPTY, 7)
         try:
-            self.wait_until_ready(None, self.address, 3)
+            for _ in range(4):
+                client.send_raw(ping)
+                if client.poll(0.25) is not None:
+                    return True
+            self.wait_until_ready(None, self.address, STILL_READY)
             return True
-        except Broken:
+        except NotKept:
+            return True
+        except (Broken, OSError):
             return False
+        finally:
+            client.close()
 
     def wait_until_ready(self, process, address, seconds=READY):
         """Waits until a proxy rejects an Empty message, or answers a request."""

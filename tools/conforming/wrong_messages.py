@@ -252,3 +252,19 @@ class EndsAtResponses(Proxy):
         if sock is self.back and (len(data) < 4 or len(data) > 1400):
             os._exit(1)
         super().receive(sock, data, source)
+
+
+class EndsAfterFaults(EndsAtUris):
+    """Has other faults, which are found before it ends."""
+
+    def answer_bytes(self, kind, code, *rest):
+        return message(kind, code ^ 1 if wire.is_response(code) else code, *rest)
+
+
+class EndsAmongMany(Proxy):
+    """Ends when it has many requests under way, and not when there are few."""
+
+    def forward(self, waiter, target, key, validated):
+        super().forward(waiter, target, key, validated)
+        if len(self.exchanges) > 7:
+            os._exit(1)

@@ -115,6 +115,29 @@ def a_wrong_stand_in_is_not_kept():
         expect("how it ends", (1, f"# all: {told}"), came, "the status", "the last line")
 
 
+def a_proxy_that_ends_is_no_pass():
+    """A proxy that ends is told of, by each way of starting, and what wasn't kept before stays so. One that ends only
+    while much is under way is, too. What can't be started again ends the run."""
+    stand_in = os.path.join(TOOLS, "conforming", "stand_in")
+    only = "a_response_code_reaches_the_client|it_goes_on_after_a_request_for (an|a) unknown|a_ping_of"
+    host, port = "127.200.1.1", str(free_port())
+    words = [sys.executable, stand_in, "EndsAfterFaults", "0.1"]
+    running = subprocess.Popen([*words, host, port, "proxy.test"])
+    try:
+        status, text = run("--against", f"{host}:{port}", "--forward", "--only", only)
+    finally:
+        running.kill()
+        running.wait()
+    told = ["# all: 3 kept, 11 not kept, 1 ended, 1 not seen", "Bail out! the proxy answered no more"]
+    expect("how it ends", (1, told), (status, text.splitlines()[-2:]), "the status", "the last lines")
+    among = "is_not_acknowledged (GET|POST|PUT|DELETE)|acknowledged_while_its_origin"
+    for fault, only, told in (("EndsAfterFaults", only, "3 kept, 11 not kept, 2 ended"), ("EndsAmongMany", among, "8 ended")):
+        command = [sys.executable, stand_in, fault, "0.1", "{address}", "{port}", "{name}"]
+        status, text = run("--forward", "--only", only, "--", *command)
+        came = status, text.splitlines()[-1]
+        expect("how it ends", (1, f"# all: {told}"), came, "the status", "the last line")
+
+
 def what_cannot_be_tried_is_said():
     """No stack trace, and a status that isn't 0."""
     for words in (["--against", "192.0.2.1"], ["--forward", "--", "/no/such/program"], ["--only", "no such case"]):
@@ -173,5 +196,5 @@ def builds_are_compared(program):
 
 CASES = (
     cases_stand_in_rows, output_is_tap, rows_are_compared, stand_ins_are_told_apart, a_wrong_stand_in_is_not_kept,
-    what_cannot_be_tried_is_said, a_load_finds_wrong_answers,
+    a_proxy_that_ends_is_no_pass, what_cannot_be_tried_is_said, a_load_finds_wrong_answers,
 )
