@@ -51,8 +51,9 @@ class Endpoint:
         self.socket.setsockopt(socket.SOL_SOCKET, SO_TIMESTAMPNS, 1)
         self.host, self.port = host, self.socket.getsockname()[1]
         self.next_id = random.randrange(0x10000)
-        # All that came, for a text that tells it, and what nobody asked for yet.
-        self.log, self.came = [], []
+        # All that came, for a text that tells it, and what nobody asked for yet; and to which addresses messages with a
+        # Message ID or a token were sent.
+        self.log, self.came, self.sent = [], [], {}
 
     def close(self):
         self.socket.close()
@@ -64,6 +65,8 @@ class Endpoint:
 
     def send(self, data, to):
         """Sends a datagram, and returns the moment just before."""
+        for key in (("ID", data[2:4]), ("token", data[4 : 4 + (data[0] & 15)])) if len(data) >= 4 else ():
+            self.sent.setdefault(key, set()).add(to)
         at = time.monotonic()
         self.socket.sendto(data, to)
         return at
@@ -77,9 +80,21 @@ class Endpoint:
             return None
         self.log.append(data)
         try:
-            return Came(wire.read(data), data, source[:2], arrival(more))
+            it = Came(wire.read(data), data, source[:2], arrival(more))
         except ValueError:
             raise NotKept(f"what came is no message: {wire.told(data)}") from None
+        self.expect_source(it)
+        return it
+
+    def expect_source(self, it):
+        """Has what belongs to a message come from the address and port that this was sent to: an acknowledgement or a
+        Reset, by its Message ID (4.2, 4.4), and a response, by its token (5.3.2)."""
+        is_reply = it.message.kind in (ACK, RST)
+        if is_reply or wire.is_response(it.message.code):
+            asked = self.sent.get(("ID", it.data[2:4]) if is_reply else ("token", it.message.token), {it.source})
+            if it.source not in asked:
+                places = " or ".join("%s:%d" % place for place in sorted(asked))
+                raise NotKept(f"from {places} is right, from {'%s:%d' % it.source} came {wire.told(it.data)}")
 
     def find(self, wanted, seconds=PATIENCE):
         """The next message for which a function holds, within so many seconds, or None. Others are kept."""

@@ -45,6 +45,26 @@ def an_acknowledgement_has_the_id_of_its_message(stage, message_id):
     expect("its Message ID", message_id, came.message.message_id)
 
 
+@case(MUST, "AcknowledgesElsewhere", each=("request", "response"))
+def an_acknowledgement_comes_from_where_its_message_was_sent(stage, which):
+    """It is matched by its Message ID along with the address of the corresponding endpoint, which is an address and a
+    port (4.4): the one that the message was sent to."""
+    resource, client = stage.resource(), stage.client()
+    request = client.request(POST, resource.here, b"x")
+    asked = resource.origin.asked(POST)
+    resource.origin.acknowledge_if_confirmable(asked)
+    if which == "request":
+        came = client.find(lambda it: it.message.kind == ACK, stage.seconds(2) + 1)
+        wanted = client.to
+    resource.origin.answer(asked, CHANGED, [], b"", CON)
+    if which == "response":
+        came = resource.origin.find(lambda it: it.message.kind == ACK)
+        wanted = asked.source
+    if came is None:
+        raise NotKept("no acknowledgement came")
+    expect("where it came from", wanted, came.source)
+
+
 @case(MUST, "PingsAnswered", each=IDS)
 def an_empty_confirmable_message_is_rejected(stage, message_id):
     """It MUST be rejected: by a Reset that echoes the Message ID and is Empty, or by ignoring it."""
@@ -106,7 +126,7 @@ def confirmable(asked):
 
 def expect_again(stage, endpoint, first):
     """Has a message come again within its first timeout."""
-    again = endpoint.find(lambda it: it.data == first.data, stage.seconds(3) + 1.5)
+    again = endpoint.find(lambda it: (it.data, it.source) == (first.data, first.source), stage.seconds(3) + 1.5)
     if again is None:
         raise NotKept("it should be sent again within 3 s, and wasn't")
     return again

@@ -40,14 +40,18 @@ def a_request_that_is_not_acknowledged_is_sent_again(stage):
     client.expect_code(request, CONTENT)
 
 
-@case(MUST, "SendsAgainAsNew")
-def a_retransmission_is_the_same_message(stage):
-    """The sender retransmits the Confirmable message: the same Message ID, token, options and payload."""
+@case(MUST, "SendsAgainAsNew", "SendsAgainElsewhere", each={"in its bytes": "bytes", "in where it comes from": "source"})
+def a_retransmission_is_the_same_message(stage, what):
+    """The sender retransmits the Confirmable message: the same Message ID, token, options and payload; and from the
+    same address and port, without which its Message ID says nothing (4.4)."""
     resource, client, _, asked = ask(stage)
     second = resource.origin.find(lambda it: wire.is_request(it.message.code), stage.seconds(3) + LATE)
     if second is None:
         raise NotOffered("it didn't send it again")
-    expect("what was sent again", asked.data.hex(), second.data.hex())
+    if what == "bytes":
+        expect("what was sent again", asked.data.hex(), second.data.hex())
+    else:
+        expect("where it came from", asked.source, second.source)
 
 
 @case(MUST, "TimeoutsConstant")

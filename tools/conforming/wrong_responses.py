@@ -1,7 +1,9 @@
 """Stand-ins that are wrong in one respect of responses: their forms, tokens, and the requests that they belong to."""
 
+import socket
 import time
 
+from conforming import wire
 from conforming.model import Proxy, Separate
 from conforming.wire import ACK, CON, NON
 
@@ -101,3 +103,30 @@ class MixesOriginsLater(Proxy):
         if getattr(self, "is_mixed", False):
             target = target._replace(host=self.first.host, port=self.first.port)
         super().forward(waiter, target, key, validated)
+
+
+class Elsewhere(Proxy):
+    """Sends some of its messages from a third port."""
+
+    def __init__(self, host, *words):
+        super().__init__(host, *words)
+        self.third = socket.socket(socket.AF_INET, socket.SOCK_DGRAM)
+        self.third.bind((host, 0))
+
+    def send(self, sock, data, to):
+        super().send(self.third if self.is_elsewhere(sock, data) else sock, data, to)
+
+
+class AnswersFromAnotherPort(Elsewhere):
+    def is_elsewhere(self, sock, data):
+        return sock is self.front and wire.is_response(data[1])
+
+
+class AcknowledgesElsewhere(Elsewhere):
+    def is_elsewhere(self, sock, data):
+        return data[0] >> 4 & 3 == ACK and data[1] == wire.EMPTY
+
+
+class SendsAgainElsewhere(Elsewhere):
+    def is_elsewhere(self, sock, data):
+        return sock is self.back and any(it.data == data and it.tries > 1 for it in self.sendings.values())

@@ -107,6 +107,7 @@ def a_wrong_stand_in_is_not_kept():
     stand_in = os.path.join(TOOLS, "conforming", "stand_in")
     for fault, only, told in (
         ("UnsafeForwarded", "an_unsafe_option_is_refused|a_response_code_reaches", "11 kept, 4 not kept"),
+        ("AnswersFromAnotherPort", "port_that_was_asked", "4 not kept"),
         ("EndsAtGarbage", "it_goes_on_after (one byte|1,500 zeros|three)", "3 ended"),
     ):
         command = [sys.executable, stand_in, fault, "0.1", "{address}", "{port}", "{name}"]
