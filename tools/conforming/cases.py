@@ -9,9 +9,9 @@ MUST, SHOULD = "MUST", "SHOULD"
 KEPT, NOT_KEPT, ENDED, NOT_OFFERED, NOT_SEEN = "kept", "not kept", "ended", "not offered", "not seen"
 
 # A case: its family's name and the label of its variant, the section, whether it is a MUST or a SHOULD, the function
-# that plays it with its values, the faults of which at least one must be found, what the proxy must offer, whether it
-# takes longer than a minute, and whether it is played while no other is.
-Case = namedtuple("Case", "family label section level function values faults needs is_long is_alone")
+# that plays it with its values, the faults of which at least one must be found, those that must all be found, what the
+# proxy must offer, whether it takes longer than a minute, and whether it is played while no other is.
+Case = namedtuple("Case", "family label section level function values faults always needs is_long is_alone")
 # What came of a case, and a text that says more: what came, or why it wasn't tried.
 Outcome = namedtuple("Outcome", "case result text", defaults=("",))
 
@@ -37,17 +37,19 @@ def case_list(section):
     """The cases of a section, and what a function is marked with to be among them.
 
     `each` has a variant for each of its values, or of its labels if it is a dictionary. A tuple is taken apart into
-    arguments of the function. `faults` are the stand-ins that it must find wrong: each variant one of them at least.
-    The function's doc comment is the sentence of the RFC that decides, where the requirement alone doesn't."""
+    arguments of the function. `faults` are the stand-ins that it must find wrong: each variant one of them at least,
+    and all that stand in `always`. The function's doc comment is the sentence of the RFC that decides, where the
+    requirement alone doesn't."""
     cases = []
 
-    def case(level, *faults, each=None, at=section, needs=(), is_long=False, is_alone=False):
+    def case(level, *faults, always=(), each=None, at=section, needs=(), is_long=False, is_alone=False):
         def note(function):
             labelled = each if isinstance(each, dict) else {str(value): value for value in each or ()}
             for label, value in labelled.items() if each else [("", ())]:
                 values = value if isinstance(value, tuple) else (value,)
                 cases.append(Case(
-                    function.__name__, label, at, level, function, values, faults, tuple(needs), is_long, is_alone
+                    function.__name__, label, at, level, function, values, (*faults, *always), tuple(always),
+                    tuple(needs), is_long, is_alone,
                 ))
             return function
 

@@ -188,10 +188,15 @@ class Client(Endpoint):
         return it
 
     def expect_rejection(self, data, seconds=SILENCE):
-        """Has what was sent be rejected: by a Reset that has its Message ID, or by silence."""
-        it = self.find(lambda it: True, seconds)
-        if it is not None and (it.message.kind != RST or it.data[2:4] != data[2:4]):
-            raise NotKept(f"a Reset or silence is right, {wire.told(it.data)} came")
+        """Has what was sent be rejected by a Reset that has its Message ID and is Empty (4.2). If it isn't Confirmable,
+        that may be sent, and silence is right as well (4.3)."""
+        is_confirmable = data[0] >> 4 & 3 == CON
+        right = wire.message(RST, EMPTY, int.from_bytes(data[2:4], "big"))
+        it = self.find(lambda it: True, PATIENCE if is_confirmable else seconds)
+        if it is None and is_confirmable:
+            raise NotKept("a Reset is right, nothing came")
+        if it is not None and it.data != right:
+            raise NotKept(f"{wire.told(right)} is right, {wire.told(it.data)} came")
 
     def expect_silence(self, what, seconds=SILENCE):
         """Has no datagram come for a while."""

@@ -1,4 +1,4 @@
-"""Section 3: the format of messages. Bytes that are no message are rejected or ignored, and never believed."""
+"""Section 3: the format of messages. Bytes that are no message are rejected, and never believed."""
 
 from conforming import wire
 from conforming.cases import MUST, SHOULD, case_list, expect
@@ -30,7 +30,8 @@ def plain_get(client, resource, kind=CON, options=(), token=b"\x01\x02\x03\x04")
 
 
 def is_not_served(stage, spoil, kind=CON):
-    """Has a GET that was spoilt be rejected or ignored, and never be forwarded; and a right one be served."""
+    """Has a GET that was spoilt be rejected, by a Reset if it is Confirmable, and never be forwarded; and a right one
+    be served."""
     resource, client = stage.resource(), stage.client()
     data = spoil(plain_get(client, resource, kind))
     client.send_raw(data)
@@ -86,7 +87,7 @@ def a_ping_of_another_version_is_ignored(stage, version):
     client.expect_silence("for another version")
 
 
-@case(MUST, "LongTokensTaken", each=range(9, 16))
+@case(MUST, "LongTokensTaken", always=["RejectsBySilence"], each=range(9, 16))
 def a_request_with_a_long_token_is_rejected(stage, length):
     """Lengths 9-15 are reserved, MUST NOT be sent, and MUST be processed as a message format error."""
 
@@ -114,7 +115,7 @@ def a_response_with_a_long_token_is_not_believed(stage, length):
     is_not_believed(stage, spoil)
 
 
-@case(MUST, "MarkerAloneTaken", each=KINDS)
+@case(MUST, "MarkerAloneTaken", "RejectsBySilence", each=KINDS)
 def a_request_with_a_marker_and_no_payload_is_rejected(stage, kind):
     """The presence of a marker followed by a zero-length payload MUST be processed as a message format error."""
     is_not_served(stage, lambda data: data + b"\xff", kind)
@@ -125,7 +126,7 @@ def a_response_with_a_marker_and_no_payload_is_not_believed(stage):
     is_not_believed(stage, lambda data: data + b"\xff")
 
 
-@case(MUST, "ReservedNibblesTaken", at="3.1", each=RESERVED)
+@case(MUST, "ReservedNibblesTaken", always=["RejectsBySilence"], at="3.1", each=RESERVED)
 def a_request_with_a_reserved_nibble_is_rejected(stage, raw):
     """If the field is set to 15 and the byte isn't the payload marker, it MUST be processed as a format error."""
     is_not_served(stage, lambda data: data + raw)
@@ -136,7 +137,7 @@ def a_response_with_a_reserved_nibble_is_not_believed(stage, raw):
     is_not_believed(stage, lambda data: data + raw)
 
 
-@case(MUST, "CutOptionsTaken", at="3.1", each=CUT)
+@case(MUST, "CutOptionsTaken", always=["RejectsBySilence"], at="3.1", each=CUT)
 def a_request_that_ends_within_an_option_is_rejected(stage, raw):
     """No sentence names this error; but the bytes that the length announces aren't there, so the value isn't known."""
     is_not_served(stage, lambda data: data + raw)
@@ -147,7 +148,7 @@ def a_response_that_ends_within_an_option_is_not_believed(stage, raw):
     is_not_believed(stage, lambda data: data + raw)
 
 
-@case(MUST, "CutOptionsTaken")
+@case(MUST, "CutOptionsTaken", always=["RejectsBySilence"])
 def a_request_that_ends_within_its_token_is_rejected(stage):
     client = stage.client()
     data = b"\x48\x01" + client.new_id().to_bytes(2, "big") + b"abcd"

@@ -65,15 +65,14 @@ def an_acknowledgement_comes_from_where_its_message_was_sent(stage, which):
     expect("where it came from", wanted, came.source)
 
 
-@case(MUST, "PingsAnswered", each=IDS)
+@case(MUST, "PingsAnswered", always=["RejectsBySilence"], each=IDS)
 def an_empty_confirmable_message_is_rejected(stage, message_id):
-    """It MUST be rejected: by a Reset that echoes the Message ID and is Empty, or by ignoring it."""
+    """The recipient MUST reject it; rejecting a Confirmable message is effected by sending a matching Reset message and
+    otherwise ignoring it. The Reset echoes the Message ID and is Empty."""
     client = stage.client()
     data = wire.message(CON, EMPTY, message_id)
     client.send_raw(data)
-    came = client.find(lambda it: True, SILENCE)
-    if came is not None:
-        expect("the Reset", wire.message(RST, EMPTY, message_id).hex(), came.data.hex())
+    client.expect_rejection(data)
 
 
 UNASKED = {
@@ -97,9 +96,9 @@ def an_acknowledgement_or_a_reset_is_not_answered(stage, kind, code, token):
 LONG = {"a token": b"\x41\x00\x12\x34a", "an option": b"\x40\x00\x12\x34\x11a", "a payload": b"\x40\x00\x12\x34\xffa"}
 
 
-@case(MUST, "LongEmptyAccepted", at="4.1", each=LONG)
+@case(MUST, "LongEmptyAccepted", always=["RejectsBySilence"], at="4.1", each=LONG)
 def an_empty_message_longer_than_its_header_is_rejected(stage, data):
-    """If there are any bytes, they MUST be processed as a message format error: so rejected, not acknowledged."""
+    """If there are any bytes, they MUST be processed as a message format error: so rejected by a Reset (4.2)."""
     client = stage.client()
     client.send_raw(data)
     client.expect_rejection(data)
@@ -135,9 +134,9 @@ def expect_again(stage, endpoint, first):
 RESERVED = {"1.00": 32, "1.31": 63, "6.00": 192, "6.31": 223, "7.00": 224, "7.31": 255}
 
 
-@case(MUST, "ReservedClassesAnswered", each=RESERVED)
+@case(MUST, "ReservedClassesAnswered", always=["RejectsBySilence"], each=RESERVED)
 def a_confirmable_message_of_a_reserved_class_is_rejected(stage, code):
-    """The recipient MUST reject it if it uses a code with a reserved class (1, 6, or 7)."""
+    """The recipient MUST reject it if it uses a code with a reserved class (1, 6, or 7): by a Reset."""
     client = stage.client()
     data = wire.message(CON, code, client.new_id(), b"\x01", wire.path("x"))
     client.send_raw(data)
@@ -156,9 +155,9 @@ def a_non_confirmable_message_of_a_reserved_class_is_rejected(stage, code):
 STRAY = {"2.05": CONTENT, "4.04": wire.code("4.04"), "5.04": wire.code("5.04")}
 
 
-@case(MUST, "StrayResponsesAcknowledged", at="4.2", each=STRAY)
+@case(MUST, "StrayResponsesAcknowledged", always=["RejectsBySilence"], at="4.2", each=STRAY)
 def a_confirmable_response_that_nobody_awaits_is_rejected(stage, code):
-    """It's a message that the recipient lacks context to process (5.3.2), so it isn't acknowledged."""
+    """It's a message that the recipient lacks context to process (5.3.2), so it is rejected by a Reset."""
     client = stage.client()
     data = wire.message(CON, code, client.new_id(), b"\x01\x02", [], b"x")
     client.send_raw(data)

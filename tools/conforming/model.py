@@ -153,9 +153,10 @@ class Proxy(Cache, Options, Targets, Origins, MessageLayer):
 
 
 class Separate(Proxy):
-    """Another right one: it acknowledges at once and answers separately, rejects by silence, and has short tokens."""
+    """Another right one: it acknowledges at once and answers separately, rejects Non-confirmable messages by Resets as
+    well, and has short tokens."""
 
-    waits, resets, token_length, bad_uri = 0, False, 4, BAD_OPTION
+    waits, resets, token_length, bad_uri = 0, (CON, NON), 4, BAD_OPTION
 
 
 class Bare(Proxy):

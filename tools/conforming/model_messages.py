@@ -33,8 +33,8 @@ class Sending:
 class MessageLayer:
     """Two sockets, one for clients and one for origins, and what is remembered of messages."""
 
-    # Whether what is rejected gets a Reset, and how many times a message is sent again.
-    resets, retransmissions = True, wire.MAX_RETRANSMIT
+    # Which messages get a Reset if they are rejected, and how many times a message is sent again.
+    resets, retransmissions = (CON,), wire.MAX_RETRANSMIT
     lifetimes = {CON: wire.EXCHANGE_LIFETIME, NON: wire.NON_LIFETIME}
     forgiven = ()
 
@@ -126,8 +126,8 @@ class MessageLayer:
         self.reject(sock, data, source)
 
     def reject(self, sock, data, source):
-        """Rejects a message: by a Reset if it is Confirmable, or by silence."""
-        if self.resets and data[0] >> 4 & 3 == CON:
+        """Rejects a message: by a Reset if it is Confirmable, or else by a Reset or by silence."""
+        if data[0] >> 4 & 3 in self.resets:
             self.send(sock, message(RST, EMPTY, int.from_bytes(data[2:4], "big")), source)
 
     def duplicate_key(self, sock, it, source):

@@ -62,9 +62,10 @@ def faults_of_wrong(cases, played):
     for case in cases:
         failed = [name for name in case.faults if played[name].get(name_of(case)) in (NOT_KEPT, ENDED)]
         found.update(failed)
+        came = ", ".join(f"{name}: {played[name].get(name_of(case))}" for name in case.faults)
         if not failed:
-            came = ", ".join(f"{name}: {played[name].get(name_of(case))}" for name in case.faults)
             faults.append(f"{name_of(case)}: no stand-in that is wrong fails it ({came})")
+        faults += [f"{name_of(case)}: {name} doesn't fail it ({came})" for name in case.always if name not in failed]
     for name in sorted({it for case in cases for it in case.faults} - found):
         faults.append(f"no case fails with {name}")
     return faults

@@ -40,7 +40,9 @@ def a_request_that_is_not_acknowledged_is_sent_again(stage):
     client.expect_code(request, CONTENT)
 
 
-@case(MUST, "SendsAgainAsNew", "SendsAgainElsewhere", each={"in its bytes": "bytes", "in where it comes from": "source"})
+@case(MUST, "SendsAgainAsNew", "SendsAgainElsewhere", each={
+    "in its bytes": "bytes", "in where it comes from": "source",
+})
 def a_retransmission_is_the_same_message(stage, what):
     """The sender retransmits the Confirmable message: the same Message ID, token, options and payload; and from the
     same address and port, without which its Message ID says nothing (4.4)."""

@@ -122,6 +122,10 @@ class AcksAnswered(Proxy):
             self.send(sock, message(RST, EMPTY, it.message_id), source)
 
 
+class RejectsBySilence(Proxy):
+    resets = ()
+
+
 class LongEmptyAccepted(Proxy):
     forgiven = ("empty",)
 

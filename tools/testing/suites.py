@@ -22,7 +22,7 @@ def one(stage):
 
 def outcome(name, level, result, text=""):
     """An outcome of a case that nobody plays."""
-    return Outcome(Case(name, "a # b", "5.6", level, one, (), (), (), False, False), result, text)
+    return Outcome(Case(name, "a # b", "5.6", level, one, (), (), (), (), False, False), result, text)
 
 
 SOME = [
@@ -107,6 +107,7 @@ def a_wrong_stand_in_is_not_kept():
     stand_in = os.path.join(TOOLS, "conforming", "stand_in")
     for fault, only, told in (
         ("UnsafeForwarded", "an_unsafe_option_is_refused|a_response_code_reaches", "11 kept, 4 not kept"),
+        ("RejectsBySilence", "empty_confirmable_message_is|a_request_with_a_long|a_.*class", "3 kept, 18 not kept"),
         ("AnswersFromAnotherPort", "port_that_was_asked", "4 not kept"),
         ("EndsAtGarbage", "it_goes_on_after (one byte|1,500 zeros|three)", "3 ended"),
     ):
@@ -132,7 +133,9 @@ def a_proxy_that_ends_is_no_pass():
     told = ["# all: 3 kept, 11 not kept, 1 ended, 1 not seen", "Bail out! the proxy answered no more"]
     expect("how it ends", (1, told), (status, text.splitlines()[-2:]), "the status", "the last lines")
     among = "is_not_acknowledged (GET|POST|PUT|DELETE)|acknowledged_while_its_origin"
-    for fault, only, told in (("EndsAfterFaults", only, "3 kept, 11 not kept, 2 ended"), ("EndsAmongMany", among, "8 ended")):
+    for fault, only, told in (
+        ("EndsAfterFaults", only, "3 kept, 11 not kept, 2 ended"), ("EndsAmongMany", among, "8 ended"),
+    ):
         command = [sys.executable, stand_in, fault, "0.1", "{address}", "{port}", "{name}"]
         status, text = run("--forward", "--only", only, "--", *command)
         came = status, text.splitlines()[-1]
