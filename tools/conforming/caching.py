@@ -131,26 +131,75 @@ def a_response_from_the_cache_is_as_it_was_stored(stage, code):
     expect_response(came, code=code, options=options, payload=b"whole")
 
 
-AGES = {"60": 60, "10": 10, "256": 256, "65,536": 65_536, "4,294,967,295": 0xFFFFFFFF, "none": None}
+def aged(seconds):
+    """The options for a Max-Age, or for none."""
+    return [] if seconds is None else [wire.max_age(seconds)]
 
 
-@case(MUST, "AgeIgnored", at="5.7.1", needs=("cache",), each=AGES)
-def a_response_from_the_cache_has_no_more_max_age_than_is_left(stage, seconds):
+def expect_age(came, seconds, held=0.0):
+    """Has a response have no more Max-Age than an origin gave, or 60 if it gave none, less the time that the response
+    was in a cache at least. A part of a second may be rounded in either way, and less is right: a proxy may shorten."""
+    most = (60 if seconds is None else seconds) - int(held)
+    values = wire.values_of(came, wire.MAX_AGE)
+    told = wire.number(values[0]) if values else 60
+    if told > most:
+        raise NotKept(f"a Max-Age of {most} at most is right, {told} came")
+
+
+def held_response(stage, code, options, asking=(), seconds=1.3):
+    """A response from the cache after some time, and how long it was there at least."""
+    resource = stage.resource()
+    stage.fetch(resource, options, code=code)
+    seen = time.monotonic()
+    time.sleep(seconds)
+    held = time.monotonic() - seen
+    return stage.get_stored(resource, asking).message, held
+
+
+MISSING, FAILED = wire.code("4.04"), wire.code("5.00")
+FORWARDED = {
+    "2.05, 10": (GET, CONTENT, 10), "2.05, 0": (GET, CONTENT, 0), "2.05, none": (GET, CONTENT, None),
+    "2.05, 65,536": (GET, CONTENT, 65_536), "4.04, 10": (GET, MISSING, 10), "4.04, none": (GET, MISSING, None),
+    "5.03, 30": (GET, wire.code("5.03"), 30), "2.04, 10": (POST, CHANGED, 10), "4.04 to a POST, 5": (POST, MISSING, 5),
+}
+
+
+@case(MUST, always=["AgesLongerForwarded", "AgesLongerWithoutCache", "AgesOneMore"], at="5.7.1", each=FORWARDED)
+def a_forwarded_response_has_no_more_max_age_than_its_origin_gave(stage, method, code, seconds):
+    """The Max-Age MUST NOT extend the max-age originally set by the server. No time in a cache has to be taken off
+    here; nothing may be put on by a proxy without a cache either."""
+    body = b"x" if method == POST else b""
+    came = stage.fetch(stage.resource(), aged(seconds), code=code, method=method, body=body).message
+    expect_response(came, code=code, payload=b"21")
+    expect_age(came, seconds)
+
+
+AGES = {
+    "60": (CONTENT, 60), "10": (CONTENT, 10), "256": (CONTENT, 256), "65,536": (CONTENT, 65_536),
+    "4,294,967,295": (CONTENT, 0xFFFFFFFF), "none": (CONTENT, None), "4.04, 30": (MISSING, 30),
+    "4.04, none": (MISSING, None), "5.00, 30": (FAILED, 30),
+}
+
+
+@case(
+    MUST, "AgesOfErrorsLonger", "AgesOfErrorsIgnored", always=["AgeIgnored"], at="5.7.1", needs=("cache",), each=AGES
+)
+def a_response_from_the_cache_has_no_more_max_age_than_is_left(stage, code, seconds):
     """The generated (or implied) Max-Age MUST NOT extend the max-age originally set by the server, considering the
     time the representation spent in the cache. An absent one implies 60."""
-    resource = stage.resource()
-    start = time.monotonic()
-    stage.fetch(resource, [] if seconds is None else [wire.max_age(seconds)])
-    seen = time.monotonic()
-    time.sleep(1.3)
-    sent = time.monotonic()
-    value = wire.values_of(stage.get_stored(resource).message, wire.MAX_AGE)
-    came = wire.number(value[0]) if value else 60
-    whole = 60 if seconds is None else seconds
-    if came > whole - int(sent - seen):
-        raise NotKept(f"at most {whole - int(sent - seen)} is right, {came} came")
-    if came < whole - (time.monotonic() - start) - 3:
-        raise NotKept(f"the age was {time.monotonic() - start:.1f} s, and {came} of {whole} came")
+    came, held = held_response(stage, code, aged(seconds))
+    expect("the code", wire.code_text(code), wire.code_text(came.code))
+    expect_age(came, seconds, held)
+
+
+@case(MUST, always=["ValidAgeIgnored"], at="5.7.1", needs=("cache",), each={"60": 60, "10": 10, "none": None})
+def a_2_03_of_the_cache_has_no_more_max_age_than_is_left(stage, seconds):
+    """It has the cache's client take what that has for fresh (5.9.1.3), so its Max-Age is that of the stored response,
+    less the time that it spent in the cache."""
+    came, held = held_response(stage, CONTENT, [TAG, *aged(seconds)], [TAG])
+    if came.code != VALID:
+        raise NotOffered("it answers with the content")
+    expect_age(came, seconds, held)
 
 
 # Validation
@@ -197,6 +246,7 @@ def a_2_03_selects_what_is_stored(stage):
     came = validate(stage, resource, VALID, [TAG, wire.max_age(30)])
     expect_response(came, code=CONTENT, payload=b"21")
     expect("its ETags", [TAG[1]], wire.values_of(came, wire.ETAG))
+    expect_age(came, 30)
 
 
 NEWS = {"2.05": CONTENT, "4.04": wire.code("4.04"), "5.00": wire.code("5.00")}
@@ -211,17 +261,30 @@ def anything_but_a_2_03_answers_the_request(stage, code):
     expect_response(came, code=code, payload=b"new")
 
 
-@case(MUST, "RenewalIgnored", at="5.9.1.3", needs=("cache",), each={"30": 30, "1,000": 1000, "none": None})
+@case(MUST, always=["RenewalIgnored"], at="5.9.1.3", needs=("cache",), each={"30": 30, "1,000": 1000, "none": None})
 def a_2_03_renews_the_max_age(stage, seconds):
     """The cache MUST update the stored response with the value of the Max-Age option included in it, explicitly or
-    implicitly as a default value."""
-    resource = stale(stage)
-    validate(stage, resource, VALID, [TAG] if seconds is None else [TAG, wire.max_age(seconds)])
+    implicitly as a default value. Here that is less than the one before, and a change made the response stale."""
+    resource = stage.resource()
+    stage.fetch(resource, [TAG, wire.max_age(5000)])
+    stage.fetch(resource, [], b"", CHANGED, method=PUT, body=b"x")
+    expect_age(validate(stage, resource, VALID, [TAG, *aged(seconds)]), seconds)
     came = stage.get_stored(resource).message
     expect("the payload", b"21", came.payload)
-    value = wire.values_of(came, wire.MAX_AGE)
-    left, whole = wire.number(value[0]) if value else 60, 60 if seconds is None else seconds
-    expect("whether the Max-Age is the new one", True, whole - 5 <= left <= whole)
+    expect_age(came, seconds)
+
+
+@case(MUST, always=["RenewalIgnored"], at="5.9.1.3", needs=("cache",))
+def what_a_2_03_renewed_for_long_stays_fresh(stage):
+    """.. also where the new value is more than the one before, so that the response is used when that has passed."""
+    resource = stale(stage)
+    validate(stage, resource, VALID, [TAG, wire.max_age(1000)])
+    stage.get_stored(resource)
+    time.sleep(1.3)
+    client = stage.client()
+    request = client.request(GET, resource.here)
+    resource.origin.expect_no_request("for what a 2.03 renewed for 1,000 s")
+    expect_response(client.expect_code(request, CONTENT).message, payload=b"21")
 
 
 @case(MUST, "RenewalIgnored", at="5.9.1.3", needs=("cache",))

@@ -154,9 +154,9 @@ class Proxy(Cache, Options, Targets, Origins, MessageLayer):
 
 class Separate(Proxy):
     """Another right one: it acknowledges at once and answers separately, rejects Non-confirmable messages by Resets as
-    well, and has short tokens."""
+    well, has short tokens, and gives nothing from its cache for more than a minute."""
 
-    waits, resets, token_length, bad_uri = 0, (CON, NON), 4, BAD_OPTION
+    waits, resets, token_length, bad_uri, most_age = 0, (CON, NON), 4, BAD_OPTION, 60
 
 
 class Bare(Proxy):

@@ -26,7 +26,8 @@ class Entry:
 class Cache:
     """What a proxy stores."""
 
-    default_age = 60
+    # What an absent Max-Age means, and the longest that anything is fresh.
+    default_age, most_age = 60, 0xFFFFFFFF
 
     def key_of(self, target, options):
         """The cache key of a GET."""
@@ -37,7 +38,7 @@ class Cache:
 
     def max_age_of(self, entry):
         values = [value for number, value in entry.options if number == MAX_AGE]
-        return wire.number(values[0]) if values else self.default_age
+        return min(self.most_age, wire.number(values[0]) if values else self.default_age)
 
     def age_of(self, entry):
         return time.monotonic() - entry.at

@@ -6,7 +6,9 @@ import time
 from conforming import wire
 from conforming.model_cache import CONTENT, RESERVED_LOCATIONS, VALID, Entry
 from conforming.model_options import REPEATED_IN_RESPONSES, RESPONSE_LENGTHS
-from conforming.wire import ACK, CON, ETAG, GET, NON, OBSERVE, POST, PROXY_SCHEME, URI_HOST, URI_PATH, URI_PORT, URI_QUERY
+from conforming.wire import (
+    ACK, CON, ETAG, GET, NON, OBSERVE, POST, PROXY_SCHEME, URI_HOST, URI_PATH, URI_PORT, URI_QUERY,
+)
 from testing.coap import PUT, message
 
 BAD_OPTION, BAD_GATEWAY, TIMEOUT = (wire.code(it) for it in ("4.02", "5.02", "5.04"))

@@ -3,7 +3,7 @@
 import time
 
 from conforming import wire
-from conforming.model import Proxy
+from conforming.model import Bare, Proxy
 from conforming.model_cache import VALID, Entry
 from conforming.model_wire import UriError
 from conforming.wire import ETAG, GET, MAX_AGE
@@ -77,6 +77,52 @@ class AgeIgnored(Proxy):
         return self.max_age_of(entry)
 
 
+def with_more_age(options, seconds):
+    """Options with a Max-Age of so many seconds more."""
+    values = [value for number, value in options if number == MAX_AGE]
+    age = (wire.number(values[0]) if values else 60) + seconds
+    others = [it for it in options if it[0] != MAX_AGE]
+    return sorted([*others, (MAX_AGE, wire.number_bytes(age))], key=lambda it: it[0])
+
+
+class AgesLongerForwarded(Proxy):
+    """Has what it forwards be fresh for a minute more."""
+
+    more, is_forwarding = 60, False
+
+    def on_answer(self, exchange, it):
+        self.is_forwarding = True
+        super().on_answer(exchange, it)
+        self.is_forwarding = False
+
+    def answer_options(self, options):
+        return with_more_age(options, self.more) if self.is_forwarding else super().answer_options(options)
+
+
+class AgesOneMore(AgesLongerForwarded):
+    more = 1
+
+
+class AgesLongerWithoutCache(Bare):
+    def answer_options(self, options):
+        return with_more_age(options, 1000)
+
+
+class AgesOfErrorsLonger(Proxy):
+    def shown_age(self, entry):
+        return super().shown_age(entry) + (60 if wire.is_error(entry.code) else 0)
+
+
+class AgesOfErrorsIgnored(Proxy):
+    def shown_age(self, entry):
+        return self.max_age_of(entry) if wire.is_error(entry.code) else super().shown_age(entry)
+
+
+class ValidAgeIgnored(Proxy):
+    def valid_options(self, entry):
+        return [(ETAG, entry.tag()), *self.age_option(self.max_age_of(entry))]
+
+
 class TagsNotSent(Proxy):
     def forward(self, waiter, target, key, validated):
         super().forward(waiter, target, key, None)
@@ -99,8 +145,6 @@ class NewsIgnored(Proxy):
 class RenewalIgnored(Proxy):
     def renewed(self, entry, options):
         entry.at, entry.is_stale = time.monotonic(), False
-        kept = [it for it in entry.options if it[0] != MAX_AGE]
-        entry.options = sorted([*kept, (MAX_AGE, b"\x0f")], key=lambda it: it[0])
 
 
 class OptionsNotRenewed(Proxy):
