@@ -45,6 +45,25 @@ def an_unknown_method_is_refused_in_a_non_confirmable_request(stage, method):
         expect("the code", "4.05", wire.code_text(came.message.code))
 
 
+OTHERS = {"FETCH": 5, "PATCH": 6, "iPATCH": 7}
+
+
+@case(MUST, always=["OtherMethodsAreGets"], each=OTHERS)
+def a_method_of_rfc_8132_is_forwarded_as_it_is_or_gives_4_05(stage, method):
+    """To who doesn't know them they are unrecognised methods. Who does forwards them as what they are."""
+    resource, client = stage.resource(), stage.client()
+    request = client.request(method, [*resource.here, (wire.CONTENT_FORMAT, b"\x32")], b"{}")
+    asked = resource.origin.new(SILENCE)
+    if asked is None:
+        client.expect_code(request, NOT_ALLOWED)
+        return
+    code = wire.code("2.05" if method == 5 else "2.04")
+    resource.origin.answer(asked, code)
+    expect("the method at the origin", wire.code_text(method), wire.code_text(asked.message.code))
+    expect("the payload at the origin", b"{}", asked.message.payload)
+    client.expect_code(request, code)
+
+
 SIZES = (1200, 1400, *range(1470, 1504), 2048, 4096, 16_000, 60_000)
 
 

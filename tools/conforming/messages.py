@@ -93,6 +93,16 @@ def an_acknowledgement_or_a_reset_is_not_answered(stage, kind, code, token):
     client.expect_silence("for it")
 
 
+@case(MUST, always=["RepliesServed"], each={"an acknowledgement": ACK, "a Reset": RST})
+def a_request_in_an_acknowledgement_or_a_reset_is_not_served(stage, kind):
+    """An Acknowledgement carries a response or is Empty, a Reset is Empty: another one is rejected by ignoring it. So
+    nothing is asked, and nothing comes back."""
+    resource, client = stage.resource(), stage.client()
+    client.send_raw(wire.message(kind, POST, client.new_id(), b"\x01", resource.here, b"x"))
+    resource.origin.expect_no_request("for a request in such a message")
+    client.expect_silence("for it", 0.05)
+
+
 LONG = {"a token": b"\x41\x00\x12\x34a", "an option": b"\x40\x00\x12\x34\x11a", "a payload": b"\x40\x00\x12\x34\xffa"}
 
 
@@ -246,6 +256,64 @@ def a_confirmable_request_that_comes_again_is_acknowledged_again(stage, method):
         raise NotKept(f"an acknowledgement is right, the client got {client.told()}")
     if first.message.kind == ACK and method == POST:
         expect("the acknowledgement", first.data.hex(), came.data.hex())
+
+
+KINDS = {"confirmable": CON, "non-confirmable": NON}
+
+
+def done(resource, client, body, kind, **more):
+    """Has a POST be done and answered, and returns it."""
+    request = client.request(POST, resource.here, body, kind, **more)
+    resource.origin.answer(resource.origin.asked(POST), CHANGED, [], b"")
+    client.expect_code(request, CHANGED)
+    client.came.clear()
+    return request
+
+
+@case(SHOULD, always=["LastRemembered"], at="4.5", each=KINDS)
+def an_earlier_request_that_comes_again_is_done_once(stage, kind):
+    """Each message is remembered for its lifetime, not only the last one: of A, B and again A, the third is a
+    duplicate."""
+    resource, client = stage.resource(), stage.client()
+    first, _ = (done(resource, client, body, kind) for body in (b"a", b"b"))
+    client.send_raw(first.data)
+    resource.origin.expect_no_request("for a duplicate")
+
+
+@case(SHOULD, always=["TokensTellDuplicates"], at="4.5", each=KINDS)
+def a_request_with_the_id_of_another_is_its_duplicate(stage, kind):
+    """A duplicate has the same Message ID and source endpoint (4.4). That its token is another one, as no client may
+    send it, makes no difference."""
+    resource, client = stage.resource(), stage.client()
+    first = done(resource, client, b"x", kind, token=b"one")
+    client.request(POST, resource.here, b"x", kind, b"other", first.message.message_id)
+    resource.origin.expect_no_request("for a duplicate")
+
+
+@case(SHOULD, always=["ForgetsAtOnce"], at="4.5", each=KINDS)
+def a_request_that_comes_again_after_eight_seconds_is_done_once(stage, kind):
+    """A message may come again for MAX_TRANSMIT_SPAN and MAX_LATENCY, and is remembered for longer (4.8.2)."""
+    resource, client = stage.resource(), stage.client()
+    request = done(resource, client, b"x", kind)
+    stage.sleep(8)
+    client.send_raw(request.data)
+    resource.origin.expect_no_request("for a duplicate")
+
+
+@case(MUST, always=["OriginsAreOne"], at="4.4", needs=("forward",))
+def a_message_id_of_another_origin_is_no_duplicate(stage):
+    """A Message ID is that of its endpoint: two origins may use the same one."""
+    clients, requests = [], []
+    for body in (b"one", b"two"):
+        resource, client = stage.resource(), stage.client()
+        requests.append(client.request(POST, resource.here, body))
+        asked = resource.origin.asked(POST)
+        resource.origin.acknowledge_if_confirmable(asked)
+        resource.origin.next_id = 7
+        resource.origin.answer(asked, CHANGED, [], body, CON)
+        clients.append(client)
+    for client, request in zip(clients, requests):
+        expect("the payload", request.message.payload, client.expect_code(request, CHANGED).message.payload)
 
 
 @case(SHOULD, "DuplicatesIgnored", at="4.5", needs=("cache",))

@@ -27,8 +27,8 @@ class Proxy(Cache, Options, Targets, Origins, MessageLayer):
 
     # What RFC 7252 leaves open: whether it caches; after how many seconds it acknowledges a request that isn't answered
     # yet; the length of its tokens; whether Non-confirmable requests are forwarded as such; whether it knows Observe;
-    # which error an invalid URI gets.
-    caches, waits, token_length, mirrors, knows_observe = True, 0.6, 8, False, True
+    # whether a GET waits for the answer to an equal one; which error an invalid URI gets.
+    caches, waits, token_length, mirrors, knows_observe, joins = True, 0.6, 8, False, True, True
     bad_uri, following = BAD_REQUEST, None
 
     def __init__(self, host, port, scale, names, maps):
@@ -156,7 +156,7 @@ class Separate(Proxy):
     """Another right one: it acknowledges at once and answers separately, rejects Non-confirmable messages by Resets as
     well, has short tokens, and gives nothing from its cache for more than a minute."""
 
-    waits, resets, token_length, bad_uri, most_age = 0, (CON, NON), 4, BAD_OPTION, 60
+    waits, resets, token_length, bad_uri, most_age, joins = 0, (CON, NON), 4, BAD_OPTION, 60, False
 
 
 class Bare(Proxy):

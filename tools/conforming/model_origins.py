@@ -30,8 +30,13 @@ class Origins:
     # Requests to origins
 
     def forward(self, waiter, target, key, validated):
-        """Sends a request on, once it is its turn."""
+        """Sends a request on, once it is its turn, or has a GET wait for the answer to an equal one."""
         to = self.following or (target.host, target.port)
+        joined = self.joined(target, key) if key is not None and self.joins else None
+        if joined is not None:
+            joined.waiters.append(waiter)
+            self.wait_for_answer(waiter)
+            return
         if self.is_silent(to):
             self.error(waiter, TIMEOUT)
             return
@@ -41,6 +46,10 @@ class Origins:
         self.wait_for_answer(waiter)
         self.queues.setdefault(to, []).append(exchange)
         self.send_next(to)
+
+    def joined(self, target, key):
+        """The request under way whose answer is that of a GET, too, or None."""
+        return next((it for it in self.exchanges.values() if it.key == key and not it.is_overtaken), None)
 
     def is_silent(self, to):
         """Whether an origin that didn't answer has to be left alone (4.7, PROBING_RATE)."""
@@ -173,7 +182,7 @@ class Origins:
         self.close(exchange)
         options = [one for one in it.options if one[0] != OBSERVE or not self.drops_observe()]
         code, options, payload = self.screened(exchange, it.code, options, it.payload)
-        self.on_change(exchange, code, options)
+        self.on_change(exchange, *self.change_of(it, code, options))
         entry = exchange.validated
         if code == VALID and exchange.method == GET and self.caches:
             code, options, payload, entry = self.on_valid(exchange, options)
@@ -187,6 +196,10 @@ class Origins:
                 self.give(waiter, entry)
             else:
                 self.respond(waiter, code, options, payload)
+
+    def change_of(self, it, code, options):
+        """The code and the options that tell what a response changed: as the origin sent them."""
+        return it.code, it.options
 
     def drops_observe(self):
         return self.knows_observe

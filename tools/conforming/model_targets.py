@@ -61,14 +61,20 @@ class Targets:
         port = self.port_of(found["port"])
         if not found["host"] or port > 65_535 or (found["path"] and not found["path"].startswith("/")):
             raise UriError(self.bad_uri)
-        path = self.segments_of(self.resolved(found["path"]))
-        return self.located(found["host"], port, path, self.arguments_of(found["query"]))
+        path, query = self.segments_of(self.resolved(found["path"])), self.arguments_of(found["query"])
+        if not self.are_options(path + query):
+            raise UriError(self.bad_uri)
+        return self.located(found["host"], port, path, query)
 
     def match_uri(self, value):
         try:
             return model_wire.URI.fullmatch(value.decode("ascii"))
         except UnicodeDecodeError:
             return None
+
+    def are_options(self, parts):
+        """Whether the parts of a URI have the lengths that options may have."""
+        return all(len(it) <= 255 for it in parts)
 
     def port_of(self, text):
         return int(text) if text else 5683

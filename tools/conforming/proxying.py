@@ -124,6 +124,17 @@ def an_unsafe_option_of_a_response_gives_5_02_with_each_method(stage, method, co
     expect("the code", "5.02", wire.code_text(response.message.code))
 
 
+@case(MUST, always=["UnsafeReturnedSeparately"], each=KINDS)
+def an_unsafe_option_of_a_separate_response_gives_5_02(stage, kind):
+    """It makes no difference in which message a response comes."""
+    resource, client = stage.resource(), stage.client()
+    request = client.request(GET, resource.here)
+    asked = resource.origin.asked(GET)
+    resource.origin.acknowledge_if_confirmable(asked)
+    resource.origin.answer(asked, CONTENT, [(wire.UNSAFE_CRITICAL, b"x")], kind=kind)
+    client.expect_code(request, BAD_GATEWAY)
+
+
 @case(MUST, "SafeNotReturned", each={name: tuple(options) for name, options in SAFE.items()})
 def an_unrecognised_safe_option_of_a_response_is_forwarded(stage, *options):
     """Unrecognized options of class Safe-to-Forward in a response MUST be forwarded."""

@@ -118,6 +118,11 @@ class Stage:
         named = by_proxy_uri if way == "forward" else by_proxy_scheme
         return Resource(origin or self.origin(), [], segments, query, named)
 
+    def root(self):
+        """A resource of an origin that has no path but that of a prefix, and a query that no other case has."""
+        whole = self.resource(query=[self.mark])
+        return Resource(whole.origin, whole.base, [], [self.mark], whole.way)
+
     def reverse_resource(self, segments, query):
         """A resource under a prefix of the reverse-proxy, whose origin belongs to this case until it is done."""
         if not self.leases:

@@ -46,6 +46,8 @@ PARTS = {
     "a segment encoded whole": ("/" + 80 * "%41", [80 * b"A"], []),
     "40 segments": ("/a" * 40, 40 * [b"a"], []),
     "40 queries": ("?" + "&".join(40 * ["q"]), [], 40 * [b"q"]),
+    "200 segments": ("/a" * 200, 200 * [b"a"], []),
+    "200 queries": ("?" + "&".join(200 * ["q"]), [], 200 * [b"q"]),
     "260 bytes of segments": ("/" + "/".join(5 * [51 * "s"]), 5 * [51 * b"s"], []),
     "900 bytes of segments": ("/" + "/".join(9 * [99 * "s"]), 9 * [99 * b"s"], []),
     "900 bytes of queries": ("/a?" + "&".join(9 * [99 * "q"]), [b"a"], 9 * [99 * b"q"]),
@@ -54,6 +56,7 @@ PARTS = {
 URI_FAULTS = (
     "UrisNotDecoded", "UrisDecodedTwice", "EmptySegmentsLost", "SplitAfterDecoding", "QueriesNotSplit", "UrisCut",
     "DotsKept", "PlusIsSpace", "PathLost", "DelimitersSplit", "LowerCaseUndecoded", "UriLost", "UriPartsCut",
+    "UriPartsCounted",
 )
 
 
@@ -116,17 +119,36 @@ WRONG = {
     "a reference without a scheme": "//{host}:{port}/{mark}",
     "a bracket that isn't closed": "coap://[::1:{port}/{mark}",
     "text": "no uri",
+    "a user": "coap://user@{host}:{port}/{mark}",
+    "a user and a password": "coap://user:word@{host}:{port}/{mark}",
 }
 
 
-@case(MUST, "SloppyUris", needs=("forward",), each=WRONG)
+@case(MUST, "SloppyUris", "UsersTaken", needs=("forward",), each=WRONG)
 def a_uri_that_is_no_request_gives_an_error(stage, form):
     """If the string isn't an absolute URI, or has a fragment, then the algorithm fails; a coap URI without a host is
-    invalid (6.1)."""
+    invalid, and has no user (6.1)."""
     origin, client = stage.origin(), stage.client()
     uri = form.format(host=origin.host, port=origin.port, mark=stage.mark.decode()).encode()
     request = client.request(GET, [(PROXY_URI, uri)])
     origin.expect_no_request("for what is no URI", SILENCE / 2)
+    client.expect_error(request)
+
+
+TOO_LONG = {
+    "a segment of 256 bytes": "/" + 256 * "s", "a query of 256 bytes": "?" + 256 * "q",
+    "a segment of 256 bytes among others": "/a/" + 256 * "s" + "/b", "a segment that is encoded": "/" + 256 * "%20",
+}
+
+
+@case(MUST, always=["LongPartsSent"], needs=("forward",), each=TOO_LONG)
+def a_uri_that_no_options_can_have_gives_an_error(stage, text):
+    """A Uri-Path and a Uri-Query have at most 255 bytes (5.10, table 4); one that is longer is unrecognised by whoever
+    gets it (5.4.3). So such a URI can't be asked for, and least of all a part of it."""
+    origin, client = stage.origin(), stage.client()
+    uri = f"coap://{origin.host}:{origin.port}/{stage.mark.decode()}{text}".encode()
+    request = client.request(GET, [(PROXY_URI, uri)])
+    origin.expect_no_request("for what no options can have", SILENCE / 2)
     client.expect_error(request)
 
 
@@ -166,10 +188,11 @@ ODD = {
     "a slash": (b"a/b",), "a question mark": (b"a?b",), "a hash": (b"a#b",), "a percent sign": (b"a%b",),
     "an encoding": (b"a%2Fb",), "a space": (b"a b",), "UTF-8": ("€".encode(),), "an empty segment": (b"a", b"", b"b"),
     "an empty last segment": (b"a", b""), "an ampersand": (b"a&b",), "255 bytes": (255 * b"s",), "a plus": (b"a+b",),
+    "200 segments": 200 * (b"a",),
 }
 COMPOSE_FAULTS = (
     "ComposedUnescaped", "EmptySegmentsLost", "UriPartsCut", "SplitAfterDecoding", "PlusIsSpace", "UrisDecodedTwice",
-    "EncodedAgain",
+    "EncodedAgain", "UriPartsCounted",
 )
 
 
@@ -186,6 +209,7 @@ def a_path_under_a_prefix_has_the_same_options_at_the_origin(stage, *segments):
 
 QUERIES = {
     "an ampersand": (b"a&b",), "an empty one": (b"a", b""), "a percent sign": (b"50%",), "255 bytes": (255 * b"q",),
+    "200 of them": 200 * (b"q",),
 }
 
 

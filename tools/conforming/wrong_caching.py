@@ -209,3 +209,52 @@ class StoredBeforeChange(Proxy):
     def mark(self, target):
         for entry in self.store.values():
             entry.is_stale = entry.is_stale or entry.target == target
+
+
+class RootKept(Proxy):
+    def mark(self, target):
+        if target.path:
+            super().mark(target)
+
+
+class VariantsKept(Proxy):
+    """Has a change mark only what was got without options."""
+
+    def mark(self, target):
+        kept = [entry for (_, options), entry in self.store.items() if options and not entry.is_stale]
+        super().mark(target)
+        for entry in kept:
+            entry.is_stale = False
+
+
+class RefusedChangesIgnored(Proxy):
+    """Takes what a client is told for what an origin said of a change."""
+
+    def change_of(self, it, code, options):
+        return code, options
+
+
+class RefusedStored(Proxy):
+    """Stores what it gave 5.02 for."""
+
+    def on_answer(self, exchange, it):
+        super().on_answer(exchange, it)
+        if exchange.key is not None and exchange.key not in self.store:
+            self.store[exchange.key] = Entry(exchange.target, it.code, it.options, it.payload)
+
+
+class SecondTagsCount(Proxy):
+    def has_tag(self, request, entry):
+        return any(it[0] == ETAG and it in entry.options for it in request.options)
+
+
+class JoinsByTarget(Proxy):
+    """Has a GET wait for the answer to any other one of its target."""
+
+    def joined(self, target, key):
+        return next((it for it in self.exchanges.values() if it.target == target and it.method == GET), None)
+
+
+class JoinsAfterChange(Proxy):
+    def joined(self, target, key):
+        return next((it for it in self.exchanges.values() if it.key == key), None)

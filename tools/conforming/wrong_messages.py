@@ -126,6 +126,15 @@ class RejectsBySilence(Proxy):
     resets = ()
 
 
+class RepliesServed(Proxy):
+    """Serves a request whatever message it is in."""
+
+    def on_reply(self, sock, it, source):
+        super().on_reply(sock, it, source)
+        if sock is self.front and wire.is_request(it.code):
+            self.on_request(it, source, Record(0))
+
+
 class LongEmptyAccepted(Proxy):
     forgiven = ("empty",)
 
@@ -174,6 +183,28 @@ class DuplicatesIgnored(Proxy):
         pass
 
 
+class LastRemembered(Proxy):
+    """Remembers of each endpoint the last message alone."""
+
+    def duplicate_key(self, sock, it, source):
+        key = super().duplicate_key(sock, it, source)
+        for other in [one for one in self.known if one[:2] == key[:2] and one != key]:
+            del self.known[other]
+        return key
+
+
+class TokensTellDuplicates(Proxy):
+    def duplicate_key(self, sock, it, source):
+        return (*super().duplicate_key(sock, it, source), it.token)
+
+
+class OriginsAreOne(Proxy):
+    """Knows the messages of origins by their Message IDs alone."""
+
+    def duplicate_key(self, sock, it, source):
+        return (sock, it.message_id) if sock is self.back else super().duplicate_key(sock, it, source)
+
+
 class SourcesAreOne(Proxy):
     def duplicate_key(self, sock, it, source):
         return sock, it.message_id
@@ -193,6 +224,10 @@ class ForgetsNever(Proxy):
 
 class ForgetsSoon(Proxy):
     lifetimes = {CON: 60, NON: 60}
+
+
+class ForgetsAtOnce(Proxy):
+    lifetimes = {CON: 5, NON: 5}
 
 
 class IdsRepeat(Proxy):

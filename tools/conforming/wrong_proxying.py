@@ -2,7 +2,7 @@
 
 from conforming.model import NOT_FOUND, Proxy
 from conforming.model_options import REQUEST_LENGTHS
-from conforming.wire import BLOCK1, BLOCK2, ETAG, OBSERVE, SIZE2, URI_PATH, URI_QUERY
+from conforming.wire import BLOCK1, BLOCK2, ETAG, GET, OBSERVE, SIZE2, URI_PATH, URI_QUERY
 
 
 # What is forwarded and returned
@@ -26,6 +26,21 @@ class SafeLost(Proxy):
 class UnsafeReturned(Proxy):
     def screened(self, exchange, code, options, payload):
         return code, options, payload
+
+
+class UnsafeReturnedSeparately(Proxy):
+    """Looks at the options of piggybacked responses alone."""
+
+    def on_response(self, sock, it, source):
+        self.is_separate = True
+        return super().on_response(sock, it, source)
+
+    def on_piggybacked(self, it, source):
+        self.is_separate = False
+        super().on_piggybacked(it, source)
+
+    def screened(self, exchange, code, options, payload):
+        return (code, options, payload) if self.is_separate else super().screened(exchange, code, options, payload)
 
 
 class SafeNotReturned(Proxy):
@@ -67,6 +82,16 @@ class BrokenGivesTimeout(Proxy):
 class UnknownMethodsForwarded(Proxy):
     def is_known_method(self, code):
         return True
+
+
+class OtherMethodsAreGets(Proxy):
+    def is_known_method(self, code):
+        return code in (5, 6, 7) or super().is_known_method(code)
+
+    def serve(self, waiter):
+        if waiter.request.code in (5, 6, 7):
+            waiter.request = waiter.request._replace(code=GET)
+        super().serve(waiter)
 
 
 class UnknownMethodsAreBad(Proxy):

@@ -1,5 +1,6 @@
 """Stand-ins that are wrong in one respect of targets: whose a URI is, and which Uri options it becomes."""
 
+import re
 import urllib.parse
 
 from conforming import model_wire, wire
@@ -106,6 +107,25 @@ class UriPartsCut(Proxy):
 
     def target_options(self, target):
         return [(number, value[:50]) for number, value in super().target_options(target)][:9]
+
+
+class UriPartsCounted(Proxy):
+    """Has room for 60 segments and 45 queries."""
+
+    def target_options(self, target):
+        return super().target_options(target._replace(path=target.path[:60], query=target.query[:45]))
+
+
+class LongPartsSent(Proxy):
+    def are_options(self, parts):
+        return True
+
+
+class UsersTaken(Proxy):
+    """Passes over what stands before an at sign."""
+
+    def match_uri(self, value):
+        return super().match_uri(re.sub(rb"//[^/@]*@", b"//", value))
 
 
 class DotsKept(Proxy):

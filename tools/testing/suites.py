@@ -108,6 +108,7 @@ def a_wrong_stand_in_is_not_kept():
     for fault, only, told in (
         ("UnsafeForwarded", "an_unsafe_option_is_refused|a_response_code_reaches", "11 kept, 4 not kept"),
         ("RejectsBySilence", "empty_confirmable_message_is|a_request_with_a_long|a_.*class", "3 kept, 18 not kept"),
+        ("VariantsKept", "with_options_stale|change_makes_the_root", "3 kept, 3 not kept"),
         ("AnswersFromAnotherPort", "port_that_was_asked", "4 not kept"),
         ("EndsAtGarbage", "it_goes_on_after (one byte|1,500 zeros|three)", "3 ended"),
     ):
