@@ -7,6 +7,8 @@ from testing.telling import parts_text
 
 MUST, SHOULD = "MUST", "SHOULD"
 KEPT, NOT_KEPT, ENDED, NOT_OFFERED, NOT_SEEN = "kept", "not kept", "ended", "not offered", "not seen"
+# What wasn't kept, and was when it was played again; and what the suite itself stumbled over.
+KEPT_AGAIN, ERROR = "kept at the second time", "error"
 
 # A case: its family's name and the label of its variant, the section, whether it is a MUST or a SHOULD, the function
 # that plays it with its values, the faults of which at least one must be found, those that must all be found, what the

@@ -4,9 +4,11 @@ import json
 import re
 
 from conforming import rows
-from conforming.cases import ENDED, KEPT, NOT_KEPT, NOT_OFFERED, NOT_SEEN, SHOULD, name_of
+from conforming.cases import (
+    ENDED, ERROR, KEPT, KEPT_AGAIN, MUST, NOT_KEPT, NOT_OFFERED, NOT_SEEN, SHOULD, name_of,
+)
 
-RESULTS = (KEPT, NOT_KEPT, ENDED, NOT_OFFERED, NOT_SEEN)
+RESULTS = (KEPT, KEPT_AGAIN, NOT_KEPT, ENDED, NOT_OFFERED, NOT_SEEN, ERROR)
 BEGIN, END = "<!-- made by tools/conformance: begin -->", "<!-- made by tools/conformance: end -->"
 
 
@@ -30,7 +32,8 @@ def tap_lines(number, outcome):
         return [f"ok {number} - {text} # SKIP {outcome.result}: {outcome.text}"]
     # A SHOULD that isn't kept is no failure to a harness: there may be reasons for it. For an end there are none.
     is_todo = case.level == SHOULD and outcome.result == NOT_KEPT
-    lines = [f"not ok {number} - {text}" + (" # TODO a SHOULD" if is_todo else "")]
+    begin = "ok" if outcome.result == KEPT_AGAIN else "not ok"
+    lines = [f"{begin} {number} - {text}" + (" # TODO a SHOULD" if is_todo else "")]
     fields = {
         "result": outcome.result, "level": case.level, "section": case.section,
         "requirement": rows.words_of(case.family), "rfc": sentence_of(case), "came": outcome.text,
@@ -44,6 +47,19 @@ def tap(outcomes):
     for number, outcome in enumerate(outcomes, 1):
         lines += tap_lines(number, outcome)
     return "\n".join([*lines, *("# " + it for it in summary(outcomes))])
+
+
+def status(outcomes):
+    """The status of a run: 2 if the suite itself stumbled, 1 if a MUST wasn't kept or the proxy ended, or else 0."""
+    if any(it.result == ERROR for it in outcomes):
+        return 2
+    return int(any(it.result == ENDED or it.result == NOT_KEPT and it.case.level == MUST for it in outcomes))
+
+
+def listed(case):
+    """A case, what it needs, and whether it takes long, in one line."""
+    notes = [*case.needs, *(["--long"] if case.is_long else [])]
+    return f"{case.section} {case.level} {name_of(case)}" + (f" [{', '.join(notes)}]" if notes else "")
 
 
 def section_key(section):
@@ -108,12 +124,14 @@ def table(runs):
 
 
 def totals(runs):
-    """A table of how many cases of each level came to what."""
-    lines = ["| | " + " | ".join(RESULTS) + " |", "|---|" + "---:|" * len(RESULTS)]
+    """A table of how many cases of each level came to what. Errors of the suite are a column only if there were any."""
+    came = {it[3] for run in runs for it in run["results"].values()}
+    results = [it for it in RESULTS if it != ERROR or it in came]
+    lines = ["| | " + " | ".join(results) + " |", "|---|" + "---:|" * len(results)]
     for run in runs:
         for level in ("MUST", "SHOULD"):
             some = [it for it in run["results"].values() if it[2] == level]
-            counts = [str(sum(it[3] == result for it in some)) for result in RESULTS]
+            counts = [str(sum(it[3] == result for it in some)) for result in results]
             lines.append(f"| {run['what']}, {level} | " + " | ".join(counts) + " |")
     return lines
 

@@ -1,10 +1,14 @@
 """Plays cases against a proxy: many at once, again where the machine may have been too slow, and each alone where the
 proxy's process ended. A proxy that ends is never a pass: at least the cases that were in play have ended it."""
 
+import os
 import time
+import traceback
 from concurrent.futures import ThreadPoolExecutor, as_completed
 
-from conforming.cases import ENDED, KEPT, NOT_KEPT, NOT_OFFERED, NOT_SEEN, Broken, NotKept, NotOffered, Outcome, name_of
+from conforming.cases import (
+    ENDED, ERROR, KEPT, KEPT_AGAIN, NOT_KEPT, NOT_OFFERED, NOT_SEEN, Broken, NotKept, NotOffered, Outcome, name_of,
+)
 from conforming.running import Proxy
 from conforming.stage import Stage
 
@@ -39,9 +43,11 @@ def try_case(proxy, case, scale):
     except Broken as text:
         return Outcome(case, NOT_SEEN, str(text))
     except OSError as error:
-        return Outcome(case, NOT_SEEN, f"the system refused it: {error}")
+        return Outcome(case, ERROR, f"the system refused it: {error}")
     except Exception as error:
-        return Outcome(case, NOT_SEEN, f"a fault of the suite: {type(error).__name__}: {error}")
+        line = traceback.extract_tb(error.__traceback__)[-1]
+        where = f"{os.path.basename(line.filename)}, line {line.lineno}"
+        return Outcome(case, ERROR, f"a fault of the suite: {type(error).__name__}: {error} ({where})")
     return Outcome(case, KEPT)
 
 
@@ -56,10 +62,15 @@ class Play:
         self.until = time.monotonic() + BOUND
 
     def note(self, outcome):
-        """Notes what came of a case. What was played before and isn't seen now stays as it was."""
+        """Notes what came of a case. What wasn't kept at first and isn't seen now stays so; what is kept now is told of
+        with what came at first."""
         before = self.outcomes.get(name_of(outcome.case))
-        if before is None or outcome.result != NOT_SEEN:
-            self.outcomes[name_of(outcome.case)] = outcome
+        if before is not None and before.result == NOT_KEPT:
+            told = {KEPT: before.text, NOT_OFFERED: f"{outcome.text}; at first {before.text}"}
+            result = {KEPT: KEPT_AGAIN, NOT_SEEN: NOT_KEPT}.get(outcome.result, outcome.result)
+            text = before.text if outcome.result == NOT_SEEN else told.get(outcome.result, outcome.text)
+            outcome = Outcome(outcome.case, result, text)
+        self.outcomes[name_of(outcome.case)] = outcome
         self.tell(len(self.outcomes))
 
     def has_time(self):

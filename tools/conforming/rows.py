@@ -3,7 +3,7 @@
 import os
 import re
 
-from conforming.cases import NOT_OFFERED, NOT_SEEN
+from conforming.cases import KEPT, KEPT_AGAIN, NOT_OFFERED, NOT_SEEN
 
 TOP = os.path.dirname(os.path.dirname(os.path.dirname(os.path.abspath(__file__))))
 PAGE = os.path.join(TOP, "docs", "RFC7252.md")
@@ -79,7 +79,7 @@ def check_outcomes(outcomes):
         family = outcome.case.family
         is_seen = outcome.result not in (NOT_SEEN, NOT_OFFERED)
         seen[family] = seen.get(family, 0) + is_seen
-        if is_seen and outcome.result != "kept":
+        if is_seen and outcome.result not in (KEPT, KEPT_AGAIN):
             failed[family] = failed.get(family, 0) + 1
             if family not in told:
                 faults.append(f"{family} {outcome.case.label} is {outcome.result}: {outcome.text}")

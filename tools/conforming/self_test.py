@@ -6,7 +6,7 @@ import sys
 from concurrent.futures import ThreadPoolExecutor
 
 from conforming import model
-from conforming.cases import ENDED, KEPT, NOT_KEPT, NOT_OFFERED, name_of
+from conforming.cases import ENDED, KEPT, KEPT_AGAIN, NOT_KEPT, NOT_OFFERED, name_of
 from conforming.playing import Play
 from conforming.running import ORIGINS, Proxy, Setup
 
@@ -48,9 +48,9 @@ def faults_of_right(cases, played):
     for place, case in enumerate(cases):
         came = {name: outcomes[place] for name, outcomes in played.items() if name in RIGHT}
         for name, outcome in came.items():
-            if outcome.result not in (KEPT, NOT_OFFERED):
+            if outcome.result not in (KEPT, KEPT_AGAIN, NOT_OFFERED):
                 faults.append(f"{name_of(case)}: {outcome.result} with {name}, which is right: {outcome.text}")
-        if sum(it.result == KEPT for it in came.values()) < 2:
+        if sum(it.result in (KEPT, KEPT_AGAIN) for it in came.values()) < 2:
             told = ", ".join(f"{name}: {it.result} {it.text}" for name, it in came.items())
             faults.append(f"{name_of(case)}: kept with fewer than two right ones ({told})")
     return faults

@@ -10,7 +10,11 @@ import sys
 import tempfile
 
 from conforming import output, rows, suite
-from conforming.cases import ENDED, KEPT, MUST, NOT_KEPT, NOT_OFFERED, SHOULD, Case, Outcome
+from conforming.cases import (
+    ENDED, ERROR, KEPT, KEPT_AGAIN, MUST, NOT_KEPT, NOT_OFFERED, NOT_SEEN, SHOULD, Case, NotKept, NotOffered, Outcome,
+)
+from conforming.playing import Play
+from conforming.running import Setup
 from testing.network import Skipped, expect, free_port
 
 TOOLS = os.path.dirname(os.path.dirname(os.path.abspath(__file__)))
@@ -28,10 +32,11 @@ def outcome(name, level, result, text=""):
 SOME = [
     outcome("kept_one", MUST, KEPT), outcome("lost_one", MUST, NOT_KEPT, 'a "b" came'),
     outcome("dear_one", SHOULD, NOT_KEPT, "x"), outcome("bare_one", MUST, NOT_OFFERED, "it has no cache"),
-    outcome("last_one", MUST, ENDED, "it ended"),
+    outcome("last_one", MUST, ENDED, "it ended"), outcome("rare_one", MUST, KEPT_AGAIN, "z"),
+    outcome("own_one", MUST, ERROR, "y"),
 ]
 TAP = """TAP version 14
-1..5
+1..7
 ok 1 - 5.6 MUST kept_one a \\# b
 not ok 2 - 5.6 MUST lost_one a \\# b
   ---
@@ -58,10 +63,26 @@ not ok 5 - 5.6 MUST last_one a \\# b
   rfc: "The sentence that decides."
   came: "it ended"
   ...
-# 5.6: 1 kept, 2 not kept, 1 ended, 1 not offered
-# MUST: 1 kept, 1 not kept, 1 ended, 1 not offered
+ok 6 - 5.6 MUST rare_one a \\# b
+  ---
+  result: "kept at the second time"
+  level: "MUST"
+  section: "5.6"
+  rfc: "The sentence that decides."
+  came: "z"
+  ...
+not ok 7 - 5.6 MUST own_one a \\# b
+  ---
+  result: "error"
+  level: "MUST"
+  section: "5.6"
+  rfc: "The sentence that decides."
+  came: "y"
+  ...
+# 5.6: 1 kept, 1 kept at the second time, 2 not kept, 1 ended, 1 not offered, 1 error
+# MUST: 1 kept, 1 kept at the second time, 1 not kept, 1 ended, 1 not offered, 1 error
 # SHOULD: 1 not kept
-# all: 1 kept, 2 not kept, 1 ended, 1 not offered"""
+# all: 1 kept, 1 kept at the second time, 2 not kept, 1 ended, 1 not offered, 1 error"""
 
 
 def cases_stand_in_rows():
@@ -75,6 +96,56 @@ def cases_stand_in_rows():
 def output_is_tap():
     """What is written for each kind of result."""
     expect("the output", TAP.splitlines(), output.tap(SOME).splitlines())
+    wanted = {"kept_one": 0, "lost_one": 1, "dear_one": 0, "bare_one": 0, "last_one": 1, "rare_one": 0, "own_one": 2}
+    expect("the status of each", wanted, {it.case.family: output.status([it]) for it in SOME})
+    expect("the status of all", 2, output.status(SOME))
+
+
+class Nobody:
+    """A proxy that isn't there, for cases that ask nothing of it."""
+
+    setup, offers, scale, count = Setup(["nobody"], None, None, None, True, []), {"forward"}, 1.0, 1
+
+    def start(self):
+        return self.count
+
+    def is_running(self):
+        return True
+
+
+def what_comes_and_goes_is_told():
+    """What is kept when it is played again, not offered then, or not seen, is told with what came at first; and a fault
+    of the suite is an error."""
+    faults, came = {"keeps": None, "has_not": NotOffered("not there"), "errs": ValueError("a slip")}, {}
+
+    def play(name):
+        def function(stage):
+            came[name] = came.get(name, 0) + 1
+            if came[name] == 1 and name != "errs":
+                raise NotKept("this")
+            if faults[name] is not None:
+                raise faults[name]
+
+        return Case(name, "", "5.6", MUST, function, (), (), (), (), False, False)
+
+    outcomes = {it.case.family: it for it in Play(Nobody()).play([play(name) for name in faults])}
+    expect("what is kept then", (KEPT_AGAIN, "this"), outcomes["keeps"][1:])
+    expect("what isn't there then", (NOT_OFFERED, "not there; at first this"), outcomes["has_not"][1:])
+    erred = outcomes["errs"]
+    expect("a fault of the suite", (ERROR, True), (erred.result, "ValueError: a slip" in erred.text))
+    later = Play(Nobody())
+    for result in (NOT_KEPT, NOT_SEEN):
+        later.note(Outcome(play("keeps"), result, result))
+    expect("what isn't seen then", (NOT_KEPT, NOT_KEPT), later.outcomes["keeps"][1:])
+
+
+def cases_are_listed():
+    """All that --only names, in lines of their own."""
+    status, text = run("--list", "--only", "^3 MUST a_ping|ends_within_its_token|a_silent_origin")
+    wanted = [f"3 MUST a_ping_of_another_version_is_ignored {it}" for it in (0, 2, 3)]
+    wanted += ["3 MUST a_request_that_ends_within_its_token_is_rejected"]
+    wanted += ["4.7 MUST a_silent_origin_is_sent_a_byte_a_second [--long]"]
+    expect("what is listed", (0, wanted), (status, text.splitlines()), "the status", "the lines")
 
 
 def rows_are_compared():
@@ -201,5 +272,6 @@ def builds_are_compared(program):
 
 CASES = (
     cases_stand_in_rows, output_is_tap, rows_are_compared, stand_ins_are_told_apart, a_wrong_stand_in_is_not_kept,
-    a_proxy_that_ends_is_no_pass, what_cannot_be_tried_is_said, a_load_finds_wrong_answers,
+    a_proxy_that_ends_is_no_pass, what_comes_and_goes_is_told, cases_are_listed, what_cannot_be_tried_is_said,
+    a_load_finds_wrong_answers,
 )
