@@ -12,10 +12,17 @@ KEPT_AGAIN, ERROR = "kept at the second time", "error"
 
 # A case: its family's name and the label of its variant, the section, whether it is a MUST or a SHOULD, the function
 # that plays it with its values, the faults of which at least one must be found, those that must all be found, what the
-# proxy must offer, whether it takes longer than a minute, and whether it is played while no other is.
-Case = namedtuple("Case", "family label section level function values faults always needs is_long is_alone")
-# What came of a case, and a text that says more: what came, or why it wasn't tried.
-Outcome = namedtuple("Outcome", "case result text", defaults=("",))
+# proxy must offer, whether it takes longer than a minute, whether it is played while no other is, and the way in which
+# the proxy is asked, if it isn't the first one that it offers.
+Case = namedtuple(
+    "Case", "family label section level function values faults always needs is_long is_alone way", defaults=("",)
+)
+# What came of a case, a text that says more: what came, or why it wasn't tried; and the ways in which the proxy was
+# asked.
+Outcome = namedtuple("Outcome", "case result text ways", defaults=("", ()))
+# The ways to ask a proxy for what an origin has, and what is said of them; and what is played in one way alone.
+WAYS = {"forward": "by Proxy-Uri", "scheme": "by Proxy-Scheme", "reverse": "under a prefix"}
+IN_ONE_WAY = {*WAYS, "chain", "libcoap", "any address"}
 
 
 class NotKept(Exception):
@@ -31,8 +38,14 @@ class Broken(Exception):
 
 
 def name_of(case):
-    """The name of a case: that of its family, and the label of its variant if there is one."""
-    return f"{case.family} {case.label}" if case.label else case.family
+    """The name of a case: that of its family, the label of its variant if there is one, and its way if it has one."""
+    return " ".join(it for it in (case.family, case.label, WAYS.get(case.way)) if it)
+
+
+def in_other_way(case):
+    """A case as it is played under a prefix of a proxy that is asked by URIs, too. The stand-ins that it finds wrong
+    are looked for without."""
+    return case._replace(faults=(), always=(), needs=(*case.needs, "reverse", "another way"), way="reverse")
 
 
 def case_list(section):
@@ -41,10 +54,11 @@ def case_list(section):
     `each` has a variant for each of its values, or of its labels if it is a dictionary. A tuple is taken apart into
     arguments of the function. `faults` are the stand-ins that it must find wrong: each variant one of them at least,
     and all that stand in `always`. The function's doc comment is the sentence of the RFC that decides, where the
-    requirement alone doesn't."""
+    requirement alone doesn't. What doesn't need a certain way is played under a prefix as well, if the proxy can be
+    asked in either way, unless `both` is false."""
     cases = []
 
-    def case(level, *faults, always=(), each=None, at=section, needs=(), is_long=False, is_alone=False):
+    def case(level, *faults, always=(), each=None, at=section, needs=(), is_long=False, is_alone=False, both=True):
         def note(function):
             labelled = each if isinstance(each, dict) else {str(value): value for value in each or ()}
             for label, value in labelled.items() if each else [("", ())]:
@@ -53,6 +67,8 @@ def case_list(section):
                     function.__name__, label, at, level, function, values, (*faults, *always), tuple(always),
                     tuple(needs), is_long, is_alone,
                 ))
+                if both and not is_alone and not IN_ONE_WAY & set(needs):
+                    cases.append(in_other_way(cases[-1]))
             return function
 
         return note

@@ -65,7 +65,7 @@ def an_acknowledgement_comes_from_where_its_message_was_sent(stage, which):
     expect("where it came from", wanted, came.source)
 
 
-@case(MUST, "PingsAnswered", always=["RejectsBySilence"], each=IDS)
+@case(MUST, "PingsAnswered", always=["RejectsBySilence"], both=False, each=IDS)
 def an_empty_confirmable_message_is_rejected(stage, message_id):
     """The recipient MUST reject it; rejecting a Confirmable message is effected by sending a matching Reset message and
     otherwise ignoring it. The Reset echoes the Message ID and is Empty."""
@@ -85,7 +85,7 @@ UNASKED = {
 }
 
 
-@case(MUST, "AcksAnswered", each=UNASKED)
+@case(MUST, "AcksAnswered", both=False, each=UNASKED)
 def an_acknowledgement_or_a_reset_is_not_answered(stage, kind, code, token):
     """Recipients of Acknowledgement and Reset messages MUST NOT respond with either."""
     client = stage.client()
@@ -106,7 +106,7 @@ def a_request_in_an_acknowledgement_or_a_reset_is_not_served(stage, kind):
 LONG = {"a token": b"\x41\x00\x12\x34a", "an option": b"\x40\x00\x12\x34\x11a", "a payload": b"\x40\x00\x12\x34\xffa"}
 
 
-@case(MUST, "LongEmptyAccepted", always=["RejectsBySilence"], at="4.1", each=LONG)
+@case(MUST, "LongEmptyAccepted", always=["RejectsBySilence"], at="4.1", both=False, each=LONG)
 def an_empty_message_longer_than_its_header_is_rejected(stage, data):
     """If there are any bytes, they MUST be processed as a message format error: so rejected by a Reset (4.2)."""
     client = stage.client()
@@ -144,7 +144,7 @@ def expect_again(stage, endpoint, first):
 RESERVED = {"1.00": 32, "1.31": 63, "6.00": 192, "6.31": 223, "7.00": 224, "7.31": 255}
 
 
-@case(MUST, "ReservedClassesAnswered", always=["RejectsBySilence"], each=RESERVED)
+@case(MUST, "ReservedClassesAnswered", always=["RejectsBySilence"], both=False, each=RESERVED)
 def a_confirmable_message_of_a_reserved_class_is_rejected(stage, code):
     """The recipient MUST reject it if it uses a code with a reserved class (1, 6, or 7): by a Reset."""
     client = stage.client()
@@ -153,7 +153,9 @@ def a_confirmable_message_of_a_reserved_class_is_rejected(stage, code):
     client.expect_rejection(data)
 
 
-@case(MUST, "ReservedClassesAnswered", at="4.3", each={key: RESERVED[key] for key in ("1.00", "6.00", "7.00")})
+@case(MUST, "ReservedClassesAnswered", at="4.3", both=False, each={
+    key: RESERVED[key] for key in ("1.00", "6.00", "7.00")
+})
 def a_non_confirmable_message_of_a_reserved_class_is_rejected(stage, code):
     """Rejecting it MAY be by a matching Reset, and apart from that it MUST be silently ignored."""
     client = stage.client()
@@ -165,7 +167,7 @@ def a_non_confirmable_message_of_a_reserved_class_is_rejected(stage, code):
 STRAY = {"2.05": CONTENT, "4.04": wire.code("4.04"), "5.04": wire.code("5.04")}
 
 
-@case(MUST, "StrayResponsesAcknowledged", always=["RejectsBySilence"], at="4.2", each=STRAY)
+@case(MUST, "StrayResponsesAcknowledged", always=["RejectsBySilence"], at="4.2", both=False, each=STRAY)
 def a_confirmable_response_that_nobody_awaits_is_rejected(stage, code):
     """It's a message that the recipient lacks context to process (5.3.2), so it is rejected by a Reset."""
     client = stage.client()
@@ -174,7 +176,7 @@ def a_confirmable_response_that_nobody_awaits_is_rejected(stage, code):
     client.expect_rejection(data)
 
 
-@case(MUST, "EmptyNonAnswered", at="4.3")
+@case(MUST, "EmptyNonAnswered", at="4.3", both=False)
 def an_empty_non_confirmable_message_is_ignored_or_rejected(stage):
     client = stage.client()
     data = wire.message(NON, EMPTY, client.new_id())

@@ -125,11 +125,12 @@ def an_option_is_sent_as_often_as_it_may_occur(stage, number):
     for _ in range(2):
         client = stage.client()
         request = client.request(GET, resource.here)
-        asked = resource.origin.new(SILENCE)
+        asked, came = stage.asked_or_answered(resource.origin, client, request)
         if asked is not None:
             resource.origin.answer(asked, CONTENT, options)
-        came = wire.values_of(client.expect_code(request, CONTENT).message, number)
-        expect("whether the option comes once at most", True, len(came) <= 1)
+            came = client.response(request)
+        expect("the code", "2.05", wire.code_text(came.message.code))
+        expect("whether the option comes once at most", True, len(wire.values_of(came.message, number)) <= 1)
 
 
 PLACE = {"Uri-Host": wire.URI_HOST, "Uri-Port": wire.URI_PORT}
@@ -195,7 +196,7 @@ def the_payload_of_a_2_03_to_a_post_is_not_returned(stage):
     expect("whether the payload is returned", False, client.response(request).message.payload == b"junk")
 
 
-@case(SHOULD, "NotExplained", at="5.4.1", each={
+@case(SHOULD, "NotExplained", at="5.4.1", both=False, each={
     "4.02": (GET, (wire.UNSAFE_CRITICAL, b"")), "5.05": (GET, (wire.PROXY_SCHEME, b"nosuchscheme")),
 })
 def an_error_of_its_own_is_explained(stage, method, option):
@@ -208,7 +209,7 @@ def an_error_of_its_own_is_explained(stage, method, option):
     expect("whether it has a payload", True, len(came.message.payload) > 0)
 
 
-@case(MUST, "ExplainsInLatin", at="5.5.2", each={
+@case(MUST, "ExplainsInLatin", at="5.5.2", both=False, each={
     "4.02": (wire.UNSAFE_CRITICAL, b""), "5.05": (wire.PROXY_SCHEME, b"nosuchscheme"),
 })
 def an_explanation_is_utf_8(stage, number, value):

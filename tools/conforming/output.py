@@ -5,7 +5,7 @@ import re
 
 from conforming import rows
 from conforming.cases import (
-    ENDED, ERROR, KEPT, KEPT_AGAIN, MUST, NOT_KEPT, NOT_OFFERED, NOT_SEEN, SHOULD, name_of,
+    ENDED, ERROR, KEPT, KEPT_AGAIN, MUST, NOT_KEPT, NOT_OFFERED, NOT_SEEN, SHOULD, WAYS, name_of,
 )
 
 RESULTS = (KEPT, KEPT_AGAIN, NOT_KEPT, ENDED, NOT_OFFERED, NOT_SEEN, ERROR)
@@ -25,7 +25,8 @@ def sentence_of(case):
 def tap_lines(number, outcome):
     """The lines of a test point."""
     case = outcome.case
-    text = f"{case.section} {case.level} {name_of(case)}".replace("\\", "\\\\").replace("#", "\\#")
+    by = f" ({', '.join(WAYS[it] for it in outcome.ways)})" if outcome.ways and not case.way else ""
+    text = f"{case.section} {case.level} {name_of(case)}{by}".replace("\\", "\\\\").replace("#", "\\#")
     if outcome.result == KEPT:
         return [f"ok {number} - {text}"]
     if outcome.result in (NOT_OFFERED, NOT_SEEN):
@@ -92,7 +93,8 @@ def summary(outcomes):
 def saved(outcomes, date, what):
     """A run as data."""
     results = {
-        name_of(it.case): [it.case.family, it.case.section, it.case.level, it.result, it.text] for it in outcomes
+        name_of(it.case): [it.case.family, it.case.section, it.case.level, it.result, it.text, list(it.ways)]
+        for it in outcomes
     }
     return {"what": what, "date": date, "results": results}
 
@@ -139,7 +141,7 @@ def totals(runs):
 def failures(run):
     """A list of the families of cases that a run didn't keep, with what came in the first one."""
     failed, counts = {}, {}
-    for name, (family, section, level, result, text) in run["results"].items():
+    for name, (family, section, level, result, text, *_) in run["results"].items():
         key = section, level, family
         counts[key] = counts.get(key, 0) + 1
         if result in (NOT_KEPT, ENDED):

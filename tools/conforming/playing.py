@@ -7,7 +7,8 @@ import traceback
 from concurrent.futures import ThreadPoolExecutor, as_completed
 
 from conforming.cases import (
-    ENDED, ERROR, KEPT, KEPT_AGAIN, NOT_KEPT, NOT_OFFERED, NOT_SEEN, Broken, NotKept, NotOffered, Outcome, name_of,
+    ENDED, ERROR, KEPT, KEPT_AGAIN, NOT_KEPT, NOT_OFFERED, NOT_SEEN, WAYS, Broken, NotKept, NotOffered, Outcome,
+    name_of,
 )
 from conforming.running import Proxy
 from conforming.stage import Stage
@@ -24,31 +25,39 @@ def missing(case, offers):
     """What a case needs and the proxy doesn't offer, or None."""
     lacking = [it for it in case.needs if it not in offers]
     names = {
-        "forward": "Proxy-Uri", "scheme": "Proxy-Scheme", "reverse": "reverse-proxy", "cache": "cache", "name": "name",
-        "another port": "port but 5683", "any address": "address that a command is told",
-        "chain": "next proxy that a command is told", "libcoap": "server of libcoap behind it, which isn't installed",
+        "forward": "isn't asked by Proxy-Uri", "scheme": "isn't asked by Proxy-Scheme",
+        "reverse": "isn't asked under a prefix", "another way": "is asked in one way", "cache": "has no cache",
+        "name": "has no name", "another port": "has port 5683", "any address": "has no command that is told an address",
+        "chain": "has no command that is told a next proxy", "libcoap": "has no server of libcoap behind it",
     }
-    return f"it has no {names[lacking[0]]}" if lacking else None
+    return f"it {names[lacking[0]]}" if lacking else None
 
 
 def try_case(proxy, case, scale):
-    """What comes of a case."""
+    """What comes of a case, and the ways in which the proxy was asked."""
+    stage = Stage(proxy, scale, case.way)
+    result, text = play_on(stage, case)
+    return Outcome(case, result, text, tuple(it for it in WAYS if it in (stage.ways or case.needs)))
+
+
+def play_on(stage, case):
+    """What comes of a case on a stage: the result, and a text."""
     try:
-        with Stage(proxy, scale) as stage:
+        with stage:
             case.function(stage, *case.values)
     except NotKept as text:
-        return Outcome(case, NOT_KEPT, str(text))
+        return NOT_KEPT, str(text)
     except NotOffered as text:
-        return Outcome(case, NOT_OFFERED, str(text))
+        return NOT_OFFERED, str(text)
     except Broken as text:
-        return Outcome(case, NOT_SEEN, str(text))
+        return NOT_SEEN, str(text)
     except OSError as error:
-        return Outcome(case, ERROR, f"the system refused it: {error}")
+        return ERROR, f"the system refused it: {error}"
     except Exception as error:
         line = traceback.extract_tb(error.__traceback__)[-1]
         where = f"{os.path.basename(line.filename)}, line {line.lineno}"
-        return Outcome(case, ERROR, f"a fault of the suite: {type(error).__name__}: {error} ({where})")
-    return Outcome(case, KEPT)
+        return ERROR, f"a fault of the suite: {type(error).__name__}: {error} ({where})"
+    return KEPT, ""
 
 
 class Play:
@@ -69,7 +78,7 @@ class Play:
             told = {KEPT: before.text, NOT_OFFERED: f"{outcome.text}; at first {before.text}"}
             result = {KEPT: KEPT_AGAIN, NOT_SEEN: NOT_KEPT}.get(outcome.result, outcome.result)
             text = before.text if outcome.result == NOT_SEEN else told.get(outcome.result, outcome.text)
-            outcome = Outcome(outcome.case, result, text)
+            outcome = outcome._replace(result=result, text=text, ways=outcome.ways or before.ways)
         self.outcomes[name_of(outcome.case)] = outcome
         self.tell(len(self.outcomes))
 
@@ -86,7 +95,8 @@ class Play:
         outcome = try_case(self.proxy, case, self.proxy.scale)
         if not self.proxy.setup.command and not self.proxy.answers():
             self.is_gone = True
-            return Outcome(case, ENDED, GONE + (f"; {outcome.text}" if outcome.text else "")), False
+            text = f"{GONE}; {outcome.text}" if outcome.text else GONE
+            return outcome._replace(result=ENDED, text=text), False
         time.sleep(0.02 if case.is_alone else 0)
         has_ended = not self.proxy.is_running() or self.proxy.count != count
         return outcome, has_ended
@@ -113,7 +123,8 @@ class Play:
     def play_alone(self, case):
         """Plays a case while no other is, and notes whether the process ended at it."""
         outcome, has_ended = self.play_one(case)
-        self.note(Outcome(case, ENDED, "the process of the proxy ended") if has_ended else outcome)
+        ended = outcome._replace(result=ENDED, text="the process of the proxy ended")
+        self.note(ended if has_ended else outcome)
 
     def play(self, cases):
         """Plays all cases, and returns their outcomes in the same order."""
@@ -151,7 +162,9 @@ class Play:
         return [*other.outcomes.values(), *ended]
 
     def play_short(self, cases):
-        self.play_many([it for it in cases if not it.is_alone], self.at_once)
+        # Those that wait for a prefix come last, so that they keep no others waiting.
+        together = sorted((it for it in cases if not it.is_alone), key=lambda it: "reverse" in it.needs)
+        self.play_many(together, self.at_once)
         for case in [it for it in cases if it.is_alone]:
             self.play_alone(case)
         for _ in range(self.tries - 1):

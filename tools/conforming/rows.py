@@ -3,7 +3,7 @@
 import os
 import re
 
-from conforming.cases import KEPT, KEPT_AGAIN, NOT_OFFERED, NOT_SEEN
+from conforming.cases import KEPT, KEPT_AGAIN, NOT_OFFERED, NOT_SEEN, name_of
 
 TOP = os.path.dirname(os.path.dirname(os.path.dirname(os.path.abspath(__file__))))
 PAGE = os.path.join(TOP, "docs", "RFC7252.md")
@@ -82,7 +82,7 @@ def check_outcomes(outcomes):
         if is_seen and outcome.result not in (KEPT, KEPT_AGAIN):
             failed[family] = failed.get(family, 0) + 1
             if family not in told:
-                faults.append(f"{family} {outcome.case.label} is {outcome.result}: {outcome.text}")
+                faults.append(f"{name_of(outcome.case)} is {outcome.result}: {outcome.text}")
     for family, (_, few, _) in told.items():
         wanted = few or seen.get(family, 0)
         if seen.get(family) and failed.get(family, 0) != wanted:

@@ -12,7 +12,7 @@ import time
 from collections import namedtuple
 
 from conforming import wire
-from conforming.cases import Broken, NotKept, NotOffered
+from conforming.cases import WAYS, Broken, NotKept, NotOffered
 from conforming.endpoints import Client
 from conforming.stage import Stage
 from conforming.wire import CON, EMPTY, GET
@@ -23,7 +23,7 @@ from testing.network import STARTED, end, free_port
 # or none, in which a place is written like @port@; and the words that start it with a next proxy, or none.
 Setup = namedtuple("Setup", "command host port name is_forward prefixes file chained", defaults=(None, ()))
 # How many origins a command has places for: {origin}, {origin2} ..
-ORIGINS = 8
+ORIGINS = 24
 # How long a proxy may take until it answers after its start, and while cases are played, in seconds.
 READY, STILL_READY = 20, 6
 
@@ -75,7 +75,10 @@ class Proxy:
         """A prefix, once no other case has it."""
         if not self.has_prefixes:
             raise NotOffered("it is no reverse-proxy")
-        return self.leases.get(timeout=300)
+        try:
+            return self.leases.get(timeout=300)
+        except queue.Empty:
+            raise Broken("no prefix was free") from None
 
     def give_back(self, lease):
         self.leases.put(lease)
@@ -202,6 +205,15 @@ class Proxy:
             self.offers.add("chain")
         if shutil.which("coap-server-notls") or shutil.which("coap-server"):
             self.offers.add("libcoap")
+        if "reverse" in self.offers and self.offers & {"forward", "scheme"}:
+            self.offers.add("another way")
+
+    def choose(self, way):
+        """Has it be asked in one way alone: by URIs, or under its prefixes."""
+        others = {"forward": {"reverse"}, "reverse": {"forward", "scheme", "chain"}}
+        self.offers -= {*others[way], "another way"}
+        if not self.offers & set(WAYS):
+            raise Broken(f"it can't be asked by {way}")
 
     def forwards(self, way):
         """Whether a GET reaches an origin in this way."""

@@ -15,7 +15,7 @@ RIGHT = ("Proxy", "Separate", "Plain", "Bare")
 # How much shorter the times of the RFC are, how many stand-ins run at once, and how many cases each of them plays.
 SCALE, AT_ONCE, CASES_AT_ONCE = 0.1, 16, 24
 PREFIXES = [f"/r{n}={{address}}:{{origin{n if n > 1 else ''}}}" for n in range(1, ORIGINS + 1)]
-OFFERS = {"forward", "scheme", "reverse", "name", "another port", "any address", "chain"}
+OFFERS = {"forward", "scheme", "reverse", "another way", "name", "another port", "any address", "chain"}
 OFFERS |= {"libcoap"} if shutil.which("coap-server-notls") or shutil.which("coap-server") else set()
 
 
@@ -63,7 +63,7 @@ def faults_of_wrong(cases, played):
         failed = [name for name in case.faults if played[name].get(name_of(case)) in (NOT_KEPT, ENDED)]
         found.update(failed)
         came = ", ".join(f"{name}: {played[name].get(name_of(case))}" for name in case.faults)
-        if not failed:
+        if case.faults and not failed:
             faults.append(f"{name_of(case)}: no stand-in that is wrong fails it ({came})")
         faults += [f"{name_of(case)}: {name} doesn't fail it ({came})" for name in case.always if name not in failed]
     for name in sorted({it for case in cases for it in case.faults} - found):

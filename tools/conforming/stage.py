@@ -5,7 +5,7 @@ import random
 import time
 
 from conforming import wire
-from conforming.cases import NotKept, NotOffered, expect
+from conforming.cases import WAYS, NotKept, NotOffered, expect
 from conforming.endpoints import PATIENCE, Client, Origin
 from conforming.wire import CON, GET, PROXY_SCHEME, PROXY_URI, URI_HOST, URI_PATH, URI_PORT, URI_QUERY
 
@@ -64,10 +64,12 @@ def by_prefix(prefix):
 
 class Stage:
     """What one case has. All of it is closed when the case is done. `scale` shortens the times of the RFC, for
-    stand-ins that do the same."""
+    stand-ins that do the same; `way` is the one in which the proxy is asked, if it isn't the first that it offers."""
 
-    def __init__(self, proxy, scale=1.0):
+    def __init__(self, proxy, scale=1.0, way=""):
         self.proxy, self.scale, self.offers = proxy, scale, proxy.offers
+        # The way in which it is asked where the case leaves it open, and those in which it was.
+        self.way, self.ways = way or next((it for it in WAYS if it in proxy.offers), "reverse"), set()
         self.host = "127.%d.%d.%d" % tuple(random.randrange(64, 255) for _ in range(3))
         self.mark = os.urandom(4).hex().encode()
         self.endpoints, self.leases, self.instances = [], [], []
@@ -110,9 +112,8 @@ class Stage:
 
     def resource(self, *segments, query=(), origin=None, way=None):
         """A resource of an origin, which is a new one unless it is given, under a path that no other case has."""
-        segments = [self.mark, *segments]
-        if way is None:
-            way = "forward" if "forward" in self.offers else "scheme" if "scheme" in self.offers else "reverse"
+        segments, way = [self.mark, *segments], way or self.way
+        self.ways.add(way)
         if way == "reverse":
             return self.reverse_resource(segments, query)
         named = by_proxy_uri if way == "forward" else by_proxy_scheme
@@ -146,6 +147,16 @@ class Stage:
             came = client.reply(request, 0.2)
             raise NotKept(f"the origin wasn't asked; the client got {wire.told(came.data) if came else 'nothing'}")
         return asked
+
+    def asked_or_answered(self, origin, client, request):
+        """The request that reaches an origin, and None; or None, and what a client got without that."""
+        until = time.monotonic() + PATIENCE
+        while time.monotonic() < until:
+            asked = origin.new(0.1)
+            came = None if asked else client.reply(request, 0.02)
+            if asked or came:
+                return asked, came
+        raise NotKept(f"the origin wasn't asked, and the client got {client.told()}")
 
     def fetch(self, resource, options=(), payload=b"21", code=CONTENT, method=GET, client=None, asking=(), body=b""):
         """Has the origin answer a new request of a client, and returns what the client got."""

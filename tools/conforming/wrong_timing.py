@@ -14,6 +14,12 @@ class SendsOnce(Proxy):
     retransmissions = 0
 
 
+class SendsOnceUnderPrefixes(Proxy):
+    def on_timeout(self, sock, key, sending):
+        if sending.to not in [(host, port) for _, host, port in self.maps]:
+            super().on_timeout(sock, key, sending)
+
+
 class SendsAgainSoon(Proxy):
     def first_timeout(self):
         return 0.7

@@ -12,6 +12,7 @@ import tempfile
 from conforming import output, rows, suite
 from conforming.cases import (
     ENDED, ERROR, KEPT, KEPT_AGAIN, MUST, NOT_KEPT, NOT_OFFERED, NOT_SEEN, SHOULD, Case, NotKept, NotOffered, Outcome,
+    name_of,
 )
 from conforming.playing import Play
 from conforming.running import Setup
@@ -89,7 +90,7 @@ def cases_stand_in_rows():
     """Each case stands in a row of the page, and each row has a case or says why not."""
     expect("what differs", [], rows.check_names(suite.CASES))
     expect("whether there are 250 cases", True, len(suite.CASES) >= 250)
-    names = [(it.family, it.label) for it in suite.CASES]
+    names = [name_of(it) for it in suite.CASES]
     expect("how many cases share a name", 0, len(names) - len(set(names)))
 
 
@@ -129,14 +130,30 @@ def what_comes_and_goes_is_told():
         return Case(name, "", "5.6", MUST, function, (), (), (), (), False, False)
 
     outcomes = {it.case.family: it for it in Play(Nobody()).play([play(name) for name in faults])}
-    expect("what is kept then", (KEPT_AGAIN, "this"), outcomes["keeps"][1:])
-    expect("what isn't there then", (NOT_OFFERED, "not there; at first this"), outcomes["has_not"][1:])
+    expect("what is kept then", (KEPT_AGAIN, "this"), outcomes["keeps"][1:3])
+    expect("what isn't there then", (NOT_OFFERED, "not there; at first this"), outcomes["has_not"][1:3])
     erred = outcomes["errs"]
     expect("a fault of the suite", (ERROR, True), (erred.result, "ValueError: a slip" in erred.text))
     later = Play(Nobody())
     for result in (NOT_KEPT, NOT_SEEN):
         later.note(Outcome(play("keeps"), result, result))
-    expect("what isn't seen then", (NOT_KEPT, NOT_KEPT), later.outcomes["keeps"][1:])
+    expect("what isn't seen then", (NOT_KEPT, NOT_KEPT), later.outcomes["keeps"][1:3])
+
+
+def both_ways_are_played():
+    """What is wrong under a prefix alone isn't kept there alone, and each line says in which way it was played."""
+    stand_in, prefix = os.path.join(TOOLS, "conforming", "stand_in"), "/r={address}:{origin}"
+    command = [sys.executable, stand_in, "SendsOnceUnderPrefixes", "1", "{address}", "{port}", "{name}", prefix]
+    name = "4.2 MUST a_request_that_is_not_acknowledged_is_sent_again"
+    forward, reverse = f"1 - {name} (by Proxy-Uri)", f"2 - {name} under a prefix"
+    for by, wanted in (
+        ([], [f"ok {forward}", f"not ok {reverse}"]),
+        (["forward"], [f"ok {forward}", f"ok {reverse} # SKIP not offered: it isn't asked under a prefix"]),
+    ):
+        words = ["--forward", "--reverse", prefix, "--only", name[9:], *(["--by", *by] if by else [])]
+        _, text = run(*words, "--", *command)
+        came = [it for it in text.splitlines() if it.startswith(("ok", "not ok"))]
+        expect("the lines", wanted, came)
 
 
 def cases_are_listed():
@@ -145,6 +162,7 @@ def cases_are_listed():
     wanted = [f"3 MUST a_ping_of_another_version_is_ignored {it}" for it in (0, 2, 3)]
     wanted += ["3 MUST a_request_that_ends_within_its_token_is_rejected"]
     wanted += ["4.7 MUST a_silent_origin_is_sent_a_byte_a_second [--long]"]
+    wanted += ["4.7 MUST a_silent_origin_is_sent_a_byte_a_second under a prefix [reverse, another way, --long]"]
     expect("what is listed", (0, wanted), (status, text.splitlines()), "the status", "the lines")
 
 
@@ -272,6 +290,6 @@ def builds_are_compared(program):
 
 CASES = (
     cases_stand_in_rows, output_is_tap, rows_are_compared, stand_ins_are_told_apart, a_wrong_stand_in_is_not_kept,
-    a_proxy_that_ends_is_no_pass, what_comes_and_goes_is_told, cases_are_listed, what_cannot_be_tried_is_said,
-    a_load_finds_wrong_answers,
+    a_proxy_that_ends_is_no_pass, what_comes_and_goes_is_told, both_ways_are_played, cases_are_listed,
+    what_cannot_be_tried_is_said, a_load_finds_wrong_answers,
 )
