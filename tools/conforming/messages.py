@@ -245,10 +245,11 @@ def a_confirmable_request_that_comes_again_before_its_answer_is_done_once(stage,
 
 @case(SHOULD, "DuplicatesIgnored", at="4.5", each=METHODS)
 def a_confirmable_request_that_comes_again_is_acknowledged_again(stage, method):
-    """It SHOULD acknowledge each duplicate using the same Acknowledgement or Reset. An idempotent one may be done
-    again (4.5), and then has an acknowledgement of its own."""
+    """It SHOULD acknowledge each duplicate using the same Acknowledgement or Reset, within PROCESSING_DELAY (4.8.2). An
+    idempotent one may be done again (4.5), and then has an acknowledgement of its own."""
     resource, client, request, _, first = repeat(stage, method, CON, True)
-    came = client.find(lambda it: it.message.kind in (ACK, RST) and it.data[2:4] == request.data[2:4], SILENCE)
+    wait = stage.seconds(2) + SILENCE
+    came = client.find(lambda it: it.message.kind in (ACK, RST) and it.data[2:4] == request.data[2:4], wait)
     if came is None and method != POST:
         asked = resource.origin.new(SILENCE)
         if asked is not None:

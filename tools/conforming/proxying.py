@@ -216,7 +216,8 @@ BROKEN = {"a reserved delta": b"\xf1a", "a marker without a payload": b"\xff", "
 @case(MUST, "BrokenGivesTimeout", each=BROKEN, is_long=True)
 def a_response_with_a_format_error_gives_5_02(stage, raw):
     """If the endpoint returns a response that cannot be processed by the proxy (e.g. due to message format errors),
-    then a 5.02 (Bad Gateway) response MUST be returned."""
+    then a 5.02 (Bad Gateway) response MUST be returned. That is arguable of an Acknowledgement: 4.2 has one with a
+    format error be silently ignored, so that no response came."""
     resource, client = stage.resource(), stage.client()
     request = client.request(GET, resource.here)
     for _ in range(5):

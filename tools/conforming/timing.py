@@ -1,7 +1,5 @@
 """Sections 4.2, 4.7 and 4.8: retransmission, and how much is sent to an endpoint that doesn't answer."""
 
-import time
-
 from conforming import wire
 from conforming.cases import MUST, SHOULD, NotKept, NotOffered, case_list, expect, expect_between
 from conforming.messages import confirmable, separate_answer
@@ -161,7 +159,9 @@ FILLED = {"a code": (CONTENT, b"", b""), "a code and a payload": (CONTENT, b"\x0
 
 @case(MUST, "FilledAcksIgnored", at="5.2.2", each=FILLED)
 def an_answer_is_ended_by_an_acknowledgement_with(stage, code, token, payload):
-    """.. on any matching Acknowledgement (silently ignoring any Response Code or payload) or Reset."""
+    """.. on any matching Acknowledgement (silently ignoring any Response Code or payload) or Reset. Of one with a
+    request that is arguable: the sentence names response codes and payloads, and 4.2 has such an Acknowledgement be
+    rejected by ignoring it."""
     resource, client = stage.resource(), stage.client()
     answer = separate_answer(stage, resource, client)
     client.send_raw(wire.message(ACK, code, answer.message.message_id, token, [], payload))
