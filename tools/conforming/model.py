@@ -33,7 +33,8 @@ class Proxy(Cache, Options, Targets, Origins, MessageLayer):
 
     def __init__(self, host, port, scale, names, maps):
         super().__init__(host, port, scale)
-        self.names, self.maps = names, maps
+        # Its own names, its maps, and the addresses of other names.
+        self.names, self.maps, self.hosts = names, maps, {}
         self.exchanges, self.store, self.queues, self.outstanding, self.silent_until = {}, {}, {}, {}, {}
 
     # Requests

@@ -31,7 +31,7 @@ class Origins:
 
     def forward(self, waiter, target, key, validated):
         """Sends a request on, once it is its turn, or has a GET wait for the answer to an equal one."""
-        to = self.following or (target.host, target.port)
+        to = self.following or (self.hosts.get(target.host, target.host), target.port)
         joined = self.joined(target, key) if key is not None and self.joins else None
         if joined is not None:
             joined.waiters.append(waiter)
@@ -78,7 +78,12 @@ class Origins:
         return request.payload if request.code in (POST, PUT) else b""
 
     def target_options(self, target):
-        return [(URI_PATH, it) for it in target.path] + [(URI_QUERY, it) for it in target.query]
+        parts = [(URI_PATH, it) for it in target.path] + [(URI_QUERY, it) for it in target.query]
+        return self.name_options(target) + parts if target.host in self.hosts and not self.following else parts
+
+    def name_options(self, target):
+        """What tells an origin by which name it was asked."""
+        return [(URI_HOST, target.host.encode())]
 
     def chain_options(self, target):
         """What is said to a next proxy beside the path and the query."""

@@ -95,12 +95,18 @@ class Targets:
 
     def located(self, host, port, path, query):
         """The target at a host and a port; without a host if that is the proxy itself."""
-        host = decoded(host.lower()).decode("latin-1")
+        host = self.plain_host(host)
         if self.is_own(host, port):
             return Target(None, None, path, query)
+        if host in self.hosts and port:
+            return Target(host, port, path, query)
         if not re.fullmatch(r"\d+\.\d+\.\d+\.\d+", host) or not port or any(int(it) > 255 for it in host.split(".")):
             raise UriError(NOT_SUPPORTED)
         return Target(host, port, path, query)
+
+    def plain_host(self, host):
+        """A host in lower case and decoded."""
+        return decoded(host.lower()).decode("latin-1").lower()
 
     def is_own(self, host, port):
         return host in (*self.names, self.host) and port == self.port

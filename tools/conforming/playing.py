@@ -27,7 +27,8 @@ def missing(case, offers):
     names = {
         "forward": "isn't asked by Proxy-Uri", "scheme": "isn't asked by Proxy-Scheme",
         "reverse": "isn't asked under a prefix", "another way": "is asked in one way", "cache": "has no cache",
-        "name": "has no name", "another port": "has port 5683", "any address": "has no command that is told an address",
+        "name": "has no name", "host": "knows no other name (--host)", "another port": "has port 5683",
+        "any address": "has no command that is told an address",
         "chain": "has no command that is told a next proxy", "libcoap": "has no server of libcoap behind it",
     }
     return f"it {names[lacking[0]]}" if lacking else None

@@ -20,8 +20,9 @@ from testing.network import STARTED, end, free_port
 
 # How a proxy is reached: the words that start it, or none; its address; the name that it is known by, or none; whether
 # it is a forward-proxy; its prefixes, each with the origin's address, as texts with places; the text of a file for it,
-# or none, in which a place is written like @port@; and the words that start it with a next proxy, or none.
-Setup = namedtuple("Setup", "command host port name is_forward prefixes file chained", defaults=(None, ()))
+# or none, in which a place is written like @port@; the words that start it with a next proxy, or none; and another
+# name that it knows with its address, as a text with places like NAME=ADDRESS, or none.
+Setup = namedtuple("Setup", "command host port name is_forward prefixes file chained known", defaults=(None, (), None))
 # How many origins a command has places for: {origin}, {origin2} ..
 ORIGINS = 24
 # How long a proxy may take until it answers after its start, and while cases are played, in seconds.
@@ -46,6 +47,11 @@ def segments_of(path):
     return [it.encode() for it in path.strip("/").split("/") if it]
 
 
+def loopback():
+    """An address that hardly anybody else has."""
+    return "127.%d.%d.%d" % tuple(random.randrange(64, 255) for _ in range(3))
+
+
 class Proxy:
     """A proxy, and what it offers."""
 
@@ -54,10 +60,12 @@ class Proxy:
         self.name = setup.name
         self.lock, self.count, self.process = threading.Lock(), 0, None
         self.leases = queue.Queue()
-        host = setup.host or "127.%d.%d.%d" % tuple(random.randrange(64, 255) for _ in range(3))
+        host = setup.host or loopback()
         self.address = (host, setup.port or free_port())
         self.client_host = "127.0.0.1"
-        self.places = {"address": host, "name": setup.name or "", **origin_ports()}
+        self.places = {"address": host, "name": setup.name or "", "host": loopback(), **origin_ports()}
+        # A name that it knows, and that name's address.
+        self.known = tuple((setup.known or "").format(**self.places).split("=")) if setup.known else None
         for text in setup.prefixes:
             self.leases.put(Lease(text.format(port=self.address[1], **self.places)))
         self.has_prefixes = bool(setup.prefixes)
@@ -197,6 +205,8 @@ class Proxy:
             self.offers.add("cache")
         if self.name and self.setup.is_forward:
             self.offers.add("name")
+        if self.known and self.setup.is_forward:
+            self.offers.add("host")
         if self.address[1] != 5683:
             self.offers.add("another port")
         if any("{address}" in it for it in self.setup.command):

@@ -15,15 +15,15 @@ RIGHT = ("Proxy", "Separate", "Plain", "Bare")
 # How much shorter the times of the RFC are, how many stand-ins run at once, and how many cases each of them plays.
 SCALE, AT_ONCE, CASES_AT_ONCE = 0.1, 16, 24
 PREFIXES = [f"/r{n}={{address}}:{{origin{n if n > 1 else ''}}}" for n in range(1, ORIGINS + 1)]
-OFFERS = {"forward", "scheme", "reverse", "another way", "name", "another port", "any address", "chain"}
+OFFERS = {"forward", "scheme", "reverse", "another way", "name", "host", "another port", "any address", "chain"}
 OFFERS |= {"libcoap"} if shutil.which("coap-server-notls") or shutil.which("coap-server") else set()
 
 
 def setup_of(name):
     """How a stand-in is started."""
-    words = [sys.executable, STAND_IN, name, str(SCALE), "{address}", "{port}", "{name}", *PREFIXES]
-    chained = [*words[:7], "next={next}"]
-    return Setup(words, None, None, "proxy.test", True, PREFIXES, None, chained)
+    start = [sys.executable, STAND_IN, name, str(SCALE), "{address}", "{port}", "{name}"]
+    words, chained = [*start, *PREFIXES, "host=origin.test={host}"], [*start, "next={next}"]
+    return Setup(words, None, None, "proxy.test", True, PREFIXES, None, chained, "origin.test={host}")
 
 
 def is_caching(name):

@@ -152,6 +152,50 @@ def a_uri_that_no_options_can_have_gives_an_error(stage, text):
     client.expect_error(request)
 
 
+# How a host may be named in a URI, or in a Uri-Host beside a Proxy-Scheme: what is done to the name.
+NAMES = {
+    "as it is": (str, True), "in upper case": (str.upper, True),
+    "with an encoding": (lambda it: f"%{ord(it[0]):x}{it[1:]}", True),
+    "beside a Proxy-Scheme": (str, False),
+}
+
+
+def named(stage, origin, form=str, is_uri=True):
+    """The options that ask for what an origin has, by the name of its host."""
+    host, path = form(stage.proxy.known[0]), wire.path(stage.mark)
+    stage.need("forward" if is_uri else "scheme")
+    stage.ways.add("forward" if is_uri else "scheme")
+    if is_uri:
+        return [(PROXY_URI, f"coap://{host}:{origin.port}/{stage.mark.decode()}".encode())]
+    place = [(wire.URI_HOST, host.encode()), (wire.URI_PORT, wire.number_bytes(origin.port))]
+    return [*place, *path, (wire.PROXY_SCHEME, b"coap")]
+
+
+@case(MUST, "NamesLost", "NamesAsTheyStand", needs=("forward", "host"), each=NAMES)
+def the_name_of_a_host_reaches_its_origin(stage, form, is_uri):
+    """If the host isn't the address that the request is sent to, a Uri-Host is included: the host in lower case, and
+    then with its percent-encodings decoded."""
+    name, address = stage.proxy.known
+    origin, client = stage.origin(address), stage.client()
+    request = client.request(GET, named(stage, origin, form, is_uri))
+    asked = stage.reached(origin, client, request)
+    origin.answer(asked)
+    expect("the Uri-Host at the origin", [name.encode()], wire.values_of(asked.message, wire.URI_HOST))
+    client.expect_code(request, wire.code("2.05"))
+
+
+@case(MUST, always=["NamesAreAddresses"], at="5.6", needs=("forward", "host", "cache"))
+def a_name_and_its_address_are_two_resources(stage):
+    """The Uri-Host is in the cache key: an origin may have something else under each of its names."""
+    name, address = stage.proxy.known
+    resource = stage.resource(origin=stage.origin(address))
+    stage.fetch(resource, [wire.max_age(60)], b"by address")
+    client = stage.client()
+    request = client.request(GET, named(stage, resource.origin))
+    resource.origin.answer(stage.reached(resource.origin, client, request), payload=b"by name")
+    expect("the payload", b"by name", client.response(request).message.payload)
+
+
 NOT_BY_3986 = {
     "a blank before": b" coap://%s/%s",
     "a blank behind": b"coap://%s/%s ",

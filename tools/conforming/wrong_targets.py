@@ -219,3 +219,27 @@ class EncodedAgain(Proxy):
 class NextIsOrigin(Proxy):
     def chain_options(self, target):
         return []
+
+
+class NamesLost(Proxy):
+    def name_options(self, target):
+        return []
+
+
+class NamesAsTheyStand(Proxy):
+    """Tells an origin its name as it stands in a URI."""
+
+    def plain_host(self, host):
+        plain = super().plain_host(host)
+        self.asked = host if plain in self.hosts else None
+        return plain
+
+    def name_options(self, target):
+        return [(URI_HOST, self.asked.encode())]
+
+
+class NamesAreAddresses(Proxy):
+    """Has what is stored for a name be that of its address."""
+
+    def key_of(self, target, options):
+        return super().key_of(target._replace(host=self.hosts.get(target.host, target.host)), options)

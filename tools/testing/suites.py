@@ -234,7 +234,10 @@ def a_proxy_that_ends_is_no_pass():
 
 def what_cannot_be_tried_is_said():
     """No stack trace, and a status that isn't 0."""
-    for words in (["--against", "192.0.2.1"], ["--forward", "--", "/no/such/program"], ["--only", "no such case"]):
+    for words in (
+        ["--against", "192.0.2.1"], ["--forward", "--", "/no/such/program"], ["--only", "no such case"],
+        ["--against", "127.0.0.1", "--host", "a.test=192.0.2.1"],
+    ):
         status, text = run(*words)
         came = status, text.count("\n"), text[:9]
         expect("how it ends", (2, 1, "Bail out!"), came, "the status", "lines", "how they begin")
