@@ -232,6 +232,27 @@ def a_proxy_that_ends_is_no_pass():
         expect("how it ends", (1, f"# all: {told}"), came, "the status", "the last line")
 
 
+def it_runs_alone():
+    """An archive of it, the same bytes each time, has all that it needs: it tells its stand-ins apart in a folder that
+    has nothing else, and says what it lacks."""
+    with tempfile.TemporaryDirectory(prefix="coap-proxyd-test-") as folder:
+        made = []
+        for _ in range(2):
+            words = [os.path.join(TOOLS, "package"), "--conformance", folder]
+            path = subprocess.run(words, stdout=subprocess.PIPE, check=True, text=True).stdout.strip()
+            with open(path, "rb") as file:
+                made.append(file.read())
+        expect("whether both are the same", True, made[0] == made[1])
+        subprocess.run(["tar", "-C", folder, "-xzf", path], check=True)
+        tool = os.path.join(path[: -len(".tar.gz")], "tools", "conformance")
+        some = ["--self-test", "--only", "^3 MUST a_.*(of_another_version|marker)"]
+        for words, status, end in ((some, 0, " 0 faults\n"), ([], 2, " says it\n")):
+            command = [sys.executable, tool, *words]
+            done = subprocess.run(command, cwd=folder, stdout=subprocess.PIPE, text=True, timeout=100)
+            came = done.returncode, done.stdout[-len(end) :]
+            expect("how it ends", (status, end), came, "the status", "the text")
+
+
 def what_cannot_be_tried_is_said():
     """No stack trace, and a status that isn't 0."""
     for words in (
@@ -294,5 +315,5 @@ def builds_are_compared(program):
 CASES = (
     cases_stand_in_rows, output_is_tap, rows_are_compared, stand_ins_are_told_apart, a_wrong_stand_in_is_not_kept,
     a_proxy_that_ends_is_no_pass, what_comes_and_goes_is_told, both_ways_are_played, cases_are_listed,
-    what_cannot_be_tried_is_said, a_load_finds_wrong_answers,
+    it_runs_alone, what_cannot_be_tried_is_said, a_load_finds_wrong_answers,
 )
