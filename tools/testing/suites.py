@@ -146,9 +146,10 @@ def both_ways_are_played():
     command = [sys.executable, stand_in, "SendsOnceUnderPrefixes", "1", "{address}", "{port}", "{name}", prefix]
     name = "4.2 MUST a_request_that_is_not_acknowledged_is_sent_again"
     forward, reverse = f"1 - {name} (by Proxy-Uri)", f"2 - {name} under a prefix"
+    alone = f"not ok 1 - {name} (under a prefix)"
     for by, wanted in (
         ([], [f"ok {forward}", f"not ok {reverse}"]),
-        (["forward"], [f"ok {forward}"]), (["reverse"], [f"not ok {forward}".replace("by Proxy-Uri", "under a prefix")]),
+        (["forward"], [f"ok {forward}"]), (["reverse"], [alone]),
     ):
         words = ["--forward", "--reverse", prefix, "--only", name[9:], *(["--by", *by] if by else [])]
         _, text = run(*words, "--", *command)
