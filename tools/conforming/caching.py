@@ -74,7 +74,7 @@ def a_request_without_an_unrecognised_safe_option_is_another(stage, number):
 @case(MUST, "KeyIgnoresOrigin", needs=("forward",), each={"port": "port", "host": "host"})
 def a_stored_response_answers_for_no_other_origin(stage, what):
     first = stage.resource("a")
-    origin = stage.origin(stage.host if what == "port" else "127.8.8.8", 0 if what == "port" else 0)
+    origin = stage.origin(stage.host if what == "port" else stage.other_host())
     second = stage.resource("a", origin=origin)
     stage.fetch(first, [wire.max_age(60)], b"first")
     stage.fetch_again(second, b"second")

@@ -49,7 +49,8 @@ class Endpoint:
     def __init__(self, host, port=0):
         self.socket = bound(host, port)
         self.socket.setsockopt(socket.SOL_SOCKET, SO_TIMESTAMPNS, 1)
-        self.host, self.port = host, self.socket.getsockname()[1]
+        # Its address as it stands in a URI, and its port.
+        self.host, self.port = wire.literal(host), self.socket.getsockname()[1]
         self.next_id = random.randrange(0x10000)
         # All that came, for a text that tells it, and what nobody asked for yet; and to which addresses messages with a
         # Message ID or a token were sent.

@@ -11,6 +11,7 @@ import time
 from conforming import model_wire, wire
 from conforming.wire import ACK, CON, EMPTY, NON, RST
 from testing.coap import message
+from testing.network import udp
 
 # The Linux option that tells to which address a datagram came, and its form.
 IP_PKTINFO, PKTINFO = 8, struct.Struct("@i4s4s")
@@ -40,10 +41,11 @@ class MessageLayer:
 
     def __init__(self, host, port, scale):
         self.host, self.port, self.scale = host, port, scale
-        self.front, self.back = (socket.socket(socket.AF_INET, socket.SOCK_DGRAM) for _ in range(2))
+        self.front, self.back = udp(host), udp(host)
         self.front.bind((host, port))
-        self.front.setsockopt(socket.IPPROTO_IP, IP_PKTINFO, 1)
-        self.back.bind(("0.0.0.0" if host == "0.0.0.0" else host, 0))
+        if ":" not in host:
+            self.front.setsockopt(socket.IPPROTO_IP, IP_PKTINFO, 1)
+        self.back.bind((host, 0))
         self.known, self.sendings, self.timers, self.asked_at = {}, {}, [], {}
         self.counter, self.ids = itertools.count(), itertools.count(random.randrange(65_536))
 
@@ -64,7 +66,7 @@ class MessageLayer:
             return self.on_network_error()
         if more:
             self.asked_at[source] = PKTINFO.unpack(more[0][2][: PKTINFO.size])[2]
-        self.receive(sock, data, source)
+        self.receive(sock, data, source[:2])
 
     def on_network_error(self):
         """An ICMP error, which says nothing that matters."""

@@ -128,7 +128,9 @@ class Origins:
     def give_up(self, exchange):
         """Ends an exchange that wasn't answered in time."""
         if self.exchanges.get((exchange.to, exchange.token)) is exchange:
-            self.note_silence(exchange)
+            # One that acknowledged the request isn't silent.
+            if exchange.is_counted:
+                self.note_silence(exchange)
             self.fail(exchange, TIMEOUT)
 
     def note_silence(self, exchange):

@@ -100,16 +100,22 @@ class Targets:
             return Target(None, None, path, query)
         if host in self.hosts and port:
             return Target(host, port, path, query)
-        if not re.fullmatch(r"\d+\.\d+\.\d+\.\d+", host) or not port or any(int(it) > 255 for it in host.split(".")):
+        if not port or not self.is_address(host):
             raise UriError(NOT_SUPPORTED)
-        return Target(host, port, path, query)
+        return Target(host.strip("[]"), port, path, query)
+
+    def is_address(self, host):
+        """Whether a host is an address that it can send to: an IPv4 one, or the loopback's of IPv6."""
+        if re.fullmatch(r"\d+\.\d+\.\d+\.\d+", host):
+            return all(int(it) < 256 for it in host.split("."))
+        return host == "[::1]" and self.host == "::1"
 
     def plain_host(self, host):
         """A host in lower case and decoded."""
         return decoded(host.lower()).decode("latin-1").lower()
 
     def is_own(self, host, port):
-        return host in (*self.names, self.host) and port == self.port
+        return host in (*self.names, wire.literal(self.host)) and port == self.port
 
     def mapped(self, target):
         """The target that a path of the proxy itself is mapped to, or None."""

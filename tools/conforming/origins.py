@@ -37,7 +37,7 @@ class Served:
         if directly:
             options = wire.path(*segments) + [(URI_QUERY, it.encode()) for it in query]
         else:
-            uri = f"coap://{self.host}:{self.port}/" + "/".join(quote(it) for it in segments)
+            uri = f"coap://{wire.literal(self.host)}:{self.port}/" + "/".join(quote(it) for it in segments)
             uri += "?" + "&".join(query) if query else ""
             options = [(PROXY_URI, uri.encode())]
         client = self.client(directly)

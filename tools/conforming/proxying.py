@@ -306,7 +306,7 @@ def without_a_uri_port_the_port_is_that_of_the_request(stage):
     """The default value of the Uri-Port Option is the destination UDP port of the request message."""
     port = stage.proxy.address[1]
     here, usual = stage.origin(port=port), stage.origin(port=5683)
-    options = [(wire.URI_HOST, stage.host.encode()), *wire.path(stage.mark), (wire.PROXY_SCHEME, b"coap")]
+    options = [(wire.URI_HOST, wire.literal(stage.host).encode()), *wire.path(stage.mark), (wire.PROXY_SCHEME, b"coap")]
     stage.client().request(GET, options, kind=NON)
     asked = here.new(SILENCE * 2)
     if asked is None:

@@ -21,8 +21,10 @@ from testing.network import STARTED, end, free_port
 # How a proxy is reached: the words that start it, or none; its address; the name that it is known by, or none; whether
 # it is a forward-proxy; its prefixes, each with the origin's address, as texts with places; the text of a file for it,
 # or none, in which a place is written like @port@; the words that start it with a next proxy, or none; and another
-# name that it knows with its address, as a text with places like NAME=ADDRESS, or none.
-Setup = namedtuple("Setup", "command host port name is_forward prefixes file chained known", defaults=(None, (), None))
+# name that it knows with its address, as a text with places like NAME=ADDRESS, or none; and whether all is over IPv6.
+Setup = namedtuple(
+    "Setup", "command host port name is_forward prefixes file chained known is_v6", defaults=(None, (), None, False)
+)
 # How many origins a command has places for: {origin}, {origin2} ..
 ORIGINS = 24
 # How long a proxy may take until it answers after its start, and while cases are played, in seconds.
@@ -38,7 +40,7 @@ class Lease:
         host, _, port = authority.rpartition(":")
         if not prefix.startswith("/") or not port.isdigit():
             raise Broken(f"{text} isn't PREFIX=ADDRESS:PORT")
-        self.prefix, self.host, self.port = segments_of(prefix), host, int(port)
+        self.prefix, self.host, self.port = segments_of(prefix), host.strip("[]"), int(port)
         self.base, self.endpoint = segments_of(base), None
 
 
@@ -47,9 +49,9 @@ def segments_of(path):
     return [it.encode() for it in path.strip("/").split("/") if it]
 
 
-def loopback():
-    """An address that hardly anybody else has."""
-    return "127.%d.%d.%d" % tuple(random.randrange(64, 255) for _ in range(3))
+def loopback(is_v6):
+    """An address that hardly anybody else has; of IPv6 there is one."""
+    return "::1" if is_v6 else "127.%d.%d.%d" % tuple(random.randrange(64, 255) for _ in range(3))
 
 
 class Proxy:
@@ -60,12 +62,15 @@ class Proxy:
         self.name = setup.name
         self.lock, self.count, self.process = threading.Lock(), 0, None
         self.leases = queue.Queue()
-        host = setup.host or loopback()
+        self.is_v6 = setup.is_v6
+        host = setup.host or loopback(self.is_v6)
         self.address = (host, setup.port or free_port())
-        self.client_host = "127.0.0.1"
-        self.places = {"address": host, "name": setup.name or "", "host": loopback(), **origin_ports()}
+        self.client_host = "::1" if self.is_v6 else "127.0.0.1"
+        self.places = {"address": host, "literal": wire.literal(host), "name": setup.name or "", **origin_ports()}
+        self.places["host"] = wire.literal(loopback(self.is_v6))
         # A name that it knows, and that name's address.
-        self.known = tuple((setup.known or "").format(**self.places).split("=")) if setup.known else None
+        known = (setup.known or "").format(**self.places).partition("=")
+        self.known = (known[0], known[2].strip("[]")) if setup.known else None
         for text in setup.prefixes:
             self.leases.put(Lease(text.format(port=self.address[1], **self.places)))
         self.has_prefixes = bool(setup.prefixes)
@@ -88,8 +93,10 @@ class Proxy:
         except queue.Empty:
             raise Broken("no prefix was free") from None
 
-    def give_back(self, lease):
-        self.leases.put(lease)
+    def give_back(self, lease, is_silent):
+        """Has other cases have a prefix, unless its origin may be left alone now and there are others."""
+        if not is_silent or self.leases.qsize() < 4:
+            self.leases.put(lease)
 
     # The process
 
@@ -209,7 +216,7 @@ class Proxy:
             self.offers.add("host")
         if self.address[1] != 5683:
             self.offers.add("another port")
-        if any("{address}" in it for it in self.setup.command):
+        if any("{address}" in it for it in self.setup.command) and not self.is_v6:
             self.offers.add("any address")
         if self.setup.chained:
             self.offers.add("chain")

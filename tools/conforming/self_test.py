@@ -14,16 +14,16 @@ STAND_IN = os.path.join(os.path.dirname(os.path.abspath(__file__)), "stand_in")
 RIGHT = ("Proxy", "Separate", "Plain", "Bare")
 # How much shorter the times of the RFC are, how many stand-ins run at once, and how many cases each of them plays.
 SCALE, AT_ONCE, CASES_AT_ONCE = 0.1, 16, 24
-PREFIXES = [f"/r{n}={{address}}:{{origin{n if n > 1 else ''}}}" for n in range(1, ORIGINS + 1)]
+PREFIXES = [f"/r{n}={{literal}}:{{origin{n if n > 1 else ''}}}" for n in range(1, ORIGINS + 1)]
 OFFERS = {"forward", "scheme", "reverse", "another way", "name", "host", "another port", "any address", "chain"}
 OFFERS |= {"libcoap"} if shutil.which("coap-server-notls") or shutil.which("coap-server") else set()
 
 
-def setup_of(name):
+def setup_of(name, is_v6):
     """How a stand-in is started."""
     start = [sys.executable, STAND_IN, name, str(SCALE), "{address}", "{port}", "{name}"]
     words, chained = [*start, *PREFIXES, "host=origin.test={host}"], [*start, "next={next}"]
-    return Setup(words, None, None, "proxy.test", True, PREFIXES, None, chained, "origin.test={host}")
+    return Setup(words, None, None, "proxy.test", True, PREFIXES, None, chained, "origin.test={host}", is_v6)
 
 
 def is_caching(name):
@@ -32,9 +32,10 @@ def is_caching(name):
     return name not in RIGHT or vars(model)[name].caches
 
 
-def outcomes_of(name, cases, tries):
+def outcomes_of(name, cases, tries, is_v6):
     """What comes of cases with a stand-in. What it offers is known."""
-    proxy = Proxy(setup_of(name), SCALE, OFFERS | ({"cache"} if is_caching(name) else set()))
+    offers = (OFFERS - {"any address"} if is_v6 else OFFERS) | ({"cache"} if is_caching(name) else set())
+    proxy = Proxy(setup_of(name, is_v6), SCALE, offers)
     try:
         proxy.start()
         return Play(proxy, True, tries, CASES_AT_ONCE).play(cases)
@@ -71,14 +72,14 @@ def faults_of_wrong(cases, played):
     return faults
 
 
-def run(cases, tell):
+def run(cases, is_v6=False):
     """Plays cases with all stand-ins, writes what is wrong, and returns a status."""
     cases = [it for it in cases if "libcoap" not in it.needs or "libcoap" in OFFERS]
     wrong = sorted({name for case in cases for name in case.faults})
     plays = [(name, cases, 2) for name in RIGHT]
     plays += [(name, [case for case in cases if name in case.faults], 1) for name in wrong]
     with ThreadPoolExecutor(AT_ONCE) as pool:
-        done = list(pool.map(lambda it: outcomes_of(*it), plays))
+        done = list(pool.map(lambda it: outcomes_of(*it, is_v6), plays))
     by_name = dict(zip([it[0] for it in plays], done))
     results = {name: {name_of(it.case): it.result for it in outcomes} for name, outcomes in by_name.items()}
     faults = faults_of_right(cases, by_name) + faults_of_wrong(cases, results)

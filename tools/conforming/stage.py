@@ -70,9 +70,12 @@ class Stage:
         self.proxy, self.scale, self.offers = proxy, scale, proxy.offers
         # The way in which it is asked where the case leaves it open, and those in which it was.
         self.way, self.ways = way or next((it for it in WAYS if it in proxy.offers), "reverse"), set()
-        self.host = "127.%d.%d.%d" % tuple(random.randrange(64, 255) for _ in range(3))
+        # An address that hardly any other case has, where there is more than one.
+        self.host = "::1" if proxy.is_v6 else "127.%d.%d.%d" % tuple(random.randrange(64, 255) for _ in range(3))
         self.mark = os.urandom(4).hex().encode()
         self.endpoints, self.leases, self.instances = [], [], []
+        # Whether an origin is silent to the end, so that a proxy may leave it alone for long after (4.7).
+        self.is_silent = False
 
     def __enter__(self):
         return self
@@ -81,7 +84,7 @@ class Stage:
         for it in self.endpoints:
             it.close()
         for lease in self.leases:
-            self.proxy.give_back(lease)
+            self.proxy.give_back(lease, self.is_silent)
         for it in self.instances:
             it.end()
 
@@ -104,6 +107,12 @@ class Stage:
         origin = Origin(host or self.host, port)
         self.endpoints.append(origin)
         return origin
+
+    def other_host(self):
+        """Another address."""
+        if self.proxy.is_v6:
+            raise NotOffered("the loopback has one address of IPv6")
+        return "127.9.9.9"
 
     def need(self, what):
         """Isn't offered unless the proxy has something."""

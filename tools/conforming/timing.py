@@ -102,6 +102,7 @@ def first_timeouts_are_random(stage):
 @case(MUST, "SendsFourTimes", "SendsSixTimes", is_long=True)
 def a_request_is_sent_five_times(stage):
     """MAX_RETRANSMIT is 4: the message is sent once, and then up to four times again."""
+    stage.is_silent = True
     resource, _, _, asked = ask(stage)
     moments = [asked.at]
     while len(moments) < 7:
@@ -116,6 +117,7 @@ def a_request_is_sent_five_times(stage):
 @case(MUST, "NoGatewayTimeout", at="5.7.1", each={"confirmable": CON, "non-confirmable": NON}, is_long=True)
 def a_request_that_times_out_gives_5_04(stage, kind):
     """If the request to the destination times out, then a 5.04 (Gateway Timeout) response MUST be returned."""
+    stage.is_silent = True
     resource, client, request, _ = ask(stage, kind)
     client.expect_code(request, TIMEOUT, seconds=stage.seconds(110) + LATE)
 
@@ -213,6 +215,7 @@ def an_acknowledged_request_makes_room_for_the_next(stage):
 def a_silent_origin_is_sent_a_byte_a_second(stage):
     """An endpoint MUST NOT exceed an average data rate of PROBING_RATE in sending to another endpoint that doesn't
     respond. After a request of 300 bytes, which was sent five times, another has to wait for 1,500 seconds."""
+    stage.is_silent = True
     resource, client = stage.resource(), stage.client()
     for name in "ab":
         client.request(POST, resource.other(name).here, 300 * b"x", NON)

@@ -22,6 +22,11 @@ def code(text):
     return int(before) << 5 | int(after)
 
 
+def literal(host):
+    """An address as it stands in a URI and in a Uri-Host."""
+    return f"[{host}]" if ":" in host else host
+
+
 def path(*segments):
     """The Uri-Path options of some segments."""
     return [(URI_PATH, it if isinstance(it, bytes) else it.encode()) for it in segments]

@@ -1,11 +1,11 @@
 """Stand-ins that are wrong in one respect of responses: their forms, tokens, and the requests that they belong to."""
 
-import socket
 import time
 
 from conforming import wire
 from conforming.model import Proxy, Separate
 from conforming.wire import ACK, CON, NON
+from testing.network import udp
 
 
 class SeparateIgnored(Proxy):
@@ -110,7 +110,7 @@ class Elsewhere(Proxy):
 
     def __init__(self, host, *words):
         super().__init__(host, *words)
-        self.third = socket.socket(socket.AF_INET, socket.SOCK_DGRAM)
+        self.third = udp(host)
         self.third.bind((host, 0))
 
     def send(self, sock, data, to):

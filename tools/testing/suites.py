@@ -16,7 +16,7 @@ from conforming.cases import (
 )
 from conforming.playing import Play
 from conforming.running import Setup
-from testing.network import Skipped, expect, free_port
+from testing.network import Skipped, expect, free_port, has_ipv6
 
 TOOLS = os.path.dirname(os.path.dirname(os.path.abspath(__file__)))
 
@@ -105,7 +105,7 @@ def output_is_tap():
 class Nobody:
     """A proxy that isn't there, for cases that ask nothing of it."""
 
-    setup, offers, scale, count = Setup(["nobody"], None, None, None, True, []), {"forward"}, 1.0, 1
+    setup, offers, scale, count, is_v6 = Setup(["nobody"], None, None, None, True, []), {"forward"}, 1.0, 1, False
 
     def start(self):
         return self.count
@@ -188,6 +188,15 @@ def run(*words):
 def stand_ins_are_told_apart():
     """Some cases of the format pass with right stand-ins and fail with wrong ones."""
     status, text = run("--self-test", "--only", "^3 MUST a_.*(of_another_version|marker)")
+    expect("status and text", (0, " 0 faults"), (status, text.rstrip("\n")[-9:]), "the status", "how the text ends")
+
+
+def it_speaks_ipv6():
+    """So do the stand-ins, which are asked by each way."""
+    if not has_ipv6():
+        raise Skipped("there is no ::1")
+    only = "^5.7.[23] MUST a_request.*GET, confirmable|a_ping|port_that_was"
+    status, text = run("--v6", "--self-test", "--only", only)
     expect("status and text", (0, " 0 faults"), (status, text.rstrip("\n")[-9:]), "the status", "how the text ends")
 
 
@@ -314,7 +323,7 @@ def builds_are_compared(program):
 
 
 CASES = (
-    cases_stand_in_rows, output_is_tap, rows_are_compared, stand_ins_are_told_apart, a_wrong_stand_in_is_not_kept,
-    a_proxy_that_ends_is_no_pass, what_comes_and_goes_is_told, both_ways_are_played, cases_are_listed,
-    it_runs_alone, what_cannot_be_tried_is_said, a_load_finds_wrong_answers,
+    cases_stand_in_rows, output_is_tap, rows_are_compared, stand_ins_are_told_apart, it_speaks_ipv6,
+    a_wrong_stand_in_is_not_kept, a_proxy_that_ends_is_no_pass, what_comes_and_goes_is_told, both_ways_are_played,
+    cases_are_listed, it_runs_alone, what_cannot_be_tried_is_said, a_load_finds_wrong_answers,
 )
