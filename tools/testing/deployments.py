@@ -78,9 +78,10 @@ def blob(layout, described):
 
 
 def check_image(layout, path):
-    """Has a layout have one image, with this program and what belongs to it."""
+    """Has a layout have one image, with this program and what belongs to it. Returns the image's name."""
     with open(os.path.join(layout, "index.json")) as file:
-        index = json.loads(blob(layout, json.load(file)["manifests"][0]))
+        named = json.load(file)["manifests"][0]
+    index = json.loads(blob(layout, named))
     expect("how many images there are", 1, len(index["manifests"]))
     machine = {"x86_64": "amd64", "aarch64": "arm64"}[programs.machine_of(path)]
     platform = index["manifests"][0]["platform"]
@@ -97,6 +98,21 @@ def check_image(layout, path):
     expect("the files", {"coap-proxyd", "etc/coap-proxyd.toml", "usr/share/doc/coap-proxyd/built-from"}, files)
     with open(path, "rb") as file:
         expect("whether it holds the program", True, program == file.read())
+    name = f"coap-proxyd:{config['config']['Labels']['org.opencontainers.image.version']}"
+    expect("the name", name, named["annotations"]["org.opencontainers.image.ref.name"])
+    return name
+
+
+def check_archive(archive, layout, name):
+    """Has an archive have the files of a layout, and its image be found by its name, if there is a program for that."""
+    with tarfile.open(archive) as tar:
+        files = {it.name: tar.extractfile(it).read() for it in tar.getmembers() if it.isfile()}
+    expect("whether the archive has the same files", True, files == all_files(layout))
+    if shutil.which("skopeo"):
+        for where in (f"oci-archive:{archive}:{name}", f"oci:{layout}:{name}"):
+            words = ["skopeo", "inspect", "--raw", where]
+            done = subprocess.run(words, stdout=subprocess.DEVNULL, stderr=subprocess.PIPE, text=True, timeout=50)
+            expect(f"what skopeo says of {where}", (0, ""), (done.returncode, done.stderr), *FAULT)
 
 
 def all_files(folder):
@@ -128,8 +144,10 @@ def check_images(program):
             return
         for layout in layouts:
             expect("what is said", (0, ""), run_tool("image", layout, path), *FAULT)
-        check_image(layouts[0], path)
+        name, archive = check_image(layouts[0], path), os.path.join(folder, "image.tar")
         expect_same_files(*layouts)
+        expect("what is said of the archive", (0, ""), run_tool("image", "--tar", archive, path), *FAULT)
+        check_archive(archive, layouts[0], name)
 
 
 # Packages
