@@ -4,9 +4,9 @@ import os
 from collections import namedtuple
 
 from testing import accounts, caching, captures, chosen, clients, configurations, costs, days, deployments, documents
-from testing import draws, endings, faults, fleets, forwarding, gateways, hosts, instructions, kernels, leaps, libcoap
-from testing import limits, links, logs, memory, messages, monitoring, pages, parents, periods, pictures, programs
-from testing import questions, ranges, readings, recordings, refusals, roles, script, sends, services, silences
+from testing import draws, endings, faults, firewalls, fleets, forwarding, gateways, hosts, instructions, kernels, leaps
+from testing import libcoap, limits, links, logs, memory, messages, monitoring, pages, parents, periods, pictures
+from testing import programs, questions, ranges, readings, recordings, refusals, roles, script, sends, services, silences
 from testing import slips, spreads, statistics, suites, uptimes, watching, worked, writes
 from testing.network import Stage
 from testing.stand_ins import PLAYER, SAID, differences_are_told, must_fail, must_say
@@ -268,6 +268,9 @@ def tests(program):
     for address in ("0.0.0.0", "::"):
         name = f"gateway accounts_for_both_interfaces at {address}"
         yield Test(name, gateways.accounts_for_both_interfaces, (program, address))
+    for function in firewalls.KINDS:
+        yield Test(f"firewall holds_for_{function.__name__}", firewalls.holds, (program, function))
+    yield Test("firewall the_tools_know_the_ports", play_end, (program, firewalls.the_tools_know_the_ports))
     yield Test("spread gives_each_client_one_instance", spreads.gives_each_client_one_instance, (program,))
     yield Test("stand-in differences_are_told", differences_are_told, ())
     for wrong, name, pattern in SAID:

@@ -1,0 +1,181 @@
+"""What must hold of the rules in examples/coap-proxyd.nft: whoever isn't listed gets neither an answer nor a request, of
+one instance, of those that tools/spread writes and of those of tools/fleet."""
+
+import os
+import socket
+import subprocess
+import sys
+import time
+from collections import namedtuple
+
+from checking import firewall
+from reading.messages import code_name
+from testing.coap import ACK, CON, CONTENT, EMPTY, GET, MAX_AGE, RST, message, read
+from testing.namespaces import join, namespaces, run, socket_in
+from testing.network import SILENCE, Broken, Failed, Skipped, Stage, expect
+from testing.script import TOP
+from testing.steps import path
+
+# The host with the proxies, the end of the link to it, and addresses at that end which the example lists, or doesn't.
+HERE, THERE, PORT = "192.0.2.1", "192.0.2.2", 5683
+DEVICE, DASHBOARD, LISTED = "192.0.2.7", "192.0.2.10", "198.51.100.9"
+STRANGER, UNLISTED = "192.0.2.8", "203.0.113.9"
+RULES = os.path.join(TOP, "examples", "coap-proxyd.nft")
+
+MAP = '[[map]]\nprefix = "{}"\norigin = "{}"\n'
+# Proxies that run: at which ports, and the paths of the device and of the stranger.
+Running = namedtuple("Running", "ports device stranger")
+
+
+def lines_of(near, far):
+    """The commands that make the namespace of the proxies and that of all others."""
+    yield from join(near, far, ("near", "far"), (HERE, THERE))
+    for address in (DEVICE, DASHBOARD, STRANGER, LISTED, UNLISTED):
+        yield ("ip", "-n", far, "addr", "add", f"{address}/24", "dev", "far")
+    for network in ("198.51.100.0/24", "203.0.113.0/24"):
+        yield ("ip", "-n", near, "route", "add", network, "via", THERE)
+
+
+class Site:
+    """A host with the rules of the example as they stand, clients, a device and a stranger."""
+
+    def __init__(self, stage, near, far):
+        self.stage, self.near = stage, near
+        self.sockets = {name: socket_in(far, name) for name in (DEVICE, STRANGER, DASHBOARD, LISTED, UNLISTED)}
+        self.uris = {name: f"coap://{name}:{self.sockets[name].getsockname()[1]}/" for name in (DEVICE, STRANGER)}
+        self.load(RULES)
+
+    def load(self, rules):
+        """Loads rules on the host."""
+        if not run("ip", "netns", "exec", self.near, "nft", "-f", rules):
+            raise Skipped(f"this system doesn't load {os.path.basename(rules)}")
+
+    def tool(self, name, *words):
+        """Runs a tool, which writes below the folder of the stage."""
+        settings = {**os.environ, "DESTDIR": self.stage.folder}
+        words = [sys.executable, os.path.join(TOP, "tools", name), *words]
+        done = subprocess.run(words, env=settings, stdout=subprocess.PIPE, universal_newlines=True, timeout=50)
+        expect(f"the status of {name}", 0, done.returncode)
+        expect(f"whether {name} says that the rules hold", True, "The rules of coap-proxyd.nft hold" in done.stdout)
+
+    def start(self, port, config):
+        """Starts an instance."""
+        words = ["-A", HERE, "-p", str(port), "--config", config]
+        self.stage.start(["ip", "netns", "exec", self.near, *self.stage.program, *words])
+
+    def start_all(self, folder, names, configs):
+        """Starts the instances whose files are in a folder, and returns their ports."""
+        ports = []
+        for name in names:
+            with open(os.path.join(folder, f"coap-proxyd-{name}")) as lines:
+                ports.append(int(dict(line.strip().split("=") for line in lines)["PORT"]))
+            self.start(ports[-1], os.path.join(configs, f"{name}.toml"))
+        return ports
+
+    def config(self):
+        """A configuration with a map for the device and one for the stranger."""
+        maps = (("/t", self.uris[DEVICE]), ("/u", self.uris[STRANGER]))
+        return self.stage.file("p.toml", "version = 2\n" + "".join(MAP.format(*it) for it in maps))
+
+    def wait(self, ports):
+        """Waits until there is a proxy at each of these ports, of which the dashboard knows."""
+        client, until = self.sockets[DASHBOARD], time.monotonic() + 20
+        for port in ports:
+            while True:
+                if time.monotonic() > until:
+                    raise Broken(f"no proxy is at port {port}")
+                client.sendto(message(CON, EMPTY, port), (HERE, port))
+                came = received(client, 0.1)
+                if came and read(came[0]).kind == RST and read(came[0]).message_id == port:
+                    break
+
+    def ask(self, name, port, segments, message_id):
+        """Has a client send a request."""
+        self.sockets[name].sendto(message(CON, GET, message_id, b"\xaa", path(*segments)), (HERE, port))
+
+
+def received(client, seconds):
+    """What a socket receives in so many seconds, with where it is from, or nothing."""
+    client.settimeout(seconds)
+    try:
+        return client.recvfrom(2_000)
+    except socket.timeout:
+        return None
+
+
+def one(site):
+    """One instance."""
+    site.start(PORT, site.config())
+    return Running([PORT], ["t"], ["u"])
+
+
+def spread(site):
+    """Three instances of tools/spread, of which this client has one."""
+    site.tool("spread", "3", "--address", HERE, "--config", site.config())
+    etc = os.path.join(site.stage.folder, "etc")
+    site.load(os.path.join(etc, "coap-proxyd", "spread.nft"))
+    names = [f"spread{number}" for number in (1, 2, 3)]
+    ports = site.start_all(os.path.join(etc, "default"), names, os.path.join(etc, "coap-proxyd"))
+    return Running([PORT, *ports], ["t"], ["u"])
+
+
+def fleet(site):
+    """The two instances of tools/fleet, for the device and the stranger."""
+    sensors = site.stage.file("sensors", f"t {site.uris[DEVICE]}\nu {site.uris[STRANGER]}\n")
+    folder = os.path.join(site.stage.folder, "fleet")
+    site.tool("fleet", sensors, folder, "--address", HERE)
+    return Running(site.start_all(folder, ["front", "g1"], folder), ["g1", "t"], ["g1", "u"])
+
+
+def expect_listed_served(site, running):
+    """Has a client that is listed get what the device has, which is listed, too."""
+    site.ask(LISTED, PORT, running.device, 1)
+    asked = received(site.sockets[DEVICE], 5)
+    if asked is None:
+        raise Failed("expected a request at the device, got none for 5 s")
+    request = read(asked[0])
+    answer = message(ACK, CONTENT, request.message_id, request.token, [(MAX_AGE, b"\x3c")], b"21")
+    site.sockets[DEVICE].sendto(answer, asked[1])
+    codes = []
+    while CONTENT not in codes:
+        came = received(site.sockets[LISTED], 5)
+        if came is None:
+            raise Failed(f"expected an answer of the device, got {list(map(code_name, codes))}")
+        codes.append(read(came[0]).code)
+        if read(came[0]).kind == CON:
+            site.sockets[LISTED].sendto(message(ACK, EMPTY, read(came[0]).message_id), came[1])
+
+
+def expect_others_silent(site, running):
+    """Has the stranger get no request, and a client that isn't listed no answer, at any port."""
+    site.ask(LISTED, PORT, running.stranger, 2)
+    came = received(site.sockets[LISTED], 5)
+    expect("whether a request for the stranger is taken", (ACK, EMPTY), came and read(came[0])[:2])
+    for number, port in enumerate(running.ports):
+        site.ask(UNLISTED, port, running.device, number)
+    for name in (STRANGER, UNLISTED):
+        came = received(site.sockets[name], SILENCE)
+        expect(f"what {name} gets, which isn't listed", None, came and code_name(read(came[0]).code))
+
+
+def holds(program, start):
+    """Has the rules hold for proxies that are started so."""
+    with namespaces(2, lines_of, "nft") as (near, far), Stage(program) as stage:
+        site = Site(stage, near, far)
+        running = start(site)
+        site.wait(running.ports)
+        expect_listed_served(site, running)
+        expect_others_silent(site, running)
+
+
+def the_tools_know_the_ports(_):
+    """Has the ports of the rules be those that the tools know."""
+    with open(RULES) as file:
+        text = file.read()
+    ports = f"{firewall.PORTS[0]}-{firewall.PORTS[-1]}"
+    expect("whether the rules have these ports", True, f"flags interval\n        elements = {{ {ports} }}" in text)
+    said = "In coap-proxyd.nft the set `ports` must have 6000-6071, or these rules let everybody in."
+    expect("what is said of others", [None, said], [firewall.advice(5_683, 5_754), firewall.advice(6_000, 6_071)])
+
+
+KINDS = (one, spread, fleet)
