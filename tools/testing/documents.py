@@ -277,7 +277,7 @@ def configurations_are_accepted(program):
             if block.startswith("    version = "):
                 tried += 1
                 check_configuration(program, "\n".join(line[4:] for line in block.splitlines()))
-    expect("how many configurations there are", 3, tried)
+    expect("how many configurations there are", 4, tried)
 
 
 def check_configuration(program, text):

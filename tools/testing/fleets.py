@@ -6,8 +6,9 @@ import subprocess
 import sys
 import threading
 
+from testing import libcoap
 from testing.coap import ACK, CONTENT, EMPTY, GET, MAX_AGE, URI_PATH, message, read
-from testing.network import FAULT, Broken, case_list, expect, expect_message, udp
+from testing.network import FAULT, Broken, case_list, expect, expect_message, free_port, udp
 
 CASES, case = case_list()
 SCRIPT = os.path.join(os.path.dirname(os.path.dirname(os.path.abspath(__file__))), "fleet")
@@ -47,11 +48,11 @@ class Sensors:
                 key.fileobj.sendto(answer, source)
 
 
-def write_fleet(stage, sensors, port):
+def write_fleet(stage, uris, port, *more):
     """Has tools/fleet write the configurations, and returns their folder."""
-    names = stage.file("sensors", "".join(f"{name} {uri}\n" for name, uri in sensors.uris.items()))
-    folder = os.path.join(stage.folder, "fleet")
-    words = [sys.executable, SCRIPT, names, folder, "--address", stage.host, "--port", str(port)]
+    names = stage.file("sensors", "".join(f"{name} {uri}\n" for name, uri in uris.items()))
+    folder = os.path.join(stage.folder, f"fleet-{port}")
+    words = [sys.executable, SCRIPT, names, folder, "--address", stage.host, "--port", str(port), *more]
     done = subprocess.run(words, stdout=subprocess.PIPE, stderr=subprocess.PIPE, timeout=50)
     expect("the status of fleet", (0, b""), (done.returncode, done.stderr), *FAULT)
     return folder
@@ -93,7 +94,7 @@ def ask_all(stage, front, folder):
 def serve_fleet(stage, count):
     """Serves so many sensors: in the first round each is asked once, in the second none."""
     with Sensors(stage.host, count) as sensors:
-        folder = write_fleet(stage, sensors, 20_000)
+        folder = write_fleet(stage, sensors.uris, 20_000)
         front = start_fleet(stage, folder)
         expect("how many sensors answered", count, ask_all(stage, front, folder))
         expect("which were asked", sorted(sensors.uris), sorted(sensors.asked))
@@ -104,3 +105,34 @@ def serve_fleet(stage, count):
 @case("TokenChanged", "NeverFromTheCache")
 def more_sensors_than_maps_are_served(stage):
     serve_fleet(stage, 70)
+
+
+def ask_beside_a_silence(stage, port, *more):
+    """Has libcoap's client ask a front for a sensor that is silent, and twice once it is back. Returns what it printed.
+    The sensor's instance gives it up after a second and a half, so that this needn't take longer."""
+    uri = f"coap://{stage.host}:{free_port()}/"
+    folder = write_fleet(stage, {"s1": uri}, port, *more)
+    path = os.path.join(folder, "g1.toml")
+    with open(path) as file:
+        text = file.read()
+    with open(path, "w") as file:
+        file.write(text.replace("[limits]\n", "[limits]\nexchange_ms = 1500\n"))
+    front, device = start_fleet(stage, folder), (stage.host, int(uri.rstrip("/").rpartition(":")[2]))
+    with udp(stage.host) as silent:
+        silent.bind(device)
+        printed = [libcoap.client(stage, front, "g1/s1")]
+    server = stage.start([libcoap.tool("server"), "-A", device[0], "-p", str(device[1])])
+    if not stage.is_ready(server, device):
+        raise Broken("libcoap's server doesn't serve the port of the sensor")
+    return printed + [libcoap.client(stage, front, "g1/s1")[: len(libcoap.WELCOME)] for _ in range(2)]
+
+
+@case("TokenChanged")
+def a_front_keeps_no_error_of_a_sensor_that_is_back(stage):
+    expect("what the client printed", [b"5.04", *[libcoap.WELCOME] * 2], ask_beside_a_silence(stage, 20_000))
+
+
+@case("NeverFromTheCache")
+def a_front_with_a_cache_keeps_an_error(stage):
+    came = ask_beside_a_silence(stage, 20_000, "--front-cache")
+    expect("what the client printed", [b"5.04"] * 3, came)
