@@ -32,6 +32,7 @@ OF_CLIENT = {
 LIMITS = {**SHARED, **OF_CLIENT}
 TOP = ("version", "names", "limits", "hosts", "map")
 MOST = {"names": 64, "hosts": 256, "map": 64}
+MORE_MAPS = "; tools/fleet (coap-proxyd-fleet) writes configurations of several instances for more"
 
 
 def shown(value):
@@ -161,7 +162,8 @@ def check_routes(table):
         items = [table[key].value[it] for it in items] if key == "hosts" else items
         if len(items) > most:
             many = {"names": "own name", "hosts": "host", "map": "map"}[key]
-            yield Finding(sorted(it.line for it in items)[most], f"{many} {most + 1}: there may be {most}", "routes")
+            text = f"{many} {most + 1}: there may be {most}" + (MORE_MAPS if key == "map" else "")
+            yield Finding(sorted(it.line for it in items)[most], text, "routes")
 
 
 def check_host(name, item, known):

@@ -51,7 +51,7 @@ def check_word_map(words, table, known):
         yield from check_map(route, known, "map option")
         yield from configuration.slips_of_map(route)
         if len(configuration.member(table, "map", list)) >= configuration.MOST["map"]:
-            yield Finding(None, "--map is map 65: there may be 64", "map option")
+            yield Finding(None, f"--map is map 65: there may be 64{configuration.MORE_MAPS}", "map option")
 
 
 def places(words, table, known):
@@ -94,7 +94,8 @@ def slips_of_places(words, table, known):
             if place.port == (words.port or 5683):
                 yield Finding(line, f"{what} leads to the proxy itself")
         elif there.version != here.version and not (here.version == 6 and here.is_unspecified):
-            yield Finding(line, f"{what}: from {here} no IPv{there.version} address is reached")
+            text = f"{what}: from {here} no IPv{there.version} address is reached; -A :: reaches both kinds"
+            yield Finding(line, text)
         elif here.is_loopback and not there.is_loopback:
             yield Finding(line, f"{what}: from {here} no other host is reached")
 

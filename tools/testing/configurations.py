@@ -18,6 +18,7 @@ PAGE = os.path.join(os.path.dirname(TOOLS), "docs", "coap-proxyd.toml.5")
 # A name, the words, the configuration, and the lines without the file's name.
 Said = namedtuple("Said", "name words text lines")
 
+FLEET = "; tools/fleet (coap-proxyd-fleet) writes configurations of several instances for more"
 MAP = '[[map]]\nprefix = "{}"\norigin = "{}"\n'
 SAID = (
     Said("nothing", [], "version = 1\n", ["accepted"]),
@@ -47,13 +48,13 @@ SAID = (
         "the_65th_map",
         [],
         "version = 1\n" + "".join(MAP.format(f"/{n}", "coap://192.0.2.7/") for n in range(66)),
-        ["194: error: map 65: there may be 64", "refused: routes"],
+        [f"194: error: map 65: there may be 64{FLEET}", "refused: routes"],
     ),
     Said(
         "the_65th_map_in_the_words",
         ["--map", "/t=coap://192.0.2.7/"],
         "version = 1\n" + "".join(MAP.format(f"/{n}", "coap://192.0.2.7/") for n in range(64)),
-        ["error: --map is map 65: there may be 64", "refused: map option"],
+        [f"error: --map is map 65: there may be 64{FLEET}", "refused: map option"],
     ),
     Said(
         "a_dotted_name_without_quotes",
@@ -87,7 +88,7 @@ SAID = (
         [],
         "version = 2\n" + MAP.format("/a", "coap://[2001:db8::1]/") + MAP.format("/b", "coap://127.0.0.1/"),
         [
-            "4: warning: map 1: from 0.0.0.0 no IPv6 address is reached",
+            "4: warning: map 1: from 0.0.0.0 no IPv6 address is reached; -A :: reaches both kinds",
             "7: warning: map 2 leads to the proxy itself",
             "accepted",
         ],
@@ -139,7 +140,7 @@ SAID = (
         "a_next_proxy_that_the_socket_does_not_reach",
         ["-A", "192.0.2.1", "-P", "coap://[2001:db8::2]:5700,proxy.test"],
         "version = 1\n",
-        ["warning: -P: from 192.0.2.1 no IPv6 address is reached", "accepted"],
+        ["warning: -P: from 192.0.2.1 no IPv6 address is reached; -A :: reaches both kinds", "accepted"],
     ),
     Said(
         "names_without_a_comma",
@@ -163,7 +164,7 @@ SAID = (
         'version = 1\n[hosts]\na = "192.0.2.7"\n' + MAP.format("/a", "coap://a/") + MAP.format("/b", "coap://[::1]/"),
         [
             "6: warning: map 1: from 127.0.0.1 no other host is reached",
-            "9: warning: map 2: from 127.0.0.1 no IPv6 address is reached",
+            "9: warning: map 2: from 127.0.0.1 no IPv6 address is reached; -A :: reaches both kinds",
             "accepted",
         ],
     ),

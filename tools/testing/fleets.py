@@ -4,6 +4,7 @@ import os
 import selectors
 import subprocess
 import sys
+import tempfile
 import threading
 
 from testing import libcoap
@@ -136,3 +137,19 @@ def a_front_keeps_no_error_of_a_sensor_that_is_back(stage):
 def a_front_with_a_cache_keeps_an_error(stage):
     came = ask_beside_a_silence(stage, 20_000, "--front-cache")
     expect("what the client printed", [b"5.04"] * 3, came)
+
+
+def an_address_that_reaches_all_is_named(_):
+    with tempfile.TemporaryDirectory(prefix="coap-proxyd-test-") as folder:
+        path = os.path.join(folder, "sensors")
+        with open(path, "w") as file:
+            file.write("s1 coap://192.0.2.7/\ns2 coap://[2001:db8::7]/\n")
+        words = [sys.executable, SCRIPT, path, os.path.join(folder, "fleet")]
+        done = subprocess.run(words, stdout=subprocess.PIPE, stderr=subprocess.PIPE, timeout=50)
+        said = f"fleet: {path}:2: coap://[2001:db8::7]/ can't be reached from 0.0.0.0; with --address :: it can\n"
+        expect("what is said of IPv6", (1, said.encode()), (done.returncode, done.stderr), *FAULT)
+        done = subprocess.run([*words, "--address", "::"], stdout=subprocess.PIPE, stderr=subprocess.PIPE, timeout=50)
+        expect("what is said of it with --address ::", (0, b""), (done.returncode, done.stderr), *FAULT)
+
+
+ENDS = (an_address_that_reaches_all_is_named,)

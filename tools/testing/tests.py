@@ -268,6 +268,8 @@ def tests(program):
     for address in ("0.0.0.0", "::"):
         name = f"gateway accounts_for_both_interfaces at {address}"
         yield Test(name, gateways.accounts_for_both_interfaces, (program, address))
+    for function in fleets.ENDS:
+        yield Test(f"fleet {function.__name__}", play_end, (program, function))
     for function in firewalls.KINDS:
         yield Test(f"firewall holds_for_{function.__name__}", firewalls.holds, (program, function))
     yield Test("firewall the_tools_know_the_ports", play_end, (program, firewalls.the_tools_know_the_ports))
