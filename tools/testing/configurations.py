@@ -240,3 +240,36 @@ def check_page(_):
         lines = set(file.read().splitlines())
     for key, (least, most, usual) in LIMITS.items():
         expect(f"whether the page has {key}", True, f".It {key} ({least} to {most}; {usual})" in lines)
+
+
+def said_in(folder, *words):
+    """What tools/check-config says, with its status, where /etc is in a folder."""
+    settings = {**os.environ, "DESTDIR": folder}
+    done = subprocess.run([sys.executable, SCRIPT, *words], env=settings, stdout=subprocess.PIPE, timeout=50)
+    return done.returncode, done.stdout.decode().replace(f"{folder}/", "").splitlines()
+
+
+def check_environment(_):
+    """Has the files that the units read say where a proxy listens, unless the words do."""
+    text = "version = 2\n" + MAP.format("/a", "coap://[2001:db8::1]/") + MAP.format("/b", "coap://127.0.0.1:5690/")
+    unreached = "warning: map 1: from 0.0.0.0 no IPv6 address is reached; -A :: reaches both kinds"
+    itself = "7: warning: map 2 leads to the proxy itself"
+    with tempfile.TemporaryDirectory(prefix="coap-proxyd-test-") as folder:
+        etc = os.path.join(folder, "etc")
+        for name, default in (("coap-proxyd", "coap-proxyd"), ("coap-proxyd/g1", "coap-proxyd-g1")):
+            path, place = os.path.join(etc, f"{name}.toml"), os.path.join(etc, "default", default)
+            os.makedirs(os.path.dirname(path), exist_ok=True)
+            os.makedirs(os.path.dirname(place), exist_ok=True)
+            with open(path, "w") as file:
+                file.write(text)
+            at = path[len(folder) + 1 :]
+            expect("without it", (0, [f"{at}:4: {unreached}", "accepted"]), said_in(folder, path))
+            with open(place, "w") as file:
+                file.write('# where\nADDRESS="[::]"\nPORT=5690\nOPTIONS="--log"\n')
+            expect("with it", (0, [f"{at}:{itself}", "accepted"]), said_in(folder, path))
+            came = said_in(folder, path, "-A", "0.0.0.0", "-p", "5683")
+            expect("with words", (0, [f"{at}:4: {unreached}", "accepted"]), came)
+        instance = (0, [f"etc/coap-proxyd/g1.toml:{itself}", "accepted"])
+        expect("of an instance", instance, said_in(folder, "--instance", "g1"))
+        os.rename(os.path.join(etc, "default", "coap-proxyd-g1"), os.path.join(etc, "coap-proxyd", "coap-proxyd-g1"))
+        expect("with it beside", instance, said_in(folder, os.path.join(etc, "coap-proxyd", "g1.toml")))

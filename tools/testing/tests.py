@@ -208,6 +208,7 @@ def configuration_tests(program, runs):
     for said in configurations.SAID:
         yield Test(f"check-config says {said.name}", configurations.check_said, (said,))
     yield Test("check-config knows_what_the_page_tells", configurations.check_page, (program,))
+    yield Test("check-config knows_where_it_listens", configurations.check_environment, (program,))
 
 
 def capture_tests(program, runs):
