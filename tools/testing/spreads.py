@@ -4,12 +4,13 @@ import os
 import shutil
 import subprocess
 import sys
+import threading
 import time
 
 from testing import links, namespaces
 from reading.messages import code_name
 from testing.coap import ACK, CON, CONTENT, EMPTY, GET, MAX_AGE, message, read
-from testing.network import Broken, Skipped, Stage, end, expect
+from testing.network import Skipped, Stage, end, expect
 from testing.steps import T
 
 SCRIPT = os.path.join(os.path.dirname(os.path.dirname(os.path.abspath(__file__))), "spread")
@@ -60,14 +61,15 @@ class Spread:
         done = subprocess.run(words, env=self.settings, stdout=subprocess.PIPE, universal_newlines=True, timeout=60)
         return done.returncode, [line.split(",")[0] for line in done.stdout.splitlines() if line.endswith(": there")]
 
-    def wait(self):
-        """Waits until all instances are there."""
-        everyone = [*(f"spread{number}" for number in range(1, INSTANCES + 1)), "the balancer"]
-        until = time.monotonic() + 20
-        while self.check() != (0, everyone):
-            if time.monotonic() > until:
-                raise Broken("tools/spread --check doesn't find all instances")
-            time.sleep(0.1)
+    def start_late(self, numbers):
+        """Starts instances while tools/spread --check asks for them, which finds them all the same."""
+        starting = threading.Timer(1.5, lambda: [self.start(number) for number in numbers])
+        starting.start()
+        try:
+            everyone = [*(f"spread{number}" for number in range(1, INSTANCES + 1)), "the balancer"]
+            expect("what is found of instances that start late", (0, everyone), self.check())
+        finally:
+            starting.join()
 
     def answer_origin(self):
         """Answers what the origin is asked with the port that asks."""
@@ -97,6 +99,14 @@ class Spread:
         return {number: int(read(self.ask(number, message_id)).payload) for number in numbers}
 
 
+def expect_awaited(spread):
+    """Has the unit start behind all instances, so that its start ends when they listen."""
+    with open(os.path.join(spread.stage.folder, "etc/systemd/system/coap-proxyd-spread.service")) as file:
+        lines = dict(line.strip().split("=", 1) for line in file if line.startswith(("Wants=", "After=")))
+    units = " ".join(f"coap-proxyd@spread{number}.service" for number in range(1, INSTANCES + 1))
+    expect("what the unit starts and waits for", {"Wants": units, "After": units}, lines)
+
+
 def expect_same_from_other_ports(spread, ports):
     """Has each client have the same instance from another port."""
     others = spread.ports(1, range(CLIENTS, 2 * CLIENTS))
@@ -116,8 +126,7 @@ def expect_others_served(spread, ports):
     expect("which instances are there", ["spread1", "spread3"], [it for it in spread.check()[1] if it.startswith("spread")])
     others = [number for number, port in ports.items() if port != FIRST + 1]
     expect("who has which", {number: ports[number] for number in others}, spread.ports(3, others))
-    spread.start(2)
-    spread.wait()
+    spread.start_late([2])
     expect("who has which after a start", ports, spread.ports(4, ports))
 
 
@@ -128,9 +137,8 @@ def gives_each_client_one_instance(program):
     with links.slow_link("1gbit") as (near, far), Stage(program) as stage:
         spread = Spread(stage, near, far)
         spread.write()
-        for number in range(1, INSTANCES + 1):
-            spread.start(number)
-        spread.wait()
+        expect_awaited(spread)
+        spread.start_late(range(1, INSTANCES + 1))
         ports = spread.ports(1, range(CLIENTS))
         expect("which instances are used", {FIRST + number for number in range(INSTANCES)}, set(ports.values()))
         expect_same_from_other_ports(spread, ports)
