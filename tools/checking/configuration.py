@@ -5,8 +5,8 @@ from collections import namedtuple
 from checking.routes import Route, host_of, is_name, name_of, origin_of, prefix_fault
 from checking.toml_lines import Value
 
-# A line, what is wrong there, and the program's name for the fault, or none for what it accepts.
-Finding = namedtuple("Finding", "line text fault", defaults=(None,))
+# A line, what is wrong there, the program's name for the fault, or none for what it accepts, and whether it is a note.
+Finding = namedtuple("Finding", "line text fault is_note", defaults=(None, False))
 
 # The limits that all clients share, in the program's order, with their least and greatest values and their defaults.
 SHARED = {
@@ -236,12 +236,17 @@ def most_bytes(limits):
     return counted + 500 * (limits["exchanges"] + limits["waiters"]) + 1_000 * limits["cache_entries"]
 
 
+def limits_of(table):
+    """The limits of a configuration with those that it has by default, or nothing if one isn't a number."""
+    said = member(table, "limits", dict)
+    limits = {key: said[key].value if key in said else default for key, (_, _, default) in known_limits(table).items()}
+    return limits if all(type(value) is int for value in limits.values()) else None
+
+
 def slips_of_limits(table, memory_max):
     """Limits that the unit has no memory for, or that don't do what they seem to."""
-    said = member(table, "limits", dict)
-    known = known_limits(table)
-    limits = {key: said[key].value if key in said else default for key, (_, _, default) in known.items()}
-    if any(type(value) is not int for value in limits.values()):
+    said, known, limits = member(table, "limits", dict), known_limits(table), limits_of(table)
+    if limits is None:
         return
     line = table["limits"].line if "limits" in table else 1
     if most_bytes(limits) > memory_max:

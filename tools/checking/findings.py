@@ -2,7 +2,7 @@
 
 import ipaddress
 
-from checking import configuration, toml_lines
+from checking import configuration, firewall, toml_lines
 from checking.configuration import Finding, check_map, faults, maps, slips
 from checking.routes import Origin, Route, host_of, ipv4_of, ipv6_of, is_name, name_of, next_proxy_of, origin_of
 from checking.toml_lines import NotRead, Value
@@ -100,6 +100,21 @@ def slips_of_places(words, table, known):
             yield Finding(line, f"{what}: from {here} no other host is reached")
 
 
+def notes_of_rules(words, table):
+    """Whether those whom the rules of a firewall admit can fill the tables."""
+    path, limits = getattr(words, "rules", None), configuration.limits_of(table)
+    if path is None or limits is None:
+        return
+    try:
+        with open(path, encoding="utf-8") as file:
+            text = file.read()
+    except (OSError, UnicodeDecodeError) as error:
+        yield Finding(None, f"{path} can't be read: {error}")
+        return
+    for said, is_warning in firewall.told(path, text, limits):
+        yield Finding(None, said, is_note=not is_warning)
+
+
 def hosts_of(table):
     """The addresses of the hosts by name."""
     return {name_of(name): host_of(item.value) for name, item in configuration.hosts(table)}
@@ -125,6 +140,7 @@ def findings(words, memory_max):
     yield from check_word_map(words, table, known)
     yield from slips(table, memory_max)
     yield from slips_of_places(words, table, known)
+    yield from notes_of_rules(words, table)
 
 
 def judge(words, memory_max):

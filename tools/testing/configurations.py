@@ -1,6 +1,7 @@
 """Configurations, and what tools/check-config says of them beside what the program says."""
 
 import os
+import re
 import subprocess
 import sys
 import tempfile
@@ -13,7 +14,8 @@ from testing.network import expect
 
 TOOLS = os.path.dirname(os.path.dirname(os.path.abspath(__file__)))
 SCRIPT = os.path.join(TOOLS, "check-config")
-PAGE = os.path.join(os.path.dirname(TOOLS), "docs", "coap-proxyd.toml.5")
+TOP = os.path.dirname(TOOLS)
+PAGE = os.path.join(TOP, "docs", "coap-proxyd.toml.5")
 
 # A name, the words, the configuration, and the lines without the file's name.
 Said = namedtuple("Said", "name words text lines")
@@ -273,3 +275,27 @@ def check_environment(_):
         expect("of an instance", instance, said_in(folder, "--instance", "g1"))
         os.rename(os.path.join(etc, "default", "coap-proxyd-g1"), os.path.join(etc, "coap-proxyd", "coap-proxyd-g1"))
         expect("with it beside", instance, said_in(folder, os.path.join(etc, "coap-proxyd", "g1.toml")))
+
+
+def check_rules(_):
+    """Has the rules of the example keep all whom they list from filling the records of the configuration that is
+    installed, and others be warned of."""
+    rules, installed = (os.path.join(TOP, "examples", f"coap-proxyd.{it}") for it in ("nft", "toml"))
+    with tempfile.TemporaryDirectory(prefix="coap-proxyd-test-") as folder:
+        path, other = os.path.join(folder, "p.toml"), os.path.join(folder, "other.nft")
+        with open(path, "w") as file:
+            file.write("version = 2\n[limits]\nnon_records = 11650\n")
+        with open(rules) as file, open(other, "w") as changed:
+            changed.write(re.sub("(?m)^ *limit rate .*$", "", file.read()))
+        status, lines = said_in(folder, installed, "--rules", rules)
+        kinds = [line.partition(":")[0] for line in lines]
+        expect("what is said of the examples", (0, ["note", "note", "accepted"]), (status, kinds))
+        expect("what is said of others", (0, [
+            f"warning: 16 ports or addresses at 17 messages a second fill con_records (4096) in 247 seconds; {rules} lets "
+            "18790 through in that time, which fills it within 37 seconds",
+            f"note: 46 ports or addresses at 81 messages a second fill non_records (11650) in 145 seconds; {rules} lets "
+            "11650 through in that time",
+            "accepted",
+        ]), said_in(folder, path, "--rules", rules))
+        said = [line.rpartition(";")[2] for line in said_in(folder, installed, "--rules", other)[1][:-1]]
+        expect("what is said of rules without a sum", [" other.nft limits no sum over all addresses"] * 2, said)

@@ -95,6 +95,7 @@ docs/BUILDING / The first build: not run: it takes the kit
 docs/BUILDING / The programs that come with the sources: not run: it takes the kit
 docs/SECURITY / Proxying and caching (11.2): run: document rules_are_read
 docs/SECURITY / Multicast and broadcast: run: document rules_are_read
+docs/SECURITY / Floods, measured: run: check-config knows_what_rules_let_through, with other files
 docs/EMBEDDING / With a socket: no command
 """
 # What this list says of what no test runs, which a page with such commands says, too.

@@ -12,7 +12,7 @@ from checking import firewall
 from reading.messages import code_name
 from testing.coap import ACK, CON, CONTENT, EMPTY, GET, MAX_AGE, RST, message, read
 from testing.namespaces import join, namespaces, run, socket_in
-from testing.network import SILENCE, Broken, Failed, Skipped, Stage, expect
+from testing.network import SILENCE, Broken, Failed, Skipped, Stage, expect, expect_between
 from testing.script import TOP
 from testing.steps import path
 
@@ -32,6 +32,7 @@ def lines_of(near, far):
     yield from join(near, far, ("near", "far"), (HERE, THERE))
     for address in (DEVICE, DASHBOARD, STRANGER, LISTED, UNLISTED):
         yield ("ip", "-n", far, "addr", "add", f"{address}/24", "dev", "far")
+    yield ("ip", "-n", far, "route", "add", "local", "198.51.100.0/24", "dev", "lo")
     for network in ("198.51.100.0/24", "203.0.113.0/24"):
         yield ("ip", "-n", near, "route", "add", network, "via", THERE)
 
@@ -166,6 +167,34 @@ def holds(program, start):
         site.wait(running.ports)
         expect_listed_served(site, running)
         expect_others_silent(site, running)
+
+
+def answered(sockets, count):
+    """Has each socket send so many requests, all at once, and returns how many of them are answered."""
+    for number in range(count):
+        for client in sockets:
+            client.sendto(message(CON, GET, number, b"\xaa", path("nothing")), (HERE, PORT))
+    came = 0
+    for client in sockets:
+        while received(client, SILENCE if client is sockets[0] else 0.001):
+            came += 1
+    return came
+
+
+def bounds_an_address_and_all_together(program):
+    """Has an address with many ports send no more than one with one, and many addresses no more than they may together,
+    while a dashboard is answered."""
+    with namespaces(2, lines_of, "nft") as (near, far), Stage(program) as stage:
+        site = Site(stage, near, far)
+        site.start(PORT, stage.file("p.toml", "version = 2\n"))
+        site.wait([PORT])
+        ports = [socket_in(far, "198.51.100.200") for _ in range(30)]
+        expect_between("how many messages of an address are answered", 10, 14, answered(ports, 10))
+        addresses = [socket_in(far, f"198.51.100.{number}") for number in range(1, 151)]
+        expect_between("how many of 150 addresses", 480, 600, answered(addresses, 10))
+        expect("how many of a dashboard", 200, answered([site.sockets[DASHBOARD]], 200))
+        for client in ports + addresses:
+            client.close()
 
 
 def the_tools_know_the_ports(_):

@@ -209,6 +209,7 @@ def configuration_tests(program, runs):
         yield Test(f"check-config says {said.name}", configurations.check_said, (said,))
     yield Test("check-config knows_what_the_page_tells", configurations.check_page, (program,))
     yield Test("check-config knows_where_it_listens", configurations.check_environment, (program,))
+    yield Test("check-config knows_what_rules_let_through", configurations.check_rules, (program,))
 
 
 def capture_tests(program, runs):
@@ -273,6 +274,8 @@ def tests(program):
         yield Test(f"fleet {function.__name__}", play_end, (program, function))
     for function in firewalls.KINDS:
         yield Test(f"firewall holds_for_{function.__name__}", firewalls.holds, (program, function))
+    together = firewalls.bounds_an_address_and_all_together
+    yield Test("firewall bounds_an_address_and_all_together", together, (program,))
     yield Test("firewall the_tools_know_the_ports", play_end, (program, firewalls.the_tools_know_the_ports))
     yield Test("spread gives_each_client_one_instance", spreads.gives_each_client_one_instance, (program,))
     yield Test("stand-in differences_are_told", differences_are_told, ())
