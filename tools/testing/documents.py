@@ -80,6 +80,7 @@ docs/SCALING / A front before them: run: document configurations_are_accepted; t
 docs/SCALING / A tree of proxies: run: document configurations_are_accepted; the addresses aren't this host's
 docs/SCALING / How large it may be, calculated: no command
 docs/SCALING / More devices than maps: run: fleet; systemd isn't started
+docs/SCALING / Without a front: run: fleet, with another name
 docs/DEPLOYING / A host: run: script, in a folder; systemd isn't started
 docs/DEPLOYING / Counts for Prometheus: not run: they change the host; monitoring reads the files
 docs/DEPLOYING / Recordings: run: picture, with other recordings

@@ -8,7 +8,7 @@ import tempfile
 import threading
 
 from testing import libcoap
-from testing.coap import ACK, CONTENT, EMPTY, GET, MAX_AGE, URI_PATH, message, read
+from testing.coap import ACK, CONTENT, EMPTY, GET, MAX_AGE, PROXY_URI, URI_PATH, message, read
 from testing.network import FAULT, Broken, case_list, expect, expect_message, free_port, udp
 
 CASES, case = case_list()
@@ -60,7 +60,8 @@ def write_fleet(stage, uris, port, *more):
 
 
 def start_fleet(stage, folder):
-    """Starts an instance with each configuration, as the unit would, and returns the address of the front."""
+    """Starts an instance with each configuration, as the unit would, and returns the address of each by its name."""
+    addresses = {}
     for file in sorted(it for it in os.listdir(folder) if it.startswith("coap-proxyd-")):
         name = file[len("coap-proxyd-") :]
         with open(os.path.join(folder, file)) as lines:
@@ -70,18 +71,21 @@ def start_fleet(stage, folder):
         words = ["-A", address[0], "-p", str(address[1]), "--config", config, *place["OPTIONS"].split()]
         if not stage.is_ready(stage.start([*stage.program, *words]), address):
             raise Broken(f"{name} doesn't serve {address}")
-        if name == "front":
-            front = address
-    return front
+        addresses[name] = address
+    return addresses
 
 
-def ask_all(stage, front, folder):
-    """Asks the front for each sensor under its path, and returns how many answered with the sensor's name."""
-    client, answered = stage.peer(to=front), 0
+def paths_in(folder):
+    """The path of each sensor, by its name."""
     with open(os.path.join(folder, "paths")) as lines:
-        paths = dict(line.split() for line in lines)
-    for name, path in paths.items():
-        options = [(URI_PATH, part.encode()) for part in path.split("/")[1:]]
+        return dict(line.split() for line in lines)
+
+
+def ask_all(stage, asked):
+    """Asks for each sensor, by its name: an address is asked, with these options. Returns how many answered with it."""
+    client, answered = stage.peer(), 0
+    for name, (address, options) in asked.items():
+        client.to = address
         request = client.request(GET, options)
         came = client.receive(f"an answer of {name}")
         if came.message.code == EMPTY:
@@ -92,20 +96,51 @@ def ask_all(stage, front, folder):
     return answered
 
 
-def serve_fleet(stage, count):
-    """Serves so many sensors: in the first round each is asked once, in the second none."""
-    with Sensors(stage.host, count) as sensors:
-        folder = write_fleet(stage, sensors.uris, 20_000)
-        front = start_fleet(stage, folder)
-        expect("how many sensors answered", count, ask_all(stage, front, folder))
+def segments(path):
+    """The options of a path."""
+    return [(URI_PATH, part.encode()) for part in path.split("/")[1:]]
+
+
+def serve(stage, asked_of):
+    """Serves more sensors than there may be maps, with what `asked_of` starts. It says of each whom to ask, and
+    how: in the first round each is asked once, in the second none."""
+    with Sensors(stage.host, 70) as sensors:
+        asked = asked_of(sensors.uris)
+        expect("how many sensors answered", 70, ask_all(stage, asked))
         expect("which were asked", sorted(sensors.uris), sorted(sensors.asked))
-        expect("how many sensors were answered for", count, ask_all(stage, front, folder))
-        expect("how often one was asked", count, len(sensors.asked))
+        expect("how many sensors were answered for", 70, ask_all(stage, asked))
+        expect("how often one was asked", 70, len(sensors.asked))
 
 
 @case("TokenChanged", "NeverFromTheCache")
 def more_sensors_than_maps_are_served(stage):
-    serve_fleet(stage, 70)
+    def asked_of(uris):
+        folder = write_fleet(stage, uris, 20_000)
+        front = start_fleet(stage, folder)["front"]
+        return {name: (front, segments(path)) for name, path in paths_in(folder).items()}
+
+    serve(stage, asked_of)
+
+
+@case("TokenChanged", "NeverFromTheCache")
+def more_sensors_than_maps_are_served_without_a_front(stage):
+    def asked_of(uris):
+        folder = write_fleet(stage, uris, 20_000)
+        os.remove(os.path.join(folder, "coap-proxyd-front"))
+        addresses, paths = start_fleet(stage, folder), paths_in(folder)
+        expect("at which ports they are", {20_001, 20_002}, {port for _, port in addresses.values()})
+        return {name: (addresses[path.split("/")[1]], segments(path)) for name, path in paths.items()}
+
+    serve(stage, asked_of)
+
+
+@case("TokenChanged", "NeverFromTheCache")
+def more_sensors_than_maps_are_served_by_their_uris(stage):
+    def asked_of(uris):
+        proxy = stage.proxy("-P", ",proxy.test")
+        return {name: (proxy, [(PROXY_URI, uri.encode())]) for name, uri in uris.items()}
+
+    serve(stage, asked_of)
 
 
 def ask_beside_a_silence(stage, port, *more):
@@ -118,7 +153,7 @@ def ask_beside_a_silence(stage, port, *more):
         text = file.read()
     with open(path, "w") as file:
         file.write(text.replace("[limits]\n", "[limits]\nexchange_ms = 1500\n"))
-    front, device = start_fleet(stage, folder), (stage.host, int(uri.rstrip("/").rpartition(":")[2]))
+    front, device = start_fleet(stage, folder)["front"], (stage.host, int(uri.rstrip("/").rpartition(":")[2]))
     with udp(stage.host) as silent:
         silent.bind(device)
         printed = [libcoap.client(stage, front, "g1/s1")]
