@@ -4,6 +4,7 @@ import hashlib
 import io
 import json
 import os
+import re
 import shutil
 import subprocess
 import sys
@@ -40,15 +41,15 @@ def a_ping_says_whether_the_proxy_is_there(stage):
     expect("a ping of nobody", (1, said), run_tool("ping", host, "--port", str(away)), *FAULT)
 
 
-def status_of(url):
-    """The status that a URL answers with, once it is served."""
+def fetched(url):
+    """The status and the body that a URL answers with, once it is served."""
     until = time.monotonic() + 10
     while True:
         try:
             with urllib.request.urlopen(url, timeout=10) as answer:
-                return answer.status
+                return answer.status, answer.read()
         except urllib.error.HTTPError as error:
-            return error.code
+            return error.code, error.read()
         except urllib.error.URLError as error:
             if time.monotonic() > until:
                 raise Broken(f"{url}: {error.reason}") from error
@@ -61,7 +62,21 @@ def a_probe_by_http_says_whether_the_proxy_is_there(stage):
     for asked, status in ((port, 200), (free_port(), 503)):
         http = free_port()
         stage.start([sys.executable, os.path.join(TOOLS, "ping"), host, "--port", str(asked), "--serve", str(http)])
-        expect("the status of a probe", status, status_of(f"http://127.0.0.1:{http}/"))
+        expect("the status of a probe", status, fetched(f"http://127.0.0.1:{http}/")[0])
+
+
+@case("ResetOfAnotherId")
+def counts_are_served_beside_the_probe(stage):
+    path, http = os.path.join(stage.folder, "counts.prom"), free_port()
+    host, port = stage.proxy("--stats", "1", "--stats-file", path)
+    words = ["ping", host, "--port", str(port), "--serve", str(http), "--counts", path]
+    stage.start([sys.executable, os.path.join(TOOLS, words[0]), *words[1:]])
+    until, url = time.monotonic() + 10, f"http://127.0.0.1:{http}"
+    while fetched(f"{url}/metrics")[0] != 200 and time.monotonic() < until:
+        time.sleep(0.1)
+    status, body = fetched(f"{url}/metrics")
+    expect("whether counts are served", (200, True), (status, b"\ncoap_proxyd_requests_total{" in body))
+    expect("the status of a probe", (200, b""), fetched(f"{url}/"))
 
 
 # Images
@@ -148,6 +163,26 @@ def check_images(program):
         expect_same_files(*layouts)
         expect("what is said of the archive", (0, ""), run_tool("image", "--tar", archive, path), *FAULT)
         check_archive(archive, layouts[0], name)
+
+
+# Kubernetes
+
+
+def check_manifests(program):
+    """Has both Deployments be the same but for their number, with options that there are, the counts where the second
+    container serves them, and images with a version."""
+    with open(os.path.join(os.path.dirname(TOOLS), "examples", "kubernetes", "coap-proxyd.yaml")) as file:
+        first, second = (it[it.index("apiVersion") :] for it in file.read().split("\n---\n")[2:])
+    wanted = first.replace("coap-proxyd-1", "coap-proxyd-2").replace('"1"', '"2"')
+    expect("the second Deployment", wanted, second.rstrip("\n"))
+    args, command = (json.loads(re.search(rf"(?m)^ *{it}: (\[.*\])$", first)[1]) for it in ("args", "command"))
+    known = subprocess.run([*program, "--help"], stdout=subprocess.PIPE, text=True, timeout=20).stdout
+    expect("which options there aren't", [], [it for it in args if it.startswith("-") and f"{it} " not in known])
+    expect("where the counts are", args[args.index("--stats-file") + 1], command[command.index("--counts") + 1])
+    version = subprocess.run([*program, "--version"], stdout=subprocess.PIPE, text=True, timeout=20).stdout.split()[1]
+    images = dict(re.findall(r"(?m)^ *image: (.*):(.*)$", first))
+    expect("the version of the image", version, images.pop("registry.example/coap-proxyd"))
+    expect("which other images have no version", [], [it for it in images.values() if not re.match(r"\d+\.\d+", it)])
 
 
 # Packages

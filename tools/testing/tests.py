@@ -249,6 +249,7 @@ def tests(program):
         yield Test(f"host {function.__name__}", function, (program,))
     yield Test("kernel without_random_bytes", kernels.runs_without_random_bytes, (program,))
     yield Test("image holds_the_program", deployments.check_images, (program,))
+    yield Test("manifest runs_what_there_is", deployments.check_manifests, (program,))
     if not programs.is_emulated(program[-1]):
         yield from tool_tests(program)
     yield Test("script knows_the_options", script.check_options, (program,))
