@@ -159,6 +159,22 @@ def check_installed(program, prefix):
     expect("what the last one says", b"accepted\n", done.stdout)
 
 
+def check_pages(prefix):
+    """Has each page that is installed say of the tools and the examples that it names and that aren't installed that
+    they are in the repository alone."""
+    share, silent = os.path.join(prefix, "share"), []
+    documents = os.path.join(share, "doc", "coap-proxyd")
+    there = {"tools": os.path.join(share, "coap-proxyd", "tools"), "examples": os.path.join(documents, "examples")}
+    for page in (it for it in os.listdir(documents) if it.endswith(".md")):
+        text = read(documents, page)
+        for name in set(re.findall(r"\b(?:tools|examples)/\w[\w.-]*\w", text)):
+            kind, _, file = name.partition("/")
+            says = any(f"`{name}`" in line and "in the repository alone" in line for line in text.splitlines())
+            if not os.path.exists(os.path.join(there[kind], file)) and not says:
+                silent.append((page, name))
+    expect("which names that aren't installed pages don't tell of", [], sorted(silent))
+
+
 def check_uninstall(folder, prefix):
     """Has the script leave a configuration that was changed, and no empty folder."""
     with open(os.path.join(prefix, "etc", "coap-proxyd.toml"), "a") as file:
@@ -177,6 +193,7 @@ def check_install(program):
         expect("what comes of it", (0, ""), installed(folder, prefix), *FAULT)
         expect("whether it may run", True, os.access(os.path.join(prefix, "sbin", "coap-proxyd"), os.X_OK))
         check_installed(program, prefix)
+        check_pages(prefix)
         check_uninstall(folder, prefix)
         refused = "coap-proxyd: the prefix may have letters, digits and / . _ + - alone\n"
         expect("what comes of a blank", (2, refused), installed(folder, f"{prefix} of mine"), *FAULT)
