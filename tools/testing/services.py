@@ -1,4 +1,5 @@
-"""What must hold of the scripts that the units of systemd run: one sees the socket, one names recordings."""
+"""What must hold of the scripts that the units of systemd run: one sees the socket, one names recordings, and one
+links counts."""
 
 import os
 import re
@@ -70,4 +71,20 @@ def each_recording_has_a_name(_):
             expect("the words then", "RECORD=\n", file.read())
 
 
-CASES = (the_socket_is_seen, each_recording_has_a_name)
+def counts_are_linked(_):
+    with open(os.path.join(TOP, "examples", "coap-proxyd.stats.conf")) as file:
+        text = file.read().replace("%N", "coap-proxyd@g1")
+    written = re.search("--stats-file ([^ \"]*)", text)[1]
+    script = re.search(r"(?m)^ExecStartPost=\+-/bin/sh -c '(.*)'$", text)[1]
+    with tempfile.TemporaryDirectory(prefix="coap-proxyd-test-") as folder:
+        there = os.path.join(folder, "node-exporter")
+        script = script.replace("/var/lib/prometheus/node-exporter", there)
+        expect("the status without the folder", 0, subprocess.run(["sh", "-c", script], timeout=20).returncode)
+        os.mkdir(there)
+        for _ in range(2):
+            expect("the status with it", 0, subprocess.run(["sh", "-c", script], timeout=20).returncode)
+        expect("which links there are", ["coap-proxyd@g1.prom"], os.listdir(there))
+        expect("where it leads", written, os.readlink(os.path.join(there, "coap-proxyd@g1.prom")))
+
+
+CASES = (counts_are_linked, the_socket_is_seen, each_recording_has_a_name)

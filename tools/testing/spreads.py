@@ -130,6 +130,20 @@ def expect_others_served(spread, ports):
     expect("who has which after a start", ports, spread.ports(4, ports))
 
 
+def expect_removed(spread):
+    """Has tools/spread remove all that it wrote, and what instances leave: counts, and links to these."""
+    counts, exporter = "run/coap-proxyd", "var/lib/prometheus/node-exporter"
+    path, link = (os.path.join(spread.stage.folder, it, "coap-proxyd@spread1.prom") for it in (counts, exporter))
+    for it in (path, link):
+        os.makedirs(os.path.dirname(it))
+    with open(path, "w"):
+        os.symlink(path, link)
+    words = [sys.executable, SCRIPT, "--remove"]
+    subprocess.run(words, env=spread.settings, stdout=subprocess.DEVNULL, check=True, timeout=20)
+    left = [name for _, _, names in os.walk(spread.stage.folder) for name in names]
+    expect("what is left of it", ["p.toml"], left)
+
+
 def gives_each_client_one_instance(program):
     """Has clients be spread over instances, in namespaces of their own."""
     if shutil.which("nft") is None:
@@ -144,3 +158,4 @@ def gives_each_client_one_instance(program):
         expect_same_from_other_ports(spread, ports)
         expect_duplicates(spread)
         expect_others_served(spread, ports)
+        expect_removed(spread)
