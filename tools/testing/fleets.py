@@ -10,6 +10,7 @@ import threading
 from testing import libcoap
 from testing.coap import ACK, CONTENT, EMPTY, GET, MAX_AGE, PROXY_URI, URI_PATH, message, read
 from testing.network import FAULT, Broken, case_list, expect, expect_message, free_port, udp
+from testing.statistics import await_metric
 
 CASES, case = case_list()
 SCRIPT = os.path.join(os.path.dirname(os.path.dirname(os.path.abspath(__file__))), "fleet")
@@ -59,8 +60,9 @@ def write_fleet(stage, uris, port, *more):
     return folder
 
 
-def start_fleet(stage, folder):
-    """Starts an instance with each configuration, as the unit would, and returns the address of each by its name."""
+def start_fleet(stage, folder, counts=None):
+    """Starts an instance with each configuration, as the unit would, and returns the address of each by its name. If
+    there is to be a file of counts, its path has {} for that name."""
     addresses = {}
     for file in sorted(it for it in os.listdir(folder) if it.startswith("coap-proxyd-")):
         name = file[len("coap-proxyd-") :]
@@ -69,6 +71,7 @@ def start_fleet(stage, folder):
         address = (place["ADDRESS"], int(place["PORT"]))
         config = os.path.join(folder, f"{name}.toml")
         words = ["-A", address[0], "-p", str(address[1]), "--config", config, *place["OPTIONS"].split()]
+        words += ["--stats", "1", "--stats-file", counts.format(name)] if counts else []
         if not stage.is_ready(stage.start([*stage.program, *words]), address):
             raise Broken(f"{name} doesn't serve {address}")
         addresses[name] = address
@@ -141,6 +144,19 @@ def more_sensors_than_maps_are_served_by_their_uris(stage):
         return {name: (proxy, [(PROXY_URI, uri.encode())]) for name, uri in uris.items()}
 
     serve(stage, asked_of)
+
+
+@case("NeverFromTheCache")
+def hits_are_counted_by_sensor(stage):
+    with Sensors(stage.host, 2) as sensors:
+        counts, folder = os.path.join(stage.folder, "{}.prom"), write_fleet(stage, sensors.uris, 20_000)
+        front, paths = start_fleet(stage, folder, counts)["front"], paths_in(folder)
+        for _ in range(3):
+            ask_all(stage, {"s2": (front, segments(paths["s2"]))})
+        numbers = await_metric(counts.format("g1"), 'coap_proxyd_map_requests_total{map="/g1/s2",outcome="hit"}', 2)
+        expect("hits of another", 0, numbers['coap_proxyd_map_requests_total{map="/g1/s1",outcome="hit"}'])
+        numbers = await_metric(counts.format("front"), 'coap_proxyd_requests_total{outcome="opened"}', 3)
+        expect("what the front may keep", 0, numbers['coap_proxyd_limit{what="cached_bytes"}'])
 
 
 def ask_beside_a_silence(stage, port, *more):
