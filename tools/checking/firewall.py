@@ -32,7 +32,8 @@ def told(rules, text, limits):
     for key, lifetime in LIFETIMES.items():
         limit, own = limits[key], limits.get(f"client_{key}", limits[key])
         ports, rate = -(-limit // own), -(-limit // lifetime)
-        said = f"{ports} ports or addresses at {rate} messages a second fill {key} ({limit}) in {lifetime} seconds; "
+        senders = "one port" if ports == 1 else f"{ports} ports or addresses"
+        said = f"{rate} messages a second from {senders} fill {key} ({limit}) in {lifetime} seconds; "
         if let is None:
             yield f"{said}{rules} limits no sum over all addresses", True
             continue

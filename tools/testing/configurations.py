@@ -291,10 +291,10 @@ def check_rules(_):
         kinds = [line.partition(":")[0] for line in lines]
         expect("what is said of the examples", (0, ["note", "note", "accepted"]), (status, kinds))
         expect("what is said of others", (0, [
-            f"warning: 16 ports or addresses at 17 messages a second fill con_records (4096) in 247 seconds; {rules} lets "
-            "18790 through in that time, which fills it within 37 seconds",
-            f"note: 46 ports or addresses at 81 messages a second fill non_records (11650) in 145 seconds; {rules} lets "
-            "11650 through in that time",
+            f"warning: 17 messages a second from 16 ports or addresses fill con_records (4096) in 247 seconds; {rules} "
+            "lets 18790 through in that time, which fills it within 37 seconds",
+            f"note: 81 messages a second from 46 ports or addresses fill non_records (11650) in 145 seconds; {rules} "
+            "lets 11650 through in that time",
             "accepted",
         ]), said_in(folder, path, "--rules", rules))
         said = [line.rpartition(";")[2] for line in said_in(folder, installed, "--rules", other)[1][:-1]]
