@@ -1,5 +1,6 @@
-"""What must hold of the rules in examples/coap-proxyd.nft: whoever isn't listed gets neither an answer nor a request, of
-one instance, of those that tools/spread writes and of those of tools/fleet."""
+"""What must hold of the rules in examples/coap-proxyd.nft: who isn't listed gets neither an answer nor a request, of one
+instance, of those that tools/spread writes and of those of tools/fleet, and no answer of a container; and who is listed
+sends no more than that, from whatever ports."""
 
 import os
 import socket
@@ -22,6 +23,19 @@ DEVICE, DASHBOARD, LISTED = "192.0.2.7", "192.0.2.10", "198.51.100.9"
 STRANGER, UNLISTED = "192.0.2.8", "203.0.113.9"
 RULES = os.path.join(TOP, "examples", "coap-proxyd.nft")
 
+# The address of a container, and the table by which its port is published.
+INNER = "10.88.0.2"
+PUBLISHED = f"""table ip published {{
+    chain arriving {{
+        type nat hook prerouting priority dstnat
+        udp dport {PORT} dnat to {INNER}:{PORT}
+    }}
+    chain leaving {{
+        type nat hook postrouting priority srcnat
+        ip saddr {INNER} masquerade
+    }}
+}}
+"""
 MAP = '[[map]]\nprefix = "{}"\norigin = "{}"\n'
 # Proxies that run: at which ports, and the paths of the device and of the stranger.
 Running = namedtuple("Running", "ports device stranger")
@@ -147,16 +161,21 @@ def expect_listed_served(site, running):
             site.sockets[LISTED].sendto(message(ACK, EMPTY, read(came[0]).message_id), came[1])
 
 
-def expect_others_silent(site, running):
-    """Has the stranger get no request, and a client that isn't listed no answer, at any port."""
+def expect_stranger_silent(site, running):
+    """Has the stranger get no request."""
     site.ask(LISTED, PORT, running.stranger, 2)
     came = received(site.sockets[LISTED], 5)
     expect("whether a request for the stranger is taken", (ACK, EMPTY), came and read(came[0])[:2])
+    came = received(site.sockets[STRANGER], SILENCE)
+    expect("what a host gets that isn't listed", None, came and code_name(read(came[0]).code))
+
+
+def expect_unlisted_silent(site, running):
+    """Has a client that isn't listed get no answer, at any port."""
     for number, port in enumerate(running.ports):
         site.ask(UNLISTED, port, running.device, number)
-    for name in (STRANGER, UNLISTED):
-        came = received(site.sockets[name], SILENCE)
-        expect(f"what {name} gets, which isn't listed", None, came and code_name(read(came[0]).code))
+    came = received(site.sockets[UNLISTED], SILENCE)
+    expect("what a client gets that isn't listed", None, came and code_name(read(came[0]).code))
 
 
 def holds(program, start):
@@ -166,7 +185,29 @@ def holds(program, start):
         running = start(site)
         site.wait(running.ports)
         expect_listed_served(site, running)
-        expect_others_silent(site, running)
+        expect_stranger_silent(site, running)
+        expect_unlisted_silent(site, running)
+
+
+def published_lines_of(near, far, inner):
+    """The same, with a namespace of a container in that of the host."""
+    yield from lines_of(near, far)
+    yield from join(near, inner, ("in", "out"), ("10.88.0.1", INNER))
+    yield ("ip", "-n", inner, "route", "add", "default", "via", "10.88.0.1")
+    yield ("ip", "netns", "exec", near, "sysctl", "-w", "net.ipv4.ip_forward=1")
+
+
+def holds_for_a_published_port(program):
+    """Has the rules keep a client that isn't listed from a container whose port is published, as podman does it."""
+    with namespaces(3, published_lines_of, "nft", "sysctl") as (near, far, inner), Stage(program) as stage:
+        site = Site(stage, near, far)
+        site.load(stage.file("published.nft", PUBLISHED))
+        words = ["-A", "0.0.0.0", "-p", str(PORT), "--config", site.config()]
+        stage.start(["ip", "netns", "exec", inner, *program, *words])
+        running = Running([PORT], ["t"], ["u"])
+        site.wait(running.ports)
+        expect_listed_served(site, running)
+        expect_unlisted_silent(site, running)
 
 
 def answered(sockets, count):

@@ -275,6 +275,7 @@ def tests(program):
         yield Test(f"fleet {function.__name__}", play_end, (program, function))
     for function in firewalls.KINDS:
         yield Test(f"firewall holds_for_{function.__name__}", firewalls.holds, (program, function))
+    yield Test("firewall holds_for_a_published_port", firewalls.holds_for_a_published_port, (program,))
     together = firewalls.bounds_an_address_and_all_together
     yield Test("firewall bounds_an_address_and_all_together", together, (program,))
     yield Test("firewall the_tools_know_the_ports", play_end, (program, firewalls.the_tools_know_the_ports))
