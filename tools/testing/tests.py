@@ -252,6 +252,8 @@ def tests(program):
     yield Test("manifest runs_what_there_is", deployments.check_manifests, (program,))
     if not programs.is_emulated(program[-1]):
         yield from tool_tests(program)
+        for function in refusals.CASES:
+            yield Test(f"refusal {function.__name__}", function, ())
     yield Test("script knows_the_options", script.check_options, (program,))
     yield Test("script sums_what_the_program_is_built_from", script.check_sum, (program,))
     yield Test("script chooses_what_runs_here", script.check_choice, (program,))
@@ -263,8 +265,6 @@ def tests(program):
         yield Test(f"suite {function.__name__}", function, ())
     for function in slips.CASES:
         yield Test(f"slip {function.__name__}", function, ())
-    for function in refusals.CASES:
-        yield Test(f"refusal {function.__name__}", function, ())
     for function in roles.CASES:
         yield Test(f"role {function.__name__}", function, ())
     yield Test("slow link loses_no_answer", links.loses_no_answer, (program,))
