@@ -222,6 +222,43 @@ def capture_tests(program, runs):
     yield Test("capture that began late", captures.check_late, (program, runs["first_answer"]))
 
 
+def repository_tests(program):
+    """The tests of the script that starts the program, and of the tools by which it is tested."""
+    yield Test("script knows_the_options", script.check_options, (program,))
+    yield Test("script sums_what_the_program_is_built_from", script.check_sum, (program,))
+    yield Test("script chooses_what_runs_here", script.check_choice, (program,))
+    yield Test("script helps_where_it_is_stale", script.check_stale, (program,))
+    yield Test("script lists_what_others_wrote", script.check_third_parties, (program,))
+    yield Test("script installs_what_was_built_here", script.check_install, (program,))
+    yield Test("suite builds_are_compared", suites.builds_are_compared, (program,))
+    for function in suites.CASES:
+        yield Test(f"suite {function.__name__}", function, ())
+    for function in slips.CASES:
+        yield Test(f"slip {function.__name__}", function, ())
+    for function in roles.CASES:
+        yield Test(f"role {function.__name__}", function, ())
+    if not programs.is_emulated(program[-1]):
+        for function in refusals.CASES:
+            yield Test(f"refusal {function.__name__}", function, ())
+
+
+def network_tests(program):
+    """The tests in network namespaces, and of what tools/fleet says."""
+    yield Test("slow link loses_no_answer", links.loses_no_answer, (program,))
+    for address in ("0.0.0.0", "::"):
+        name = f"gateway accounts_for_both_interfaces at {address}"
+        yield Test(name, gateways.accounts_for_both_interfaces, (program, address))
+    for function in fleets.ENDS:
+        yield Test(f"fleet {function.__name__}", play_end, (program, function))
+    for function in firewalls.KINDS:
+        yield Test(f"firewall holds_for_{function.__name__}", firewalls.holds, (program, function))
+    yield Test("firewall holds_for_a_published_port", firewalls.holds_for_a_published_port, (program,))
+    together = firewalls.bounds_an_address_and_all_together
+    yield Test("firewall bounds_an_address_and_all_together", together, (program,))
+    yield Test("firewall the_tools_know_the_ports", play_end, (program, firewalls.the_tools_know_the_ports))
+    yield Test("spread gives_each_client_one_instance", spreads.gives_each_client_one_instance, (program,))
+
+
 def tests(program):
     """All tests."""
     yield from socket_tests(program)
@@ -252,34 +289,8 @@ def tests(program):
     yield Test("manifest runs_what_there_is", deployments.check_manifests, (program,))
     if not programs.is_emulated(program[-1]):
         yield from tool_tests(program)
-        for function in refusals.CASES:
-            yield Test(f"refusal {function.__name__}", function, ())
-    yield Test("script knows_the_options", script.check_options, (program,))
-    yield Test("script sums_what_the_program_is_built_from", script.check_sum, (program,))
-    yield Test("script chooses_what_runs_here", script.check_choice, (program,))
-    yield Test("script helps_where_it_is_stale", script.check_stale, (program,))
-    yield Test("script lists_what_others_wrote", script.check_third_parties, (program,))
-    yield Test("script installs_what_was_built_here", script.check_install, (program,))
-    yield Test("suite builds_are_compared", suites.builds_are_compared, (program,))
-    for function in suites.CASES:
-        yield Test(f"suite {function.__name__}", function, ())
-    for function in slips.CASES:
-        yield Test(f"slip {function.__name__}", function, ())
-    for function in roles.CASES:
-        yield Test(f"role {function.__name__}", function, ())
-    yield Test("slow link loses_no_answer", links.loses_no_answer, (program,))
-    for address in ("0.0.0.0", "::"):
-        name = f"gateway accounts_for_both_interfaces at {address}"
-        yield Test(name, gateways.accounts_for_both_interfaces, (program, address))
-    for function in fleets.ENDS:
-        yield Test(f"fleet {function.__name__}", play_end, (program, function))
-    for function in firewalls.KINDS:
-        yield Test(f"firewall holds_for_{function.__name__}", firewalls.holds, (program, function))
-    yield Test("firewall holds_for_a_published_port", firewalls.holds_for_a_published_port, (program,))
-    together = firewalls.bounds_an_address_and_all_together
-    yield Test("firewall bounds_an_address_and_all_together", together, (program,))
-    yield Test("firewall the_tools_know_the_ports", play_end, (program, firewalls.the_tools_know_the_ports))
-    yield Test("spread gives_each_client_one_instance", spreads.gives_each_client_one_instance, (program,))
+    yield from repository_tests(program)
+    yield from network_tests(program)
     yield Test("stand-in differences_are_told", differences_are_told, ())
     for wrong, name, pattern in SAID:
         yield Test(f"stand-in {wrong} is told of by {name}", must_say, (program, wrong, name, pattern))
