@@ -3,6 +3,7 @@ instance, of those that tools/spread writes and of those of tools/fleet, and no 
 sends no more than that, from whatever ports."""
 
 import os
+import re
 import socket
 import subprocess
 import sys
@@ -201,6 +202,10 @@ def holds_for_a_published_port(program):
     """Has the rules keep a client that isn't listed from a container whose port is published, as podman does it."""
     with namespaces(3, published_lines_of, "nft", "sysctl") as (near, far, inner), Stage(program) as stage:
         site = Site(stage, near, far)
+        with open(RULES) as file:
+            forward = re.sub("(?m)^    #(chain forward|    |})", r"    \1", file.read())
+        expect("whether the rules have the chain", True, "\n    chain forward {\n" in forward)
+        site.load(stage.file("forward.nft", forward))
         site.load(stage.file("published.nft", PUBLISHED))
         words = ["-A", "0.0.0.0", "-p", str(PORT), "--config", site.config()]
         stage.start(["ip", "netns", "exec", inner, *program, *words])
