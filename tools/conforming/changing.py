@@ -44,8 +44,8 @@ def a_change_makes_what_was_got_with_options_stale(stage, *options):
 
 @case(MUST, always=["RefusedChangesIgnored"], each=CHANGES)
 def a_change_whose_response_gives_5_02_makes_stale_too(stage, method, code):
-    """The origin has changed the resource, even if its response can't be passed on for an unsafe option (5.7.1). What the
-    client gets is another matter."""
+    """The origin has changed the resource, even if its response can't be passed on for an unsafe option (5.7.1). What
+    the client gets is another matter."""
     resource, client = stage.resource(), stage.client()
     stage.fetch(resource, [wire.max_age(60)])
     request = client.request(method, resource.here, b"" if method == DELETE else b"x")
