@@ -254,7 +254,9 @@ def network_tests(program):
         yield Test(f"firewall holds_for_{function.__name__}", firewalls.holds, (program, function))
     yield Test("firewall holds_for_a_published_port", firewalls.holds_for_a_published_port, (program,))
     together = firewalls.bounds_an_address_and_all_together
-    yield Test("firewall bounds_an_address_and_all_together", together, (program,))
+    if not programs.is_emulated(program[-1]):
+        # it counts what so many a second get, of whom an emulated program answers fewer
+        yield Test("firewall bounds_an_address_and_all_together", together, (program,))
     yield Test("firewall the_tools_know_the_ports", play_end, (program, firewalls.the_tools_know_the_ports))
     yield Test("spread gives_each_client_one_instance", spreads.gives_each_client_one_instance, (program,))
 
