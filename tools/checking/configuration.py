@@ -219,8 +219,11 @@ def slips_of_map(route):
     """What may not be meant in a map."""
     where = f"map {route.number}: " if route.number else ""
     prefix, origin = route.prefix.value, route.origin.value
-    if prefix != "/" and (prefix.endswith("/") or "//" in prefix):
+    if prefix != "/" and prefix.endswith("/"):
         text = f"prefix {shown(prefix)} has an empty segment, so it isn't the prefix of {prefix.rstrip('/') or '/'}/x"
+        yield Finding(route.prefix.line, where + text)
+    elif "//" in prefix:
+        text = f"prefix {shown(prefix)} has an empty segment, so it is the prefix only of paths that have one there"
         yield Finding(route.prefix.line, where + text)
     path = origin.partition("://")[2].partition("/")[2]
     if path.endswith("/") or "//" in path:

@@ -18,7 +18,7 @@ def check_address(words):
 
 def local_address(words):
     """The address to listen at."""
-    text = words.address or "0.0.0.0"
+    text = "0.0.0.0" if words.address is None else words.address
     return host_of(text) if text.startswith("[") else ipv4_of(text) or ipv6_of(text)
 
 

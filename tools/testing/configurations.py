@@ -210,6 +210,53 @@ SAID = (
 )
 
 
+# A rule by its name, the smallest configuration that raises its warning, with words, and the nearest that doesn't; in both
+# @ is what differs, of which the first raises it.
+Warned = namedtuple("Warned", "name text raising quiet words", defaults=([],))
+ORIGIN, HERE = "coap://192.0.2.7/", ["-A", "192.0.2.1"]
+WARNINGS = (
+    Warned("a_name_with_a_port", 'version = 1\nnames = ["@"]\n', "a:5683", "a"),
+    Warned("a_name_with_a_colon_that_is_an_address", 'version = 1\nnames = ["@"]\n', "[::1]:5683", "[::1]"),
+    Warned("a_prefix_that_ends_with_a_slash", "version = 1\n" + MAP.format("@", ORIGIN), "/t/", "/t"),
+    Warned("a_prefix_of_two_slashes", "version = 1\n" + MAP.format("@", ORIGIN), "//", "/"),
+    Warned("a_prefix_with_an_empty_segment", "version = 1\n" + MAP.format("@", ORIGIN), "/a//b", "/a/b"),
+    Warned("an_origin_that_ends_with_a_slash", "version = 1\n" + MAP.format("/t", "@"), f"{ORIGIN}a/", f"{ORIGIN}a"),
+    Warned("an_origin_with_an_empty_segment", "version = 1\n" + MAP.format("/t", "@"), f"{ORIGIN}a//b", f"{ORIGIN}a/b"),
+    Warned("a_map_that_is_never_used", "version = 1\n" + MAP.format("/t", ORIGIN) + MAP.format("@", ORIGIN), "/t", "/T"),
+    Warned("a_map_to_the_proxy", "version = 1\n" + MAP.format("/t", "coap://192.0.2.1:@/"), "5683", "5684", HERE),
+    Warned("a_map_to_the_proxy_on_any_address", "version = 1\n" + MAP.format("/t", "coap://@/"), "127.0.0.1", "127.0.0.1:1"),
+    Warned("a_map_to_the_other_family", "version = 1\n" + MAP.format("/t", "coap://@/"), "[2001:db8::1]", "192.0.2.7"),
+    Warned("a_map_beyond_the_loopback", "version = 1\n" + MAP.format("/t", "coap://@:1/"), "192.0.2.7", "127.0.0.2",
+           ["-A", "127.0.0.1"]),
+    Warned("a_link_local_map", "version = 1\n" + MAP.format("/t", "coap://[@::1]/"), "fe80", "fd80", ["-A", "::"]),
+    Warned("a_map_to_many_hosts", "version = 1\n" + MAP.format("/t", "coap://@.0.0.1/"), "224", "223"),
+    Warned("a_map_to_all_hosts", "version = 1\n" + MAP.format("/t", "coap://255.255.255.@/"), "255", "254"),
+    Warned("a_map_to_no_host", "version = 1\n" + MAP.format("/t", "coap://0.0.0.@/"), "0", "1"),
+    Warned("an_exchange_longer_than_a_request", "version = 1\n[limits]\nexchange_ms = @\n", "93001", "93000"),
+    Warned("more_memory_than_there_is", "version = 1\n[limits]\ncache_bytes = @\n", "262145", "262144",
+           ["--memory-max", "18662400"]),
+    Warned("a_limit_of_a_client_without_effect", "version = 2\n[limits]\nclient_waiters = @\n", "1025", "1024"),
+    Warned("a_client_that_polls_all_maps", "version = 1\nlimits = { waiters = @ }\n" + MAP.format("/a", ORIGIN)
+           + MAP.format("/b", ORIGIN), "1", "2"),
+    Warned("records_of_a_client_that_polls_all_maps", "version = 1\nlimits = { con_records = @ }\n"
+           + MAP.format("/a", ORIGIN) + MAP.format("/b", ORIGIN), "49", "50"),
+)
+
+
+def check_warning(it):
+    """Has a configuration raise one warning, and none if one thing in it is as it should be."""
+    with tempfile.TemporaryDirectory(prefix="coap-proxyd-test-") as folder:
+        path, came = os.path.join(folder, "warned.toml"), []
+        for what in (it.raising, it.quiet):
+            with open(path, "w", encoding="utf-8") as file:
+                file.write(it.text.replace("@", what))
+            words = [sys.executable, SCRIPT, path, *it.words]
+            done = subprocess.run(words, stdout=subprocess.PIPE, timeout=50)
+            lines = done.stdout.decode().replace(f"{path}:", "").splitlines()
+            came.append((sum("warning: " in line for line in lines), len(lines), lines[-1]))
+    expect("warnings, lines, and the verdict", [(1, 2, "accepted"), (0, 1, "accepted")], came)
+
+
 def check_run(program, run):
     """Has the configuration of a worked run be accepted or refused as by the program, and for the same fault."""
     with tempfile.TemporaryDirectory(prefix="coap-proxyd-test-") as folder:

@@ -3,11 +3,11 @@
 import os
 from collections import namedtuple
 
-from testing import accounts, caching, captures, chosen, clients, configurations, costs, days, deployments, documents
-from testing import draws, endings, faults, firewalls, fleets, forwarding, gateways, hosts, instructions, kernels, leaps
-from testing import libcoap, limits, links, logs, memory, messages, monitoring, pages, parents, periods, pictures
-from testing import programs, questions, ranges, readings, recordings, refusals, roles, script, sends, services, silences
-from testing import slips, spreads, statistics, suites, uptimes, watching, worked, writes
+from testing import accounts, caching, captures, chosen, clients, configurations, costs, days, deployments
+from testing import documents, draws, endings, faults, firewalls, fleets, forwarding, gateways, hosts, instructions
+from testing import kernels, leaps, libcoap, limits, links, logs, memory, messages, monitoring, pages, parents, periods
+from testing import pictures, programs, questions, ranges, readings, recordings, refusals, roles, script, sends
+from testing import services, silences, slips, spreads, statistics, suites, tokens, uptimes, watching, worked, writes
 from testing.network import Stage
 from testing.stand_ins import PLAYER, SAID, differences_are_told, must_fail, must_say
 
@@ -207,6 +207,10 @@ def configuration_tests(program, runs):
         yield Test(f"stand-in {wrong} and check-config {name}", must_fail, what)
     for said in configurations.SAID:
         yield Test(f"check-config says {said.name}", configurations.check_said, (said,))
+    function = tokens.each_token_is_judged_as_by_the_program
+    yield Test(f"check-config {function.__name__}", function, (program,))
+    for it in configurations.WARNINGS:
+        yield Test(f"check-config warns_of_{it.name}", configurations.check_warning, (it,))
     yield Test("check-config knows_what_the_page_tells", configurations.check_page, (program,))
     yield Test("check-config knows_where_it_listens", configurations.check_environment, (program,))
     yield Test("check-config knows_what_rules_let_through", configurations.check_rules, (program,))
