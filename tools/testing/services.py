@@ -1,8 +1,9 @@
-"""What must hold of the scripts that the units of systemd run: one sees the socket, one names recordings, and one
-links counts."""
+"""What must hold of the unit of systemd, and of the scripts that it runs: one sees the socket, one names recordings, and
+one links counts."""
 
 import os
 import re
+import shutil
 import subprocess
 import tempfile
 import time
@@ -11,6 +12,23 @@ from testing.network import FAULT, expect, expect_between, expect_in, free_port
 
 TOP = os.path.dirname(os.path.dirname(os.path.dirname(os.path.abspath(__file__))))
 RECORDED = re.compile(r"RECORD=--record (.*-[0-9]{4}-[01][0-9]-[0-3][0-9]T[0-2][0-9]\.[0-5][0-9]\.[0-6][0-9]Z\.events)\n")
+
+
+# What the unit takes from the service, and how it is started again: the lines of its section that systemd reads beside
+# those of the program, its files and its sockets' addresses.
+KEPT = """Restart=always RestartSec=5s RestartPreventExitStatus=2 DynamicUser=yes NoNewPrivileges=yes CapabilityBoundingSet=
+AmbientCapabilities= UMask=0077 ProtectSystem=strict PrivateTmp=yes PrivateIPC=yes RemoveIPC=yes PrivateUsers=yes
+PrivateMounts=yes ProtectHome=yes ProtectProc=invisible ProcSubset=pid PrivateDevices=yes DevicePolicy=closed
+ProtectKernelTunables=yes ProtectKernelModules=yes ProtectKernelLogs=yes ProtectControlGroups=yes ProtectClock=yes
+ProtectHostname=yes RestrictNamespaces=yes RestrictSUIDSGID=yes SocketBindAllow=udp SocketBindDeny=any
+RestrictRealtime=yes LockPersonality=yes MemoryDenyWriteExecute=yes SystemCallArchitectures=native MemoryMax=128M""".split()
+KEPT += [
+    "InaccessiblePaths=-/dev/shm -/dev/mqueue", "RestrictAddressFamilies=AF_INET AF_INET6",
+    "SystemCallFilter=@system-service", "SystemCallFilter=~@privileged @resources",
+]
+UNIT = os.path.join(TOP, "examples", "coap-proxyd.service")
+# The most that systemd may find exposed, in tenths: as root with nothing taken away it is 96.
+EXPOSED = 11
 
 
 def run_script(name, *words):
@@ -36,6 +54,33 @@ def awaited(process):
         time.sleep(0.02)
     script.kill()
     return script.wait()
+
+
+def settings_of(text):
+    """The lines of a unit's section of the service that set something, but for what it starts and by which files."""
+    section = text.partition("[Service]\n")[2].partition("\n[")[0]
+    lines = [line for line in section.splitlines() if line and not line.startswith("#")]
+    return [line for line in lines if not re.match("Type=|Environment|ExecStart", line)]
+
+
+def exposure_is_within(path):
+    """Whether systemd finds no more exposed than may be by the unit of a path."""
+    words = ["systemd-analyze", "security", "--offline=true", f"--threshold={EXPOSED}", path]
+    return not subprocess.run(words, stdout=subprocess.DEVNULL, stderr=subprocess.DEVNULL, timeout=20).returncode
+
+
+def the_unit_takes_away_what_the_service_does_not_need(_):
+    with open(UNIT, encoding="utf-8") as file:
+        text = file.read()
+    expect("what is set", sorted(KEPT), sorted(settings_of(text)))
+    if shutil.which("systemd-analyze") is None:
+        return
+    expect("whether no more is exposed", True, exposure_is_within(UNIT))
+    with tempfile.TemporaryDirectory(prefix="coap-proxyd-test-") as folder:
+        path = os.path.join(folder, "coap-proxyd.service")
+        with open(path, "w", encoding="utf-8") as file:
+            file.write(text.replace("RestrictNamespaces=yes\n", ""))
+        expect("whether no more is exposed where namespaces are left", False, exposure_is_within(path))
 
 
 def the_socket_is_seen(program):
@@ -87,4 +132,7 @@ def counts_are_linked(_):
         expect("where it leads", written, os.readlink(os.path.join(there, "coap-proxyd@g1.prom")))
 
 
-CASES = (counts_are_linked, the_socket_is_seen, each_recording_has_a_name)
+CASES = (
+    counts_are_linked, the_socket_is_seen, each_recording_has_a_name,
+    the_unit_takes_away_what_the_service_does_not_need,
+)
