@@ -75,6 +75,7 @@ docs/REPLAY / Worked runs: run: document the_first_answer_is_printed, as a worke
 docs/REPLAY / Recordings: run: recording
 docs/REPLAY / From a capture: run: capture
 docs/SCALING / Clients over equal instances: run: spread; systemd isn't started
+docs/SCALING / Both families, and devices in other networks: run: spread; systemd isn't started
 docs/SCALING / Other balancers: not run: neither balancer was tried
 docs/SCALING / A front before them: run: document configurations_are_accepted; the addresses aren't this host's
 docs/SCALING / A tree of proxies: run: document configurations_are_accepted; the addresses aren't this host's

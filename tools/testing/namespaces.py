@@ -9,7 +9,7 @@ import subprocess
 import threading
 from contextlib import contextmanager
 
-from testing.network import Broken, Skipped
+from testing.network import Broken, Skipped, udp
 
 # What clone(2) calls a network namespace, and the option of socket(7) by which root has a buffer as large as it likes.
 CLONE_NEWNET = 0x40000000
@@ -70,6 +70,15 @@ def made_in(namespace, make):
 
 def socket_in(namespace, address, port=0):
     """A UDP socket in a namespace, at this address."""
-    it = made_in(namespace, lambda: socket.socket(socket.AF_INET, socket.SOCK_DGRAM))
+    it = made_in(namespace, lambda: udp(address))
     it.bind((address, port))
     return it
+
+
+def received(client, seconds):
+    """What a socket receives in so many seconds, with where it is from, or nothing."""
+    client.settimeout(seconds)
+    try:
+        return client.recvfrom(2_000)
+    except socket.timeout:
+        return None

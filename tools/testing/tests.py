@@ -263,6 +263,7 @@ def network_tests(program):
         yield Test("firewall bounds_an_address_and_all_together", together, (program,))
     yield Test("firewall the_tools_know_the_ports", play_end, (program, firewalls.the_tools_know_the_ports))
     yield Test("spread gives_each_client_one_instance", spreads.gives_each_client_one_instance, (program,))
+    yield Test("spread serves_both_families", spreads.serves_both_families, (program,))
 
 
 def tests(program):
