@@ -254,8 +254,9 @@ def network_tests(program):
         yield Test(name, gateways.accounts_for_both_interfaces, (program, address))
     for function in fleets.ENDS:
         yield Test(f"fleet {function.__name__}", play_end, (program, function))
-    for function in firewalls.KINDS:
-        yield Test(f"firewall holds_for_{function.__name__}", firewalls.holds, (program, function))
+    for function, hosts in firewalls.KINDS:
+        name = f"firewall holds_for_{function.__name__} at {hosts.here}"
+        yield Test(name, firewalls.holds, (program, function, hosts))
     yield Test("firewall holds_for_a_published_port", firewalls.holds_for_a_published_port, (program,))
     together = firewalls.bounds_an_address_and_all_together
     if not programs.is_emulated(program[-1]):
