@@ -87,10 +87,10 @@ docs/DEPLOYING / Counts for Prometheus: not run: they change the host; monitorin
 docs/DEPLOYING / Recordings: run: picture, with other recordings
 docs/DEPLOYING / Packages: run: package; nothing is installed
 docs/DEPLOYING / A Raspberry Pi: not run: they change the host
-docs/DEPLOYING / OpenWrt: not run: they change the host
+docs/DEPLOYING / OpenWrt: run: router, by the grammar of uci; nothing is changed
 docs/DEPLOYING / Alpine and others with OpenRC: not run: they change the host
 docs/DEPLOYING / A container: run: image; no container is run
-docs/DEPLOYING / A pod in Kubernetes: not run: it takes a cluster
+docs/DEPLOYING / A pod in Kubernetes: run: manifest; it isn't applied to a cluster
 docs/DEPLOYING / Is it there?: run: ping
 docs/BUILDING / The kit: no command
 docs/BUILDING / The first build: not run: it takes the kit

@@ -3,11 +3,12 @@
 import os
 from collections import namedtuple
 
-from testing import accounts, caching, captures, chosen, clients, configurations, costs, days, deployments
-from testing import documents, draws, endings, faults, firewalls, fleets, forwarding, gateways, hosts, instructions
-from testing import kernels, leaps, libcoap, limits, links, logs, memory, messages, monitoring, pages, parents, periods
-from testing import pictures, programs, questions, ranges, readings, recordings, refusals, roles, script, sends
-from testing import services, silences, slips, spreads, statistics, suites, tokens, uptimes, watching, worked, writes
+from testing import accounts, caching, captures, chosen, clients, configurations, costs, days, deployments, documents
+from testing import draws, endings, faults, firewalls, fleets, forwarding, gateways, hosts, instructions, kernels
+from testing import leaps, libcoap, limits, links, logs, manifests, memory, messages, monitoring, pages, parents
+from testing import periods, pictures, programs, questions, ranges, readings, recordings, refusals, roles, routers
+from testing import script, sends, services, silences, slips, spreads, statistics, suites, tokens, uptimes, watching
+from testing import worked, writes
 from testing.network import Stage
 from testing.stand_ins import PLAYER, SAID, differences_are_told, must_fail, must_say
 
@@ -254,9 +255,9 @@ def network_tests(program):
         yield Test(name, gateways.accounts_for_both_interfaces, (program, address))
     for function in fleets.ENDS:
         yield Test(f"fleet {function.__name__}", play_end, (program, function))
-    for function, hosts in firewalls.KINDS:
-        name = f"firewall holds_for_{function.__name__} at {hosts.here}"
-        yield Test(name, firewalls.holds, (program, function, hosts))
+    for function, family in firewalls.KINDS:
+        name = f"firewall holds_for_{function.__name__} at {family.here}"
+        yield Test(name, firewalls.holds, (program, function, family))
     yield Test("firewall holds_for_a_published_port", firewalls.holds_for_a_published_port, (program,))
     together = firewalls.bounds_an_address_and_all_together
     if not programs.is_emulated(program[-1]):
@@ -295,6 +296,12 @@ def tests(program):
     yield Test("kernel without_random_bytes", kernels.runs_without_random_bytes, (program,))
     yield Test("image holds_the_program", deployments.check_images, (program,))
     yield Test("manifest runs_what_there_is", deployments.check_manifests, (program,))
+    for function in manifests.CASES:
+        yield Test(f"manifest {function.__name__}", play_end, (program, function))
+    for function in routers.CASES:
+        yield Test(f"router {function.__name__}", play_end, (program, function))
+    answer = manifests.containers_answer_where_they_are_asked
+    yield Test(f"manifest {answer.__name__}", answer, (program,))
     if not programs.is_emulated(program[-1]):
         yield from tool_tests(program)
     yield from repository_tests(program)
