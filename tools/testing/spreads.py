@@ -50,16 +50,16 @@ def lines_of(near, far, inner):
 
 
 class Spread:
-    """Instances of a program in one namespace, clients in another, and a device for each family."""
+    """Instances of a program in one namespace, clients in another, and devices in a third."""
 
-    def __init__(self, stage, near, far, inner, sides):
-        self.stage, self.near, self.sides, self.instances = stage, near, sides, {}
+    def __init__(self, stage, near, far, inner, sides, devices):
+        self.stage, self.near, self.sides, self.devices, self.instances = stage, near, sides, devices, {}
         self.settings = {**os.environ, "DESTDIR": stage.folder}
         for side in sides:
             if not namespaces.run("ip", "-n", far, "route", "add", "local", side.network, "dev", "lo"):
                 raise Skipped("this system has no routes for so many clients")
             namespaces.run("ip", "-n", near, "route", "add", side.network, "via", side.way)
-        self.origins = [namespaces.socket_in(inner, side.device) for side in sides]
+        self.origins = [namespaces.socket_in(inner, side.device) for side in devices]
         # Each client has two ports, since it is its address that counts.
         self.clients = []
         for side in [*sides, *sides]:
@@ -72,14 +72,14 @@ class Spread:
         """The words that have a command run where the instances are."""
         return ["ip", "netns", "exec", self.near, *words]
 
-    def write(self):
-        """Has tools/spread write all files, and the table be loaded. The device of the first family is /d0."""
-        hosts = [f"[{side.device}]" if ":" in side.device else side.device for side in self.sides]
+    def write(self, *more):
+        """Has tools/spread write all files, and the table be loaded. The first device is /d0."""
+        hosts = [f"[{side.device}]" if ":" in side.device else side.device for side in self.devices]
         uris = [f"coap://{host}:{origin.getsockname()[1]}/" for host, origin in zip(hosts, self.origins)]
         maps = "".join(f'[[map]]\nprefix = "/d{number}"\norigin = "{uri}"\n' for number, uri in enumerate(uris))
         config = self.stage.file("p.toml", f"version = 1\n{maps}")
         places = [word for side in self.sides for word in ("--address", side.asked)]
-        words = [sys.executable, SCRIPT, str(INSTANCES), *places, "--config", config]
+        words = [sys.executable, SCRIPT, str(INSTANCES), *places, "--config", config, *more]
         subprocess.run(words, env=self.settings, stdout=subprocess.DEVNULL, check=True, timeout=20)
         if not namespaces.run(*self.inside("nft", "-f", os.path.join(self.stage.folder, "etc/coap-proxyd/spread.nft"))):
             raise Skipped("this system doesn't load the table of tools/spread")
@@ -111,7 +111,7 @@ class Spread:
     def answer_origin(self, device):
         """Answers what a device is asked with the port that asks, which must be that of the host in its network."""
         data, source = self.origins[device].recvfrom(2_000)
-        expect("which address of the host a device sees", self.sides[device].seen, source[0])
+        expect("which address of the host a device sees", self.devices[device].seen, source[0])
         asked = read(data)
         options = [(MAX_AGE, b"\x3c")]
         answer = message(ACK, CONTENT, asked.message_id, asked.token, options, str(source[1]).encode())
@@ -218,7 +218,7 @@ def gives_each_client_one_instance(program):
     if shutil.which("nft") is None:
         raise Skipped("there is no nft")
     with links.slow_link("1gbit") as (near, far), Stage(program) as stage:
-        spread = Spread(stage, near, far, near, ONE)
+        spread = Spread(stage, near, far, near, ONE, ONE)
         ports = expect_spread(spread)
         expect_others_served(spread, ports)
         expect_removed(spread)
@@ -228,8 +228,23 @@ def serves_both_families(program):
     """Has clients of both families get what devices of both have, which are in a network of their own. They are
     connected, so that they get no answer from another address than the one that they ask."""
     with namespaces.namespaces(3, lines_of, "nft", "sysctl") as (near, far, inner), Stage(program) as stage:
-        spread = Spread(stage, near, far, inner, BOTH)
+        spread = Spread(stage, near, far, inner, BOTH, BOTH)
         ports = expect_spread(spread)
         expect("who has which for the other device", ports, spread.ports(3, spread.everyone, device=1))
         expect_nothing_sent_to_many(spread, far)
         expect_removed(spread)
+
+
+def reaches_other_networks(program, bound, devices):
+    """Has IPv4 clients get what these devices have, where the instances bind all addresses of IPv4, or of both."""
+    with namespaces.namespaces(3, lines_of, "nft", "sysctl") as (near, far, inner), Stage(program) as stage:
+        spread = Spread(stage, near, far, inner, BOTH[:1], devices)
+        spread.write("--bind", bound)
+        spread.start_late(range(1, INSTANCES + 1))
+        for device in range(len(devices)):
+            ports = spread.ports(device, spread.everyone, device)
+            expect("which instances are used", {FIRST + number for number in range(INSTANCES)}, set(ports.values()))
+
+
+# What instances bind that a single address is given for, with the devices that they reach.
+BOUND = {"0.0.0.0": BOTH[:1], "::": BOTH}

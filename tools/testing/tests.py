@@ -266,6 +266,9 @@ def network_tests(program):
     yield Test("firewall the_tools_know_the_ports", play_end, (program, firewalls.the_tools_know_the_ports))
     yield Test("spread gives_each_client_one_instance", spreads.gives_each_client_one_instance, (program,))
     yield Test("spread serves_both_families", spreads.serves_both_families, (program,))
+    for bound, devices in spreads.BOUND.items():
+        reaches = spreads.reaches_other_networks
+        yield Test(f"spread reaches_other_networks from {bound}", reaches, (program, bound, devices))
 
 
 def tests(program):
