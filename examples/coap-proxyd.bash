@@ -10,7 +10,7 @@ _coap_proxyd_value() {
         -A) mapfile -t COMPREPLY < <(compgen -W "0.0.0.0 127.0.0.1 :: ::1" -- "$value") ;;
         -p) mapfile -t COMPREPLY < <(compgen -W "5683" -- "$value") ;;
         --stats) mapfile -t COMPREPLY < <(compgen -W "1 60 3600" -- "$value") ;;
-        -P | --map | --id | --salt | --turns | --record-bytes) ;;
+        -P | --map | --id | --salt | --turns | --record-bytes | --receive-buffer) ;;
         *) return 1 ;;
     esac
 }
@@ -23,7 +23,7 @@ _coap_proxyd() {
     COMPREPLY=()
     _coap_proxyd_value "$before" && return
     mapfile -t COMPREPLY < <(compgen -W "-A -p -P --config --map --replay --id --salt --turns --record --explain --stats
-        --stats-file --log --record-bytes --help --version" -- "$value")
+        --stats-file --log --record-bytes --receive-buffer --help --version" -- "$value")
 }
 
 complete -F _coap_proxyd coap-proxyd

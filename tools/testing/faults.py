@@ -100,7 +100,7 @@ WORDS = (
 # What is for a socket, each beside --replay.
 FOR_SOCKETS = (
     ["--record", "/nowhere/run.events"], ["--record-bytes", "1000"], ["--log"], ["--stats", "60"],
-    ["--stats-file", "/nowhere/counts"],
+    ["--stats-file", "/nowhere/counts"], ["--receive-buffer", "1000"],
 )
 CONFIGURATIONS = (
     ("version = 1\nnames = [\n", "config: syntax", "line 3: "),
@@ -163,7 +163,7 @@ def what_is_wrong_with_a_map_beside_a_configuration(program):
 def somebody_at_a_terminal_is_told_that_it_listens(program):
     port = free_port()
     said = at_terminal(program, ["-A", "127.0.0.1", "-p", str(port), "--turns", "1"])
-    form = rf"listening version=[^ ]+ listen=127\.0\.0\.1:{port} maps=0 names=0 hosts=0 limits=1\n"
+    form = rf"listening version=[^ ]+ listen=127\.0\.0\.1:{port} maps=0 names=0 hosts=0 limits=1 receive_buffer=\d+\n"
     expect_form("what is said", form, said)
     done = subprocess.run(
         [*program, "-A", "127.0.0.1", "-p", str(free_port()), "--turns", "1"], stderr=subprocess.PIPE, timeout=20

@@ -7,6 +7,7 @@ import subprocess
 import time
 from urllib.parse import unquote_to_bytes
 
+from testing.buffers import given
 from testing.coap import (
     BLOCK2, CON, CONTENT, EMPTY, ETAG, GATEWAY_TIMEOUT, GET, NON, RST, URI_PATH, VALID, message,
 )
@@ -92,7 +93,7 @@ def it_says_that_it_listens(program):
         log = Log(stage, "waiters = 8\nclient_waiters = 8", f"{names}[hosts]\n{hosts}")
         done = subprocess.run([*program, "--version"], stdout=subprocess.PIPE, text=True, timeout=20)
         version, listen = done.stdout.split()[1], "%s:%d" % log.address
-        log.expect_line("listening", 1, version=version, listen=listen, maps=1, names=3, hosts=2, limits=2)
+        log.expect_line("listening", 1, version=version, listen=listen, maps=1, names=3, hosts=2, limits=2, receive_buffer=given())
 
 
 @case("CauseIsReset", "ClientIsTheFirst")

@@ -3,12 +3,12 @@
 import os
 from collections import namedtuple
 
-from testing import accounts, caching, captures, chosen, clients, configurations, costs, days, deployments, documents
-from testing import draws, endings, faults, firewalls, fleets, forwarding, gateways, hosts, instructions, kernels
-from testing import leaps, libcoap, limits, links, logs, manifests, memory, messages, monitoring, pages, parents
-from testing import periods, pictures, programs, questions, ranges, readings, recordings, refusals, roles, routers
-from testing import script, sends, services, silences, slips, spreads, statistics, suites, tokens, uptimes, watching
-from testing import worked, writes
+from testing import accounts, buffers, caching, captures, chosen, clients, configurations, costs, days, deployments
+from testing import documents, draws, endings, faults, firewalls, fleets, forwarding, gateways, hosts, instructions
+from testing import kernels, leaps, libcoap, limits, links, logs, manifests, memory, messages, monitoring, pages
+from testing import parents, periods, pictures, programs, questions, ranges, readings, recordings, refusals, roles
+from testing import routers, script, sends, services, silences, slips, spreads, statistics, suites, tokens, uptimes
+from testing import watching, worked, writes
 from testing.network import Stage
 from testing.stand_ins import PLAYER, SAID, differences_are_told, must_fail, must_say
 
@@ -141,7 +141,7 @@ def log_tests(program):
     """The tests of what it logs, of what is found in that, of what it draws, and of what it does where a clock is odd, and
     those of stand-ins for them."""
     kept = [*PLAYER, "LogKept", *program]
-    several = [("log", it) for it in (logs, writes, faults, silences)]
+    several = [("log", it) for it in (logs, writes, faults, silences, buffers)]
     several += [("question", questions), ("draw", draws), ("host", hosts)]
     cases = [(kind, *case) for kind, it in several for case in it.CASES]
     for kind, name, function, stand_ins in cases:

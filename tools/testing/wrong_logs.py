@@ -65,6 +65,13 @@ class CauseUnsaid(ListeningUnsaid):
     unsaid = b"cause: "
 
 
+class BufferUnsaid(LogKept):
+    """Says nothing of its receive buffer."""
+
+    def line(self, line):
+        return [re.sub(rb" receive_buffer=\d+", b"", line)]
+
+
 class CauseIsReset(LogKept):
     def line(self, line):
         return [re.sub(rb"(?<= cause=)\S+", b"reset", line)]

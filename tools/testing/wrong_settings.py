@@ -59,6 +59,14 @@ class NotCounted(Right):
         return [it for before, it in kept if not {before, it} & {"--stats", "--stats-file"}]
 
 
+class BufferUnasked(Right):
+    """Asks for no receive buffer of a size that it is told."""
+
+    def words(self, words):
+        kept = zip([""] + words, words)
+        return [it for before, it in kept if "--receive-buffer" not in (before, it)]
+
+
 def other(limit):
     """Another limit, which is in its range too."""
     return limit + 1 if limit < 100 else limit * 5 if limit < 10_000 else limit

@@ -5,7 +5,7 @@ use Rattle.std.specs.Str.Parse.{IsNumeral, ParsesUnsigned, digits_value, without
 use Rattle.std.proofs.lemmas.Bool.{cases_Bool, and_parts, leb-true, le-leb}
 use Rattle.clap.specs.Words.{ReadsOne, Text}
 use Rattle.coap_config.specs.Settings.{AreInRange, AreSettings, IsNumberOf, SaysNumber, narrowed}
-use Rattle.coap_config.specs.OptionTable.{greatest, longest_period}
+use Rattle.coap_config.specs.OptionTable.{greatest, largest_buffer, longest_period}
 use Rattle.coap_config.specs.declared.settings.Settings.{Settings}
 use Rattle.clap.specs.Words.{Row}
 
@@ -82,4 +82,5 @@ settings-in-range rows s are = record {
   turns = in-range 1 greatest _ s.turns are.turns;
   stats = in-range 1 longest_period _ s.stats are.stats;
   record_bytes = in-range 1 greatest _ s.record_bytes are.record_bytes;
+  receive_buffer = in-range 1 largest_buffer _ s.receive_buffer are.receive_buffer;
 }

@@ -78,6 +78,13 @@ log_rule = flag (codes "log")
 abbrev pub record_bytes_rule : Rule
 record_bytes_rule = parsed_by (Unsigned 1 greatest) (by_name (codes "record-bytes"))
 
+-- the largest receive buffer that may be asked for: a socket counts the twofold in 31 bits
+abbrev pub largest_buffer : ℕ
+largest_buffer = 1073741823
+
+abbrev pub receive_buffer_rule : Rule
+receive_buffer_rule = parsed_by (Unsigned 1 largest_buffer) (by_name (codes "receive-buffer"))
+
 -- the program without options, whose words don't begin with its name, and which has a version
 abbrev pub program : App
 program =
@@ -97,11 +104,13 @@ with_observing app =
 
 abbrev pub option_table : App
 option_table =
-    with_observing
+    with_rule
+    (with_observing
     (with_three
     (with_three (with_three program address_rule port_rule names_rule)
     config_rule map_rule replay_rule)
-    id_rule salt_rule turns_rule)
+    id_rule salt_rule turns_rule))
+    receive_buffer_rule
 
 -- ---- as the program lists them
 
@@ -128,4 +137,5 @@ options =
     ∷ config_rule ∷ map_rule ∷ replay_rule
     ∷ id_rule ∷ salt_rule ∷ turns_rule
     ∷ record_rule ∷ explain_rule ∷ stats_rule
-    ∷ stats_file_rule ∷ log_rule ∷ record_bytes_rule ∷ []
+    ∷ stats_file_rule ∷ log_rule ∷ record_bytes_rule
+    ∷ receive_buffer_rule ∷ []

@@ -5,7 +5,7 @@ use Rattle.std.specs.Str.Parse.{IsNumeral, digits_value, without_leading_plus}
 use Rattle.clap.specs.Words.{IsAmong, Kinds, Row, Text, fault_of, first_of, matches_of, one_of}
 use Rattle.clap.specs.declared.error.ErrorKind.{ErrorKind}
 use Rattle.clap.specs.declared.error.ErrorKind.TheVariants as kind
-use Rattle.coap_config.specs.OptionTable.{greatest, longest_period, option_table}
+use Rattle.coap_config.specs.OptionTable.{greatest, largest_buffer, longest_period, option_table}
 use Rattle.coap_config.specs.declared.settings.Settings.{Settings}
 use Rattle.coap_config.specs.declared.settings.WordsError.{WordsError}
 use Rattle.coap_config.specs.declared.settings.WordsError.TheVariants.{Usage, OutOfMemory}
@@ -50,6 +50,8 @@ pub record AreSettings (rows : List Row) (s : Settings) : Type 0 where
   pub stats_file : option_map string_bytes s.stats_file ≡ first_of (codes "stats-file") rows
   pub log : s.log ≡ is_given (codes "log") rows
   pub record_bytes : IsNumberOf 1 greatest (one_of (codes "record-bytes") rows) s.record_bytes
+  pub receive_buffer :
+      IsNumberOf 1 largest_buffer (one_of (codes "receive-buffer") rows) s.receive_buffer
 
 -- each setting that isn't a text is what its option gives
 pub record AreNumbers (rows : List Row) (s : Settings) : Type 0 where
@@ -62,6 +64,8 @@ pub record AreNumbers (rows : List Row) (s : Settings) : Type 0 where
   pub stats : IsNumberOf 1 longest_period (one_of (codes "stats") rows) s.stats
   pub log : s.log ≡ is_given (codes "log") rows
   pub record_bytes : IsNumberOf 1 greatest (one_of (codes "record-bytes") rows) s.record_bytes
+  pub receive_buffer :
+      IsNumberOf 1 largest_buffer (one_of (codes "receive-buffer") rows) s.receive_buffer
 
 -- the numbers are in their ranges
 pub record AreInRange (s : Settings) : Type 0 where
@@ -70,6 +74,7 @@ pub record AreInRange (s : Settings) : Type 0 where
   pub turns : IfSome s.turns (λ n. (1 ≤ n) × (n ≤ greatest))
   pub stats : IfSome s.stats (λ n. (1 ≤ n) × (n ≤ longest_period))
   pub record_bytes : IfSome s.record_bytes (λ n. (1 ≤ n) × (n ≤ greatest))
+  pub receive_buffer : IfSome s.receive_buffer (λ n. (1 ≤ n) × (n ≤ largest_buffer))
 
 -- the help and the version end the program with 0, a refusal with 2
 abbrev pub status_of : ErrorKind → ℕ

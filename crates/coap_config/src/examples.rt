@@ -174,6 +174,19 @@ pub fn observing_words()
         ≡ kind.ValueValidation ∷ [] }
 {}
 
+/// Sizes of a receive buffer.
+pub fn receive_buffers()
+    ensures given { one_of (codes "receive-buffer")
+        (matches_of option_table (codes "--receive-buffer" ∷ codes "425984" ∷ []))
+        ≡ Some (codes "425984") }
+    ensures none { fault_of option_table (codes "--receive-buffer" ∷ codes "0" ∷ [])
+        ≡ kind.ValueValidation ∷ [] }
+    ensures largest { fault_of option_table (codes "--receive-buffer" ∷ codes "1073741823" ∷ [])
+        ≡ [] }
+    ensures too_large { fault_of option_table (codes "--receive-buffer" ∷ codes "1073741824" ∷ [])
+        ≡ kind.ValueValidation ∷ [] }
+{}
+
 /// Words that are refused, or ask for the help or the version.
 pub fn refused_words()
     ensures twice { fault_of option_table (codes "-p" ∷ codes "1" ∷ codes "-p" ∷ codes "2" ∷ [])

@@ -135,6 +135,13 @@ answer, clients that are refused [default: no lines]",
         help: "Ends the recording before its file has more bytes, 1 to 9223372036854775807 \
 [default: 9223372036854775807]",
     },
+    Row {
+        name: "receive-buffer",
+        letter: None,
+        value: Value::Number("BYTES", ValueParser::Unsigned(1, 1_073_741_823)),
+        help: "Asks for so large a receive buffer of the socket, 1 to 1073741823 bytes, of which \
+Linux gives twice as many [default: as many as a socket has without asking]",
+    },
 ];
 
 /// The rows of the option table.

@@ -38,6 +38,9 @@ pub struct Settings {
     pub log: bool,
     /// `--record-bytes`: how many bytes the file of events has at most, at least 1.
     pub record_bytes: Option<u64>,
+    /// `--receive-buffer`: how many bytes of a receive buffer the socket asks for, from 1 to
+    /// 1,073,741,823.
+    pub receive_buffer: Option<u64>,
 }
 
 impl Drop for Settings {
@@ -58,6 +61,7 @@ impl Drop for Settings {
             stats_file: _,
             log: _,
             record_bytes: _,
+            receive_buffer: _,
         } = self;
     }
 }

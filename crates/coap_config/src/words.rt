@@ -55,6 +55,7 @@ fn without_texts(matches: &ArgMatches<'_>) -> Settings
         stats_file: None,
         log: is_given(matches, "log"),
         record_bytes: number(matches, "record-bytes", 1, i64::MAX as u64),
+        receive_buffer: number(matches, "receive-buffer", 1, 1_073_741_823),
     }
 }
 

@@ -23,6 +23,7 @@ no_settings = record {
   stats_file = None;
   log = false;
   record_bytes = None;
+  receive_buffer = None;
 }
 
 -- a configuration with these own names, and nothing else

@@ -31,8 +31,10 @@ fn socket_cause(settings: &Settings) -> &'static str {
         "--log is for a socket, and --replay has none"
     } else if settings.stats.is_some() {
         "--stats is for a socket, and --replay has none"
-    } else {
+    } else if settings.stats_file.is_some() {
         "--stats-file is for a socket, and --replay has none"
+    } else {
+        "--receive-buffer is for a socket, and --replay has none"
     }
 }
 

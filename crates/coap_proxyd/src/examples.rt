@@ -62,6 +62,11 @@ pub fn what_goes_together()
       replay = true;
       record_bytes = Some 1;
     }) ≡ false }
+    ensures buffered { go_together (record no_settings { receive_buffer = Some 1 }) ≡ true }
+    ensures replay_buffered { go_together (record no_settings {
+      replay = true;
+      receive_buffer = Some 1;
+    }) ≡ false }
     ensures refused { wanted_of (record no_settings { explain = true }) ≡ Err faults.Arguments }
 {}
 

@@ -44,6 +44,8 @@ pub struct Plan {
     pub log: bool,
     /// How many bytes the file of events has at most, if that is said.
     pub record_bytes: Option<u64>,
+    /// How many bytes of a receive buffer the socket asks for, if that is said.
+    pub receive_buffer: Option<u64>,
     /// How many own names there are.
     pub names: usize,
     /// How many hosts are known.
@@ -83,6 +85,7 @@ pub fn read_plan(alloc: Global, wanted: Wanted, file: Option<&[u8]>) -> Result<P
         stats_file: settings.stats_file.take(),
         log: settings.log,
         record_bytes: settings.record_bytes,
+        receive_buffer: settings.receive_buffer,
         names: config.names.len(),
         hosts: config.hosts.len(),
     })

@@ -65,6 +65,7 @@ fn go_together(settings: &Settings) -> bool
             && settings.stats.is_none()
             && settings.stats_file.is_none()
             && !settings.log
+            && settings.receive_buffer.is_none()
     } else {
         !settings.explain && (settings.recording.is_some() || settings.record_bytes.is_none())
     }

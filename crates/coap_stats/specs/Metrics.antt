@@ -85,6 +85,11 @@ evicted_fresh =
     counter (codes "coap_proxyd_evicted_fresh_entries_total")
     (codes "Those of them that were still fresh.")
 
+abbrev pub receive_buffer : Metric
+receive_buffer =
+    gauge (codes "coap_proxyd_receive_buffer_bytes")
+    (codes "Room for datagrams that came and weren't read yet, as the system gave it.")
+
 abbrev pub held : Metric
 held =
     gauge (codes "coap_proxyd_held")

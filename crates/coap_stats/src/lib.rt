@@ -27,7 +27,7 @@ mod words;
 pub use clock::{StandingClock, period_end, period_of};
 pub use labels::socket_of;
 pub use line::put_line;
-pub use metrics::{metrics_room, put_metrics};
+pub use metrics::{metrics_room, put_metrics, put_receive_buffer};
 pub use statistics::Statistics;
 pub use tally::{AnswerCounts, Tally};
 pub use turns::Foreseen;

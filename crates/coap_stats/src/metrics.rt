@@ -97,6 +97,12 @@ const EVICTED_FRESH: Metric = Metric {
     help: "Those of them that were still fresh.",
 };
 
+const RECEIVE_BUFFER: Metric = Metric {
+    name: "coap_proxyd_receive_buffer_bytes",
+    kind: "gauge",
+    help: "Room for datagrams that came and weren't read yet, as the system gave it.",
+};
+
 /// Adds the lines that describe a metric.
 pub(crate) fn put_head(out: &mut Vec<u8>, metric: Metric) -> Result<(), OutOfMemory>
     ensures { OnOk result (out.new.items ≡ out.old.items ++ spec.head_text
@@ -355,14 +361,27 @@ pub fn put_metrics(
     put_holders(out, listen, &statistics.holders, statistics.tally.last)
 }
 
+/// Adds how large the receive buffer of the proxy's socket is, in bytes, as a metric with the label
+/// `listen`, as those of `put_metrics` have it.
+///
+/// # Errors
+/// Out of memory. Part of the text was added then.
+pub fn put_receive_buffer(out: &mut Vec<u8>, listen: &str, bytes: u64) -> Result<(), OutOfMemory>
+    ensures { OnOk result
+        (out.new.items ≡ out.old.items ++ spec.metric_text listen.now spec.receive_buffer bytes) }
+{
+    put_metric(out, listen, RECEIVE_BUFFER, bytes)
+}
+
 /// How many bytes a line takes at most, beside what a map's prefix takes in it.
 const LINE: usize = 256;
 
-/// How many bytes the text of `put_metrics` takes at most, whatever it counts later.
+/// How many bytes the texts of `put_metrics` and of `put_receive_buffer` take together at most,
+/// whatever is counted later.
 pub fn metrics_room(statistics: &Statistics) -> usize {
     let origins = statistics.origins.places().len().saturating_add(1);
     let mut room = origins.saturating_mul(32 * LINE);
-    room = room.saturating_add(160 * LINE);
+    room = room.saturating_add(163 * LINE);
     for map in statistics.maps.maps() {
         let line = map.prefix.size().saturating_mul(3).saturating_add(LINE);
         room = room.saturating_add(line.saturating_mul(16));

@@ -1,6 +1,7 @@
 //! The socket, the clock and the generator, as the operating system gives them.
 ghost use Rattle.std.specs.Prelude.{◌≡◌, IfOk};
 
+use crate::buffer;
 use crate::system::System;
 use crate::values::{READ_WAIT, millis_between};
 use mio::net::UdpSocket as Watched;
@@ -10,6 +11,7 @@ use rand_pcg::Pcg32;
 use std::alloc::Global;
 use std::io;
 use std::net::{Net, SocketAddr, UdpSocket};
+use std::os::fd::AsRawFd;
 use std::random::RandomSource;
 use std::time::{Clock, Duration, Instant};
 
@@ -88,6 +90,12 @@ impl<'a, C: Clock> Host<'a, C> {
             start: Instant::now(clock)?,
             generator: generator(source)?,
         })
+    }
+
+    /// Asks for a receive buffer of this many bytes, or of as many as the socket has. Returns how
+    /// many it has then, if the system says that.
+    pub(crate) fn ask_for_buffer(&self, bytes: Option<u64>) -> Option<u64> {
+        buffer::grow(self.socket.as_raw_fd(), bytes)
     }
 }
 

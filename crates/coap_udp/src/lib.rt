@@ -12,6 +12,7 @@
 #![tactic(auto)]
 
 mod address;
+mod buffer;
 mod failing;
 mod host;
 mod port;

@@ -116,6 +116,14 @@ impl<'a, C: Clock> UdpPort<Host<'a, C>> {
         let system = Host::bind(net, clock, source, alloc, address_of(local, is_ipv6))?;
         Ok(UdpPort::over(system, is_ipv6))
     }
+
+    /// Asks the system for a receive buffer of this many bytes, at most 2^30 - 1, or of as many as
+    /// the socket has. Returns how many it has then, if the system says that. Linux gives twice
+    /// what is asked for, for what it notes of each datagram, and takes no more than
+    /// `net.core.rmem_max` as asked for. A datagram that finds no room there is lost.
+    pub fn ask_for_buffer(&self, bytes: Option<u64>) -> Option<u64> {
+        self.system.ask_for_buffer(bytes)
+    }
 }
 
 impl<'a, R: Net + Clock + RandomSource> UdpPort<Host<'a, R>> {

@@ -7,6 +7,15 @@ use coap_proxyd::{Fault, Journal, Plan, VERSION};
 use std::io;
 use std::io::{IsTerminal, Write};
 
+/// Where the program listens, and what the system gave it for that.
+#[derive(Drop)]
+pub(crate) struct Listening {
+    /// An address with a port.
+    pub(crate) place: String,
+    /// How many bytes the receive buffer has, if the system says that.
+    pub(crate) receive_buffer: Option<u64>,
+}
+
 /// The room for the line that says that it listens, in bytes.
 const ROOM: usize = 512;
 
@@ -19,41 +28,47 @@ fn shares_all(limits: &LimitValues) -> bool {
 }
 
 /// Adds a key, and a number.
-fn put_number(line: &mut Line, key: &str, number: usize) -> io::Result<()> {
+fn put_number(line: &mut Line, key: &str, number: u64) -> io::Result<()> {
     line.key(key);
     write!(line, "{number}")
 }
 
 /// Adds where the program listens, and what it was started with.
-fn put_listening(line: &mut Line, plan: &Plan, listen: &str) -> io::Result<()> {
+fn put_listening(line: &mut Line, plan: &Plan, listening: &Listening) -> io::Result<()> {
     line.begin("listening");
     line.key("version");
     line.write_all(VERSION.as_bytes())?;
     line.key("listen");
-    line.write_all(listen.as_bytes())?;
-    put_number(line, "maps", plan.routes.maps().len())?;
-    put_number(line, "names", plan.names)?;
-    put_number(line, "hosts", plan.hosts)?;
+    line.write_all(listening.place.as_bytes())?;
+    put_number(line, "maps", plan.routes.maps().len() as u64)?;
+    put_number(line, "names", plan.names as u64)?;
+    put_number(line, "hosts", plan.hosts as u64)?;
     let version = if shares_all(plan.limits.values()) {
         1
     } else {
         2
     };
     put_number(line, "limits", version)?;
+    if let Some(bytes) = listening.receive_buffer {
+        put_number(line, "receive_buffer", bytes)?;
+    }
     line.end();
     Ok(())
 }
 
-/// Says that the program listens, if a log is asked for, and to somebody at a terminal: where it
-/// does is passed in as an address with a port.
-pub(crate) fn tell_listening(rt: &HostRuntime, plan: &Plan, listen: &str) -> Result<(), Fault> {
+/// Says that the program listens, if a log is asked for, and to somebody at a terminal.
+pub(crate) fn tell_listening(
+    rt: &HostRuntime,
+    plan: &Plan,
+    listening: &Listening,
+) -> Result<(), Fault> {
     if !plan.log && !rt.stderr().is_terminal() {
         return Ok(());
     }
     let Ok(mut line) = Line::new(rt.alloc(), ROOM) else {
         return Err(Fault::OutOfMemory);
     };
-    if put_listening(&mut line, plan, listen).is_ok() {
+    if put_listening(&mut line, plan, listening).is_ok() {
         // Where standard error can't be written, nothing can be said either.
         let _ = rt.stderr().write_all(line.bytes());
     }

@@ -8,15 +8,17 @@ mod recorded;
 mod reporter;
 mod stop;
 
-use crate::logging::{logger_of, tell_listening};
+use crate::logging::{Listening, logger_of, tell_listening};
 use crate::recorded::{file_of, head_of, since_of};
-use crate::reporter::{Reporter, listen_text};
+use crate::reporter::Reporter;
 use crate::stop::{Stop, ended, fault_of, words};
 use coap_cache::LruStore;
+use coap_endpoint::Endpoint;
 use coap_explain::Explainer;
 use coap_proxyd::{
     Both, Fault, Output, Plan, Port, Recording, Server, Start, read_plan, read_wanted,
 };
+use coap_stats::socket_of;
 use coap_udp::UdpPort;
 use std::hash::RandomState;
 use std::io::{BufReader, Read};
@@ -76,53 +78,81 @@ fn seed(rt: &HostRuntime) -> Result<RandomState, Fault> {
     RandomState::new(rt).map_err(|error| fault_of(&error, Fault::File))
 }
 
-/// Serves a socket.
+/// What is served: what is asked for, how the core starts, and where the program listens.
+#[derive(Drop)]
+struct Service {
+    plan: Plan,
+    start: Start,
+    listening: Listening,
+}
+
+/// An endpoint as a text, with an IPv6 address in brackets.
+fn text_of(rt: &HostRuntime, local: Endpoint) -> Result<String, Fault> {
+    let socket = socket_of(local);
+    format!(in rt.alloc(); "{socket}").map_err(|_| Fault::OutOfMemory)
+}
+
+/// Serves a socket, for which it asks for a receive buffer first.
 fn serve_socket(rt: &HostRuntime, plan: Plan, config: Option<&[u8]>) -> Result<(), Stop> {
-    let drawn = random_start(rt)?;
-    let Ok(listen) = listen_text(rt, plan.local) else {
-        return Err(Stop::from(Fault::OutOfMemory));
-    };
+    let start = random_start(rt)?;
+    let place = text_of(rt, plan.local)?;
     let mut port = match UdpPort::bind(rt, rt.alloc(), plan.local) {
         Ok(port) => port,
-        Err(error) => return Err(Stop::by_system(rt, listen.as_str(), &error, Fault::Socket)),
+        Err(error) => return Err(Stop::by_system(rt, place.as_str(), &error, Fault::Socket)),
     };
-    tell_listening(rt, &plan, listen.as_str())?;
-    if plan.recording.is_none() {
-        serve(rt, plan, drawn, &mut port)
+    let receive_buffer = port.ask_for_buffer(plan.receive_buffer);
+    let listening = Listening {
+        place,
+        receive_buffer,
+    };
+    tell_listening(rt, &plan, &listening)?;
+    let is_recorded = plan.recording.is_some();
+    let service = Service {
+        plan,
+        start,
+        listening,
+    };
+    if is_recorded {
+        record(rt, service, config, port)
     } else {
-        record(rt, plan, config, drawn, port)
+        serve(rt, service, &mut port)
     }
 }
 
 /// Serves a port, and records its turns.
 fn record<P: Port + Drop>(
     rt: &HostRuntime,
-    plan: Plan,
+    service: Service,
     config: Option<&[u8]>,
-    drawn: Start,
     port: P,
 ) -> Result<(), Stop>
     requires failures { P.failures port < 2 ^ 63 }
 {
+    let plan = &service.plan;
     let start = Start {
-        first_id: plan.first_id.unwrap_or(drawn.first_id),
-        salt: plan.salt.unwrap_or(drawn.salt),
+        first_id: plan.first_id.unwrap_or(service.start.first_id),
+        salt: plan.salt.unwrap_or(service.start.salt),
     };
-    let file = file_of(rt, &plan, config, start)?;
+    let file = file_of(rt, plan, config, start)?;
     let Ok(mut recording) = Recording::new(rt.alloc(), port, file) else {
         return Err(Stop::from(Fault::OutOfMemory));
     };
-    let served = serve(rt, plan, start, &mut recording);
+    let served = serve(rt, Service { start, ..service }, &mut recording);
     recording.finish();
     served
 }
 
 /// Serves a port. If counts or a log are asked for, writes them meanwhile, and counts at the end.
-fn serve<P: Port>(rt: &HostRuntime, plan: Plan, start: Start, port: &mut P) -> Result<(), Stop>
+fn serve<P: Port>(rt: &HostRuntime, service: Service, port: &mut P) -> Result<(), Stop>
     requires failures { P.failures port.old < 2 ^ 63 }
 {
+    let Service {
+        plan,
+        start,
+        listening,
+    } = service;
     let seed = seed(rt)?;
-    let reporter = Reporter::of(rt, &plan)?;
+    let reporter = Reporter::of(rt, &plan, listening)?;
     let logger = logger_of(rt, &plan)?;
     let server = Server::<Cache>::new(rt.alloc(), seed, plan);
     if reporter.is_none() && logger.is_none() {

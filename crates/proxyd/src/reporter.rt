@@ -2,12 +2,13 @@
 ghost use Rattle.std.specs.Prelude.{◌≡◌, ◌<◌, ◌≤◌, IfOk, IfSome};
 ghost use Rattle.coap_stats.specs.Clock.{period_of};
 
-use coap_core::{Core, Counts, Endpoint, LimitValues};
+use crate::logging::Listening;
+use coap_core::{Core, Counts, LimitValues};
 use coap_message::{LAST_MOMENT, Moment, OutOfMemory};
 use coap_proxyd::{Fault, Journal, Plan, Watch, WatchedTurn};
 use coap_stats::{
     StandingClock, Statistics, metrics_room, period_end, period_of, put_line, put_metrics,
-    socket_of,
+    put_receive_buffer,
 };
 use coap_store::Store;
 use std::io::Write;
@@ -23,8 +24,7 @@ const STANDING: &[u8] = b"coap-proxyd: the clock stands still\n";
 struct StatsFile {
     path: String,
     beside: String,
-    /// Where the proxy listens, as an address and a port.
-    listen: String,
+    listening: Listening,
 }
 
 /// Writes counts once in a period: a line to standard error, and a file. What can't be written
@@ -51,22 +51,20 @@ pub(crate) struct Reporter<'a> {
     ghost short: { period ≤ 86400000 },
 }
 
-/// The file of a plan, if there is one.
-fn stats_file(rt: &HostRuntime, plan: &Plan) -> Result<Option<StatsFile>, OutOfMemory> {
+/// The file of a plan, if there is one, of a proxy that listens so.
+fn stats_file(
+    rt: &HostRuntime,
+    plan: &Plan,
+    listening: Listening,
+) -> Result<Option<StatsFile>, OutOfMemory> {
     let Some(path) = &plan.stats_file else {
         return Ok(None);
     };
     Ok(Some(StatsFile {
         path: String::from_str(rt.alloc(), path.as_str())?,
         beside: format!(in rt.alloc(); "{path}.tmp")?,
-        listen: listen_text(rt, plan.local)?,
+        listening,
     }))
-}
-
-/// An endpoint as a text, with an IPv6 address in brackets.
-pub(crate) fn listen_text(rt: &HostRuntime, local: Endpoint) -> Result<String, OutOfMemory> {
-    let socket = socket_of(local);
-    Ok(format!(in rt.alloc(); "{socket}")?)
 }
 
 /// Counts that are all zero, and room for their text.
@@ -76,9 +74,29 @@ fn counters(rt: &HostRuntime, plan: &Plan) -> Result<(Statistics, Vec<u8>), OutO
     Ok((statistics, text))
 }
 
+/// Adds what the file says: the counts, and the receive buffer, if the system says how large it is.
+fn put_file(
+    text: &mut Vec<u8>,
+    listening: &Listening,
+    statistics: &Statistics,
+    counts: &Counts,
+    limits: &LimitValues,
+) -> Result<(), OutOfMemory> {
+    let listen = listening.place.as_str();
+    put_metrics(text, listen, statistics, counts, limits)?;
+    match listening.receive_buffer {
+        Some(bytes) => put_receive_buffer(text, listen, bytes),
+        None => Ok(()),
+    }
+}
+
 impl<'a> Reporter<'a> {
-    /// The reporter of a plan, if it asks for counts.
-    pub(crate) fn of(rt: &'a HostRuntime, plan: &Plan) -> Result<Option<Reporter<'a>>, Fault>
+    /// The reporter of a plan, if it asks for counts, of a proxy that listens so.
+    pub(crate) fn of(
+        rt: &'a HostRuntime,
+        plan: &Plan,
+        listening: Listening,
+    ) -> Result<Option<Reporter<'a>>, Fault>
         ensures period { IfOk result (λ asked.
             IfSome asked (λ reporter. reporter.period ≡ period_of plan.now.stats)) }
         ensures due { IfOk result (λ asked.
@@ -87,7 +105,7 @@ impl<'a> Reporter<'a> {
         if plan.stats.is_none() && plan.stats_file.is_none() {
             return Ok(None);
         }
-        let Ok(file) = stats_file(rt, plan) else {
+        let Ok(file) = stats_file(rt, plan, listening) else {
             return Err(Fault::OutOfMemory);
         };
         let Ok((statistics, text)) = counters(rt, plan) else {
@@ -131,16 +149,8 @@ impl<'a> Reporter<'a> {
             return Ok(());
         };
         self.text.clear();
-        let listen = file.listen.as_str();
-        if put_metrics(
-            &mut self.text,
-            listen,
-            &self.statistics,
-            counts,
-            &self.limits,
-        )
-        .is_err()
-        {
+        let (text, statistics, limits) = (&mut self.text, &self.statistics, &self.limits);
+        if put_file(text, &file.listening, statistics, counts, limits).is_err() {
             return Err(io::Error::from(io::ErrorKind::OutOfMemory));
         }
         fs::write(self.rt, file.beside.as_str(), self.text.as_slice())?;

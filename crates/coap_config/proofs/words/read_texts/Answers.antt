@@ -20,5 +20,6 @@ returns c =
       stats_file = last;
       log = numbers.log;
       record_bytes = numbers.record_bytes;
+      receive_buffer = numbers.receive_buffer;
     })
     c.read_text-6.ensures
