@@ -19,6 +19,8 @@ Sample = namedtuple("Sample", "rate cpu p50 p99 resident lost wrong")
 # each request that is forwarded and one for each Non-confirmable answer.
 HITS, MISSES, FILLING = 20_000, 8_000, 4_000
 TICKS = os.sysconf("SC_CLK_TCK")
+# How many processors others may use.
+QUIET = 0.5
 
 
 def rows():
@@ -94,9 +96,8 @@ def measure(bench, subject, row, share):
     lead = subject.lead(row.way, bench, origin)
     try:
         fill(bench, subject, port, lead, row)
-        flood = None
         if row.beside == "flood":
-            flood = bench.start(bench.load(port, 40_000, "flood", 10_000))
+            bench.start(bench.load(port, 40_000, "flood", 10_000))
         count = int((HITS if row.is_hit else MISSES) * share)
         first, resources = (0, row.resources) if row.is_hit else (100_000, count)
         words = bench.load(port, count, row.in_flight, row.kind, first, resources, lead)
@@ -131,8 +132,8 @@ def processors_in_use(seconds=0.2):
 class Figures:
     """All samples, by row and subject, in the order of their rounds, and how busy the machine was beside them."""
 
-    def __init__(self, subjects):
-        self.subjects, self.samples, self.busy = subjects, {}, []
+    def __init__(self, subjects, busy):
+        self.subjects, self.samples, self.busy = subjects, {}, [busy]
 
     def add(self, row, subject, sample):
         self.samples.setdefault((row.name, subject.name), []).append(sample)
@@ -145,16 +146,23 @@ class Figures:
         pairs = zip(self.of(row, name), self.of(row, "echo"))
         return [getattr(it, field) / getattr(echo, field) for it, echo in pairs if getattr(echo, field)]
 
+    def has_wrong(self):
+        """Whether an answer was wrong."""
+        return any(it.wrong for some in self.samples.values() for it in some)
+
+    def beside(self):
+        """How many processors others used, as the median of the rounds."""
+        return median(self.busy)
+
+    def is_steady(self, row):
+        """Whether the echo's own CPU time differed by less than half between rounds."""
+        return spread([it.cpu for it in self.of(row, "echo")]) <= 1.5
+
     def doubts(self):
         """Why the figures may not be believed."""
-        found = []
-        if self.busy and median(self.busy) > 0.5:
-            found.append(f"others used {median(self.busy):.1f} processors beside it (at most 0.5 is quiet)")
-        echoes = [[it.rate for it in some] for (_, name), some in self.samples.items() if name == "echo"]
-        wide = [rates for rates in echoes if spread(rates) > 1.5]
-        if wide:
-            found.append(f"the echo itself differed by more than half between rounds in {len(wide)} rows")
-        return found
+        if self.beside() > QUIET:
+            return [f"others used {self.beside():.1f} processors beside it (at most {QUIET} is quiet)"]
+        return []
 
 
 def median(values):
@@ -168,16 +176,13 @@ def spread(values):
     return max(values) / min(values) if values and min(values) else 1.0
 
 
-def play(bench, subjects, rounds, share, tell, only=""):
-    """Measures all rows in rounds, in which all subjects have their turn; each round begins with another one."""
-    figures = Figures(subjects)
-    chosen = [it for it in rows() if only in it.name]
+def play(bench, figures, chosen, rounds, share, tell):
+    """Measures rows in rounds, in which all subjects have their turn; each round begins with another one."""
     for row in chosen:
-        served = [it for it in subjects if row.way in it.ways]
+        served = [it for it in figures.subjects if row.way in it.ways]
         for number in range(rounds):
             figures.busy.append(processors_in_use())
             turn = number % len(served)
             for subject in served[turn:] + served[:turn]:
                 tell(f"{row.name}: {subject.name}, round {number + 1} of {rounds}")
                 figures.add(row, subject, measure(bench, subject, row, share))
-    return figures, chosen

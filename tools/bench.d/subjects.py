@@ -12,9 +12,9 @@ from testing.coap import CON, EMPTY, GET, URI_PATH, message
 from testing.network import STARTED, end, free_port, udp
 
 HERE = os.path.dirname(os.path.abspath(__file__))
-PROGRAMS = ("load", "origin", "echo", "relay")
-# How long anything that is started serves at most, in seconds.
-LIFE = "120"
+PROGRAMS = ("load", "pace", "origin", "echo", "relay")
+# How long what is started for a measurement serves at most, in seconds.
+LIFE = 120
 # The greatest limits, so that no measurement meets one (docs/coap-proxyd.8, CAPACITY).
 CONFIG = """version = 1
 names = ["proxy.test"]
@@ -30,6 +30,9 @@ nstart = 16
 prefix = "/b"
 origin = "coap://{origin}/"
 """
+# What a program has that isn't told anything but its name, and what it has as installed.
+DEFAULTS = 'version = 2\nnames = ["proxy.test"]\n'
+INSTALLED = os.path.join(os.path.dirname(os.path.dirname(HERE)), "examples", "coap-proxyd.toml")
 
 
 class Broken(Exception):
@@ -94,10 +97,10 @@ class Bench:
                     pass
         raise Broken(f"{process.args[0]} didn't answer")
 
-    def origin(self):
-        """An origin whose answers are fresh for ten minutes. Returns its port."""
+    def origin(self, life=LIFE, max_age=600):
+        """An origin that serves for so many seconds, and whose answers are fresh for so long. Returns its port."""
         port = free_port()
-        process = self.start([self.path("origin"), self.host, port, LIFE, 600])
+        process = self.start([self.path("origin"), self.host, port, life, max_age])
         self.wait_until_ready(process, port, message(CON, GET, 1, b"", [(URI_PATH, b"r1")]))
         return port
 
@@ -121,26 +124,27 @@ class Echo(Subject):
     def __init__(self):
         super().__init__("echo", ("map", "uri"), True)
 
-    def start(self, bench, port, origin):
-        return bench.start([bench.path("echo"), bench.host, port, LIFE])
+    def start(self, bench, port, origin, life):
+        return bench.start([bench.path("echo"), bench.host, port, life])
 
 
 class Relay(Subject):
     def __init__(self):
         super().__init__("relay", ("map", "uri"))
 
-    def start(self, bench, port, origin):
-        return bench.start([bench.path("relay"), bench.host, port, LIFE, bench.host, origin])
+    def start(self, bench, port, origin, life):
+        return bench.start([bench.path("relay"), bench.host, port, life, bench.host, origin])
 
 
 class Ours(Subject):
-    def __init__(self):
-        super().__init__("coap-proxyd", ("map", "uri"))
+    def __init__(self, name="coap-proxyd", config=CONFIG):
+        super().__init__(name, ("map", "uri"))
+        self.config = config
 
-    def start(self, bench, port, origin):
-        config = bench.path("proxy.toml")
+    def start(self, bench, port, origin, life):
+        config = bench.path(f"proxy-{port}.toml")
         with open(config, "w", encoding="utf-8") as file:
-            file.write(CONFIG.format(origin=f"{bench.host}:{origin}"))
+            file.write(self.config.format(origin=f"{bench.host}:{origin}"))
         return bench.start([bench.program, "-A", bench.host, "-p", port, "--config", config])
 
 
@@ -151,14 +155,22 @@ class Libcoap(Subject):
         if self.program is None:
             raise Broken("libcoap's server isn't installed: apt-get install libcoap3-bin")
 
-    def start(self, bench, port, origin):
+    def start(self, bench, port, origin, life):
         return bench.start([self.program, "-A", bench.host, "-p", port, "-P", ",proxy.test"])
 
 
-def serve(bench, subject, origin):
+def with_each_limits():
+    """This proxy with its greatest limits, as installed, and with its defaults."""
+    with open(INSTALLED, encoding="utf-8") as file:
+        installed = file.read().replace("version = 2\n", DEFAULTS, 1)
+    of_limits = (("its greatest limits", CONFIG), ("as installed", installed), ("its defaults", DEFAULTS))
+    return [Ours(f"coap-proxyd, {name}", config) for name, config in of_limits]
+
+
+def serve(bench, subject, origin, life=LIFE):
     """Starts a subject. Returns its process and its port."""
     port = free_port()
-    process = subject.start(bench, port, origin)
+    process = subject.start(bench, port, origin, life)
     asked = message(CON, GET, 1, b"", [(URI_PATH, b"r1")]) if subject.name == "relay" else message(CON, EMPTY, 1)
     bench.wait_until_ready(process, port, asked)
     return process, port

@@ -1,10 +1,8 @@
-"""The suite of tools/conformance and the programs of tools/bench: that the cases are those that the page of RFC 7252
-names, what the output is, that stand-ins are told apart, and that a load finds wrong answers; and tools/compare."""
+"""The suite of tools/conformance: that the cases are those that the page of RFC 7252 names, what the output is, and that
+stand-ins are told apart; and tools/compare."""
 
-import json
 import os
 import shlex
-import shutil
 import subprocess
 import sys
 import tempfile
@@ -274,36 +272,6 @@ def what_cannot_be_tried_is_said():
         expect("how it ends", (2, 1, "Bail out!"), came, "the status", "lines", "how they begin")
 
 
-def compiled(folder, name):
-    """A program of the bench."""
-    compiler = shutil.which("cc")
-    if compiler is None:
-        raise Skipped("there is no C compiler")
-    source = os.path.join(TOOLS, "bench.d", f"{name}.c")
-    subprocess.run([compiler, "-Wall", "-Wextra", "-Werror", "-o", os.path.join(folder, name), source], check=True)
-    return os.path.join(folder, name)
-
-
-def a_load_finds_wrong_answers():
-    """All answers of an origin are right, and none where it is asked for something else."""
-    with tempfile.TemporaryDirectory(prefix="coap-proxyd-test-") as folder:
-        host, port = "127.7.7.7", str(free_port())
-        origin = subprocess.Popen([compiled(folder, "origin"), host, port, "10", "60"])
-        echo_port = str(free_port())
-        echo = subprocess.Popen([compiled(folder, "echo"), host, echo_port, "10"])
-        try:
-            load = [compiled(folder, "load"), host]
-            for place, more, wrong in ((port, ["/b/"], 0), (echo_port, ["/b/", "echo"], 0), (echo_port, ["/b/"], 200)):
-                words = [*load, place, "200", "8", "non", "0", "10", *more]
-                said = json.loads(subprocess.run(words, stdout=subprocess.PIPE, check=True, timeout=60).stdout)
-                came = said["answered"] + said["lost"], said["wrong"] + said["lost"]
-                expect("how many answers are", (200, wrong), came, "right or lost", "wrong or lost")
-        finally:
-            for process in (origin, echo):
-                process.terminate()
-                process.wait()
-
-
 def builds_are_compared(program):
     """Random traffic shows no difference between a program and itself, and one between it and a stand-in that changes
     what a replay writes."""
@@ -325,5 +293,5 @@ def builds_are_compared(program):
 CASES = (
     cases_stand_in_rows, output_is_tap, rows_are_compared, stand_ins_are_told_apart, it_speaks_ipv6,
     a_wrong_stand_in_is_not_kept, a_proxy_that_ends_is_no_pass, what_comes_and_goes_is_told, both_ways_are_played,
-    cases_are_listed, it_runs_alone, what_cannot_be_tried_is_said, a_load_finds_wrong_answers,
+    cases_are_listed, it_runs_alone, what_cannot_be_tried_is_said,
 )

@@ -3,12 +3,12 @@
 import os
 from collections import namedtuple
 
-from testing import accounts, buffers, caching, captures, chosen, clients, configurations, costs, days, deployments
-from testing import documents, draws, endings, faults, firewalls, fleets, forwarding, gateways, hosts, instructions
-from testing import kernels, leaps, libcoap, limits, links, logs, manifests, memory, messages, monitoring, pages
-from testing import parents, periods, pictures, programs, questions, ranges, readings, recordings, refusals, roles
-from testing import routers, script, sends, services, silences, slips, spreads, statistics, suites, tokens, uptimes
-from testing import watching, worked, writes
+from testing import accounts, benches, buffers, caching, captures, chosen, clients, configurations, costs, days
+from testing import deployments, documents, draws, endings, faults, firewalls, fleets, forwarding, gateways, hosts
+from testing import instructions, kernels, leaps, libcoap, limits, links, logs, manifests, memory, messages, monitoring
+from testing import pages, parents, periods, pictures, programs, questions, ranges, readings, recordings, refusals
+from testing import roles, routers, script, sends, services, silences, slips, spreads, statistics, suites, tokens
+from testing import uptimes, watching, worked, writes
 from testing.network import Stage
 from testing.stand_ins import PLAYER, SAID, differences_are_told, must_fail, must_say
 
@@ -238,6 +238,8 @@ def repository_tests(program):
     yield Test("suite builds_are_compared", suites.builds_are_compared, (program,))
     for function in suites.CASES:
         yield Test(f"suite {function.__name__}", function, ())
+    for function in benches.CASES:
+        yield Test(f"bench {function.__name__}", function, ())
     for function in slips.CASES:
         yield Test(f"slip {function.__name__}", function, ())
     for function in roles.CASES:
