@@ -10,6 +10,7 @@ import tempfile
 from concurrent.futures import ThreadPoolExecutor
 
 from testing import programs
+from testing.coap import ACCEPT, ACK, CHANGED, CONTENT, GET, MAX_AGE, NON, PROXY_URI, PUT, message, number_bytes
 from testing.network import Failed, Skipped, expect_between
 
 KINDS = ("miss", "conmiss", "queued", "join", "con", "non", "again", "tick")
@@ -31,12 +32,18 @@ client_con_records = {{}}
 """
 STORED = "coap://10.200.0.1/stored"
 LIFETIME = 247_000
-# What was measured last of the program in bin/, for events of a kind next to so many open exchanges. Once events take
-# less, `tools/instructions --bars bin/coap-proxyd-x86_64` says what to put here; where one takes more for a reason, that
+# How many requests are forwarded in one lifetime where many are: each takes two of 32,768 Message IDs. And when all of
+# them are over, and a Max-Age in seconds that is longer.
+IN_A_LIFETIME, AFTER_ALL, LONG = 15_000, 9 * LIFETIME, 1_000_000
+# What was measured last of the program in bin/, for events of a kind next to so many open exchanges. Three are next to
+# something else: `expiry` is a hit at which one of so many records expires, each of another endpoint, `stored` one
+# among so many stored responses, and `storing` a miss that stores one more. Once events take less,
+# `tools/instructions --bars bin/coap-proxyd-x86_64` says what to put here; where one takes more for a reason, that
 # belongs into the message of the commit.
 MEASURED = {
     ("miss", 1): 19_756, ("miss", 256): 20_044, ("conmiss", 1): 22_266, ("queued", 256): 23_470, ("join", 1): 6121,
     ("join", 15_900): 6631, ("con", 1): 7299, ("non", 1): 6932, ("again", 1): 2179, ("tick", 1): 669,
+    ("expiry", 60_000): 8101, ("stored", 60_000): 7584, ("storing", 60_000): 20_165,
 }
 # How much more may be taken: what a change costs at most of which nobody has to speak. What the kit builds in a folder
 # `out` has another C library, and fewer bodies in place of calls (tools/platforms/compile).
@@ -73,6 +80,17 @@ def content(message_id, token, max_age):
     return (head + bytes([0xD0 + len(age), 0x01]) + age + b"\xff21").hex().upper()
 
 
+def turns(at, client, request, n, answer):
+    """The lines of a replay for the request n that is forwarded, if each before it took two Message IDs and an
+    exchange, and for its answer: a code, options and a payload."""
+    code, options, payload = answer
+    token = (1 + n).to_bytes(8, "big")
+    yield f"{at} 0 {client} {request.hex().upper()}"
+    yield f"{at} 0 tick"
+    yield f"{at} 0 10.200.0.1:5683 {message(ACK, code, 1 + 2 * n & 0xFFFF, token, options, payload).hex().upper()}"
+    yield f"{at} 0 tick"
+
+
 def response(max_age):
     """The lines of a replay that store a response."""
     yield f"0 0 10.250.0.1:40001 {get(False, 65000, STORED)}"
@@ -83,11 +101,38 @@ def response(max_age):
 
 def hits(records, endpoints, expires, many):
     """The lines of a replay: a stored response, and hits until there are so many records, and `many` more."""
-    yield from response(1_000_000)
+    yield from response(LONG)
     step, later = (LIFETIME // records, LIFETIME) if expires else (0, 0)
     for n in range(records + many):
         client = f"10.252.{n % endpoints >> 8}.{n % endpoints & 255}:40001"
         yield f"{n * step if n < records else later + (n - records) * step} 0 {client} {get(True, n, STORED)}"
+
+
+def forwarded(n, at, uri, accept=()):
+    """The lines of a replay for the request n, a Non-confirmable GET, whose answer is stored."""
+    client = f"10.251.{n >> 8 & 255}.{n & 255}:40001"
+    request = message(NON, GET, n & 0xFFFF, b"", [*accept, (PROXY_URI, uri.encode())])
+    yield from turns(at, client, request, n, (CONTENT, [(MAX_AGE, number_bytes(LONG))], b"!"))
+
+
+def stored(entries, is_hit, many):
+    """The lines of a replay: so many stored responses, and when their records have died, `many` Confirmable requests
+    for one of them, or Non-confirmable ones whose answers are stored, too."""
+    for n in range(entries if is_hit else entries + many):
+        yield from forwarded(n, n // IN_A_LIFETIME * LIFETIME if n < entries else AFTER_ALL, f"{STORED}{n:05}")
+    for n in range(many if is_hit else 0):
+        yield f"{AFTER_ALL} 0 10.252.{n >> 8}.{n & 255}:40001 {get(True, n, f'{STORED}{entries - 1:05}')}"
+
+
+def changes(variants, many):
+    """The lines of a replay: so many stored responses of one target, a change of another one, which finds the records
+    of these dead, and `many` changes of the target."""
+    for n in range(variants):
+        accept = [(ACCEPT, number_bytes(n))]
+        yield from forwarded(n, n // IN_A_LIFETIME * LIFETIME, STORED, accept)
+    for n in range(1 + many):
+        request = message(NON, PUT, n, b"", [(PROXY_URI, (STORED if n else f"{STORED}/other").encode())], b"!")
+        yield from turns(AFTER_ALL, f"10.252.0.{n}:40001", request, variants + n, (CHANGED, [], b""))
 
 
 def queued(opened, many):
@@ -116,6 +161,9 @@ def events(kind, opened, many):
     """The lines of a replay: a stored response, `opened` requests that no origin answers, and `many` of the kind."""
     if kind in ("queued", "join"):
         yield from queued(opened, many) if kind == "queued" else joining(opened + many)
+        return
+    if kind in ("expiry", "stored", "storing"):
+        yield from hits(opened, opened, True, many) if kind == "expiry" else stored(opened, kind == "stored", many)
         return
     yield from response(200)
     for n in range(opened):
@@ -208,6 +256,13 @@ def each(program, client_records, lines, many, before=()):
     return (more - less) // many
 
 
+def in_the_middle(program, client_records, lines, many, before=()):
+    """The same next to much that is let go at the end: at some number of events the instructions for that change at
+    once by millions, so the middle one of three differences is taken."""
+    counts = [of_replay(program, client_records, lines(1 + place * many), before) for place in range(4)]
+    return sorted(more - less for less, more in zip(counts, counts[1:]))[1] // many
+
+
 def most(program, kind, opened):
     """How many instructions an event of a kind may take in a program next to so many open exchanges."""
     is_in_out = os.path.basename(os.path.dirname(os.path.realpath(program))) == "out"
@@ -219,7 +274,8 @@ def measured(program):
     with ThreadPoolExecutor(2) as pool:
 
         def number(what):
-            return each(program, 65536, functools.partial(events, *what), FEW)
+            count = in_the_middle if what[0] == "expiry" else each
+            return count(program, 65536, functools.partial(events, *what), FEW)
 
         return dict(zip(MEASURED, pool.map(number, MEASURED)))
 
