@@ -2,6 +2,7 @@
 clients of both families are answered from the address that they asked, with what devices in other networks have."""
 
 import os
+import re
 import shutil
 import socket
 import subprocess
@@ -185,6 +186,15 @@ def expect_nothing_sent_to_many(spread, far):
         client.close()
 
 
+def expect_told_of_connections(spread):
+    """Has tools/spread --check say how many connections the kernel tracks: one for each port of a client at least."""
+    words = spread.inside(sys.executable, SCRIPT, "--check")
+    done = subprocess.run(words, env=spread.settings, stdout=subprocess.PIPE, universal_newlines=True, timeout=60)
+    found = re.search("(?m)^connections: the kernel tracks ([0-9]+) of at most [0-9]+$", done.stdout)
+    least = len(spread.clients)
+    expect("whether all are among what it tracks", True, found is not None and least <= int(found[1]) <= 2 * least)
+
+
 def expect_removed(spread):
     """Has tools/spread remove all that it wrote, and what instances leave: counts, and links to these."""
     counts, exporter = "run/coap-proxyd", "var/lib/prometheus/node-exporter"
@@ -210,6 +220,7 @@ def expect_spread(spread):
         expect("which instances are used", {FIRST + number for number in range(INSTANCES)}, used)
     expect_same_from_other_ports(spread, ports)
     expect_duplicates(spread)
+    expect_told_of_connections(spread)
     return ports
 
 
