@@ -150,7 +150,7 @@ def check_installed(program, prefix):
     config = os.path.join(prefix, "etc", "coap-proxyd.toml")
     words = [*program, "--replay", "--config", config]
     expect("what the program says of it", 0, subprocess.run(words, stdin=subprocess.DEVNULL, timeout=20).returncode)
-    tools = {name: ["--help"] for name in ("fleet", "from-capture", "ladder", "ping", "watch")}
+    tools = {name: ["--help"] for name in ("fleet", "from-capture", "ladder", "ping", "spread", "watch")}
     for name, words in {**tools, "check-config": [config]}.items():
         tool = os.path.join(prefix, "bin", f"coap-proxyd-{name}")
         done = subprocess.run([tool, *words], stdin=subprocess.DEVNULL, capture_output=True, timeout=20)
