@@ -1,5 +1,5 @@
-"""What must hold of the manifests for Kubernetes (examples/kubernetes): kubectl knows all that stands in them, what they
-name is there, and their containers, run as they say, answer where the Service, the probes and Prometheus ask."""
+"""What must hold of the manifests for Kubernetes (examples/kubernetes): kubectl knows all that stands in them, what
+they name is there, and their containers, run as they say, answer where the Service, the probes and Prometheus ask."""
 
 import http.client
 import json
@@ -64,7 +64,7 @@ def dropped(manifest):
 
 
 def kubectl_knows_all_of_it(_):
-    """Has kubectl's types have a place for each value; one in a wrong place shows that it drops what they don't have."""
+    """Has kubectl's types have a place for each value; one in a wrong place shows that it drops what has none."""
     for it in documents():
         expect(f"what kubectl drops of {it['kind']} {it['metadata']['name']}", [], dropped(it))
     for kind, place in (("Service", "/spec/sesionAffinity"), ("Deployment", "/spec/template/spec/volume")):
@@ -161,6 +161,11 @@ class Pod:
                 time.sleep(0.05)
 
 
+def lines_of(name):
+    """The command that makes the namespace of a pod."""
+    yield ("ip", "-n", name, "link", "set", "lo", "up")
+
+
 def expect_pinged(pod, port):
     """Has an Empty message be rejected at a port of the pod."""
     client = socket_in(pod.name, HOST)
@@ -187,7 +192,7 @@ def containers_answer_where_they_are_asked(program):
     """Runs both containers of a pod, and asks what the Service, the probes and Prometheus ask, and the probes once more
     when the proxy ended. Counts come each second in place of each minute."""
     _, _, template = next(pods())
-    with namespaces(1, lambda name: [("ip", "-n", name, "link", "set", "lo", "up")]) as (name,), Stage(program) as stage:
+    with namespaces(1, lines_of) as (name,), Stage(program) as stage:
         pod, (proxy, ping) = Pod(stage, name, template), template["spec"]["containers"]
         running = pod.start(proxy, "--stats", "1")
         pod.start(ping)

@@ -1,5 +1,5 @@
-"""What must hold of the lines for OpenWrt in docs/DEPLOYING: that `uci` takes them as they stand, by its grammar, and that
-together they make a rule of its firewall for the port at which the proxy listens."""
+"""What must hold of the lines for OpenWrt in docs/DEPLOYING: that `uci` takes them as they stand, by its grammar, and
+that together they make a rule of its firewall for the port at which the proxy listens."""
 
 import re
 import shlex
@@ -12,9 +12,9 @@ from testing.script import TOP, read
 SECTION = re.compile(r"([A-Za-z0-9_-]+)\.([A-Za-z0-9_]+)=([!-~]+)")
 OPTION = re.compile(r"([A-Za-z0-9_-]+)\.([A-Za-z0-9_]+)\.([A-Za-z0-9_]+)=([^\0-\x1f]+)")
 # What a rule of the firewall may have.
-OF_RULE = """enabled name family src dest device direction ipset helper set_helper proto src_ip src_mac src_port dest_ip
-dest_port icmp_type limit limit_burst utc_time start_date stop_date start_time stop_time weekdays monthdays mark set_mark
-set_xmark dscp set_dscp counter log log_limit target""".split()
+OF_RULE = """enabled name family src dest device direction ipset helper set_helper proto src_ip src_mac src_port
+dest_ip dest_port icmp_type limit limit_burst utc_time start_date stop_date start_time stop_time weekdays monthdays
+mark set_mark set_xmark dscp set_dscp counter log log_limit target""".split()
 # Lines with a fault, and what is said of them.
 FAULTS = (
     ("uci set firewall.coap.proto='udp'", "firewall.coap isn't a section yet"),
@@ -26,8 +26,8 @@ FAULTS = (
 
 
 def made_by(lines):
-    """The sections that lines make, by their names, each with its type (as the option without a name) and its options; or
-    what is wrong with a line."""
+    """The sections that lines make, by their names, each with its type (as the option without a name) and its options;
+    or what is wrong with a line."""
     sections, changed = {}, set()
     for line in lines:
         for command in line.split(" && "):
