@@ -1,5 +1,5 @@
-"""What must hold of what tools/spread writes: each client has one instance, also for its duplicates, and all are used; and
-clients of both families are answered from the address that they asked, with what devices in other networks have."""
+"""What must hold of what tools/spread writes: each client has one instance, also for its duplicates, and all are used;
+and clients of both families are answered from the address that they asked, with what devices in other networks have."""
 
 import os
 import re
@@ -82,7 +82,7 @@ class Spread:
         places = [word for side in self.sides for word in ("--address", side.asked)]
         words = [sys.executable, SCRIPT, str(INSTANCES), *places, "--config", config, *more]
         subprocess.run(words, env=self.settings, stdout=subprocess.DEVNULL, check=True, timeout=20)
-        if not namespaces.run(*self.inside("nft", "-f", os.path.join(self.stage.folder, "etc/coap-proxyd/spread.nft"))):
+        if not namespaces.run(*self.inside("nft", "-f", self.rules())):
             raise Skipped("this system doesn't load the table of tools/spread")
 
     def start(self, number):
@@ -93,11 +93,20 @@ class Spread:
         words = ["-A", place["ADDRESS"], "-p", place["PORT"], "--config", config, place["OPTIONS"]]
         self.instances[number] = self.stage.start(self.inside(*self.stage.program, *words))
 
-    def check(self):
-        """The status of tools/spread --check, and the instances that it says are there."""
+    def rules(self):
+        """The file with the table."""
+        return os.path.join(self.stage.folder, "etc/coap-proxyd/spread.nft")
+
+    def checked(self):
+        """The status of tools/spread --check, and its lines."""
         words = self.inside(sys.executable, SCRIPT, "--check")
         done = subprocess.run(words, env=self.settings, stdout=subprocess.PIPE, universal_newlines=True, timeout=60)
-        return done.returncode, [line.split(",")[0] for line in done.stdout.splitlines() if line.endswith(": there")]
+        return done.returncode, done.stdout.splitlines()
+
+    def check(self):
+        """The status of tools/spread --check, and the instances that it says are there."""
+        status, lines = self.checked()
+        return status, [line.split(",")[0] for line in lines if line.endswith(": there")]
 
     def start_late(self, numbers):
         """Starts instances while tools/spread --check asks for them, which finds them all the same."""
@@ -188,11 +197,17 @@ def expect_nothing_sent_to_many(spread, far):
 
 def expect_told_of_connections(spread):
     """Has tools/spread --check say how many connections the kernel tracks: one for each port of a client at least."""
-    words = spread.inside(sys.executable, SCRIPT, "--check")
-    done = subprocess.run(words, env=spread.settings, stdout=subprocess.PIPE, universal_newlines=True, timeout=60)
-    found = re.search("(?m)^connections: the kernel tracks ([0-9]+) of at most [0-9]+$", done.stdout)
+    found = re.fullmatch("connections: the kernel tracks ([0-9]+) of at most [0-9]+", spread.checked()[1][-1])
     least = len(spread.clients)
     expect("whether all are among what it tracks", True, found is not None and least <= int(found[1]) <= 2 * least)
+
+
+def expect_flush_told(spread):
+    """Has tools/spread --check say of a table that was flushed by what it is loaded again."""
+    namespaces.run(*spread.inside("nft", "flush", "ruleset"))
+    status, lines = spread.checked()
+    told = [line for line in lines if line.endswith(f": nft -f {spread.rules()}")]
+    expect("what is said of each family's table", (1, len(spread.sides)), (status, len(told)))
 
 
 def expect_removed(spread):
@@ -243,6 +258,7 @@ def serves_both_families(program):
         ports = expect_spread(spread)
         expect("who has which for the other device", ports, spread.ports(3, spread.everyone, device=1))
         expect_nothing_sent_to_many(spread, far)
+        expect_flush_told(spread)
         expect_removed(spread)
 
 
