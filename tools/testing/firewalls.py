@@ -50,7 +50,9 @@ def lines_of(near, far):
         yield ("ip", "-n", far, "addr", "add", f"{address}/24", "dev", "far")
     for address in SIX[1:]:
         yield ("ip", "-n", far, "addr", "add", f"{address}/64", "dev", "far", "nodad")
-    yield ("ip", "-n", far, "route", "add", "local", "198.51.100.0/24", "dev", "lo")
+    for network in ("198.51.100.0/24", "2001:db8:1::/64"):
+        yield ("ip", "-n", far, "route", "add", "local", network, "dev", "lo")
+    yield ("ip", "netns", "exec", far, "sysctl", "-w", "net.ipv6.ip_nonlocal_bind=1")
     for network in ("198.51.100.0/24", "203.0.113.0/24"):
         yield ("ip", "-n", near, "route", "add", network, "via", FOUR.there)
     for network in ("2001:db8:1::/64", "2001:db8:2::/64"):
@@ -192,7 +194,7 @@ def expect_unlisted_silent(site, running):
 
 def holds(program, start, hosts):
     """Has the rules hold for proxies that are started so, at the addresses of a family."""
-    with namespaces(2, lines_of, "nft") as (near, far), Stage(program) as stage:
+    with namespaces(2, lines_of, "nft", "sysctl") as (near, far), Stage(program) as stage:
         site = Site(stage, near, far, hosts)
         running = start(site)
         site.wait(running.ports)
@@ -232,7 +234,7 @@ def answered(site, sockets, count):
     sent = 0
     for number in range(count):
         for client in sockets:
-            client.sendto(message(CON, GET, number, b"\xaa", path("nothing")), (FOUR.here, PORT))
+            client.sendto(message(CON, GET, number, b"\xaa", path("nothing")), (site.hosts.here, PORT))
             sent += 1
             if sent % 100 == 0:
                 site.wait([PORT])
@@ -243,18 +245,18 @@ def answered(site, sockets, count):
     return came
 
 
-def bounds_an_address_and_all_together(program):
+def bounds_an_address_and_all_together(program, hosts, network):
     """Has an address with many ports send no more than one with one, and many addresses no more than they may together,
     while a dashboard is answered."""
-    with namespaces(2, lines_of, "nft") as (near, far), Stage(program) as stage:
-        site = Site(stage, near, far)
-        site.start(FOUR.here, PORT, stage.file("p.toml", "version = 2\n"))
+    with namespaces(2, lines_of, "nft", "sysctl") as (near, far), Stage(program) as stage:
+        site = Site(stage, near, far, hosts)
+        site.start(hosts.here, PORT, stage.file("p.toml", "version = 2\n"))
         site.wait([PORT])
-        ports = [socket_in(far, "198.51.100.200") for _ in range(30)]
+        ports = [socket_in(far, network.format(200)) for _ in range(30)]
         expect_between("how many messages of an address are answered", 10, 14, answered(site, ports, 10))
-        addresses = [socket_in(far, f"198.51.100.{number}") for number in range(1, 151)]
+        addresses = [socket_in(far, network.format(number)) for number in range(1, 151)]
         expect_between("how many of 150 addresses", 480, 600, answered(site, addresses, 10))
-        expect("how many of a dashboard", 200, answered(site, [site.sockets[FOUR.dashboard]], 200))
+        expect("how many of a dashboard", 200, answered(site, [site.sockets[hosts.dashboard]], 200))
         for client in ports + addresses:
             client.close()
 
@@ -271,3 +273,5 @@ def the_tools_know_the_ports(_):
 
 KINDS = [(start, FOUR) for start in (one, spread, spread_of_both, fleet)]
 KINDS += [(start, SIX) for start in (one, spread_of_both, fleet)]
+# Each with a network of clients that the example lists.
+FAMILIES = [(FOUR, "198.51.100.{}"), (SIX, "2001:db8:1::{}")]

@@ -264,7 +264,9 @@ def network_tests(program):
     together = firewalls.bounds_an_address_and_all_together
     if not programs.is_emulated(program[-1]):
         # it counts what so many a second get, of whom an emulated program answers fewer
-        yield Test("firewall bounds_an_address_and_all_together", together, (program,))
+        for family, network in firewalls.FAMILIES:
+            name = f"firewall bounds_an_address_and_all_together at {family.here}"
+            yield Test(name, together, (program, family, network))
     yield Test("firewall the_tools_know_the_ports", play_end, (program, firewalls.the_tools_know_the_ports))
     yield Test("spread gives_each_client_one_instance", spreads.gives_each_client_one_instance, (program,))
     yield Test("spread serves_both_families", spreads.serves_both_families, (program,))
