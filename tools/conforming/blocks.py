@@ -17,7 +17,10 @@ def block(number, more=False, exponent=0):
     return wire.number_bytes(number << 4 | more << 3 | exponent)
 
 
-@case(MUST, "BlocksLost", "BlocksStripped", each={"block 0": 0, "block 1": 1, "block 3": 3})
+@case(
+    MUST, "BlocksLost", "BlocksStripped", also=["CodesLost", "BlockPartsTurned", "BlocksFirst"],
+    each={"block 0": 0, "block 1": 1, "block 3": 3},
+)
 def a_block2_of_a_request_is_served_or_refused(stage, number):
     """It is critical and unsafe to forward: a proxy that doesn't know it gives 4.02; one that does serves the block."""
     resource, client = stage.resource(), stage.client()
@@ -44,7 +47,7 @@ def a_block2_of_a_request_is_served_or_refused(stage, number):
         expect("the block", number * 16, start)
 
 
-@case(MUST, "BlocksLost", each={"the first of two": (0, True), "the last of two": (1, False)})
+@case(MUST, "BlocksLost", also=["CodesLost"], each={"the first of two": (0, True), "the last of two": (1, False)})
 def a_block1_of_a_request_is_served_or_refused(stage, number, more):
     """A part of a body never becomes the body: the origin sees the option, or nothing."""
     resource, client = stage.resource(), stage.client()
@@ -83,7 +86,7 @@ def a_block2_of_a_response_is_returned_or_gives_5_02(stage):
     expect("the payload of a response without Block2", BODY, came.payload)
 
 
-@case(MUST, "BlocksMixed", each={"confirmable": CON, "non-confirmable": NON})
+@case(MUST, "BlocksMixed", also=["BlockPartsTurned"], each={"confirmable": CON, "non-confirmable": NON})
 def a_block_is_not_given_for_another(stage, kind):
     resource, client = stage.resource(), stage.client()
     for number in (0, 1):
@@ -101,7 +104,7 @@ def a_block_is_not_given_for_another(stage, kind):
         expect("the payload of the block", BODY[start : start + 16], came.message.payload[:16])
 
 
-@case(MUST, "SizesRefused", at="RFC 7959, 4", each={"0": b"", "1,000": b"\x03\xe8"})
+@case(MUST, "SizesRefused", also=["CodesLost"], at="RFC 7959, 4", each={"0": b"", "1,000": b"\x03\xe8"})
 def a_size2_is_forwarded_or_known(stage, value):
     """It is elective and Safe-to-Forward: no reason for an error."""
     resource, client = stage.resource(), stage.client()
@@ -110,7 +113,7 @@ def a_size2_is_forwarded_or_known(stage, value):
     client.expect_code(request, CONTENT)
 
 
-@case(MUST, "SizesInKey", at="RFC 7959, 4", needs=("cache",))
+@case(MUST, "SizesInKey", also=["CodesLost"], at="RFC 7959, 4", needs=("cache",))
 def a_size2_gets_the_representation_of_the_resource(stage):
     """It isn't part of the cache key, as its number says, so what is stored answers with it and without it."""
     resource = stage.resource()

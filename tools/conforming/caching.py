@@ -80,7 +80,7 @@ def a_stored_response_answers_for_no_other_origin(stage, what):
     stage.fetch_again(second, b"second")
 
 
-@case(MUST, "KeyIgnoresOptions", at="5.6", needs=("cache",))
+@case(MUST, "KeyIgnoresOptions", also=["PayloadsChanged"], at="5.6", needs=("cache",))
 def a_response_is_given_for_an_equal_request(stage):
     """What is stored for one Accept doesn't become what is given for another one, whichever came last."""
     resource, lives = stage.resource(), {}
@@ -164,7 +164,10 @@ FORWARDED = {
 }
 
 
-@case(MUST, always=["AgesLongerForwarded", "AgesLongerWithoutCache", "AgesOneMore"], at="5.7.1", each=FORWARDED)
+@case(
+    MUST, always=["AgesLongerForwarded", "AgesLongerWithoutCache", "AgesOneMore"], also=["CodesLost"], at="5.7.1",
+    each=FORWARDED,
+)
 def a_forwarded_response_has_no_more_max_age_than_its_origin_gave(stage, method, code, seconds):
     """The Max-Age MUST NOT extend the max-age originally set by the server. No time in a cache has to be taken off
     here; nothing may be put on by a proxy without a cache either."""
@@ -182,7 +185,8 @@ AGES = {
 
 
 @case(
-    MUST, "AgesOfErrorsLonger", "AgesOfErrorsIgnored", always=["AgeIgnored"], at="5.7.1", needs=("cache",), each=AGES
+    MUST, "AgesOfErrorsLonger", "AgesOfErrorsIgnored", always=["AgeIgnored"], also=["CodesLost"], at="5.7.1",
+    needs=("cache",), each=AGES,
 )
 def a_response_from_the_cache_has_no_more_max_age_than_is_left(stage, code, seconds):
     """The generated (or implied) Max-Age MUST NOT extend the max-age originally set by the server, considering the
@@ -225,7 +229,7 @@ def validate(stage, resource, code, options=(), payload=b""):
     return client.response(request).message
 
 
-@case(SHOULD, "TagsNotSent", at="5.6.2", needs=("cache",), each={
+@case(SHOULD, "TagsNotSent", also=["CodesLost"], at="5.6.2", needs=("cache",), each={
     "two bytes": b"\x01\x02", "one zero": b"\x00", "eight bytes": b"abcdefgh",
 })
 def a_request_for_what_is_stale_has_its_etag(stage, tag):
@@ -240,7 +244,7 @@ def a_request_for_what_is_stale_has_its_etag(stage, tag):
     expect("the ETags at the origin", [tag], wire.values_of(asked.message, wire.ETAG))
 
 
-@case(MUST, "ValidTakenWrong", at="5.6.2", needs=("cache",))
+@case(MUST, "ValidTakenWrong", also=["KnownNotReturned", "AgesLongerForwarded"], at="5.6.2", needs=("cache",))
 def a_2_03_selects_what_is_stored(stage):
     resource = stale(stage)
     came = validate(stage, resource, VALID, [TAG, wire.max_age(30)])
@@ -261,7 +265,10 @@ def anything_but_a_2_03_answers_the_request(stage, code):
     expect_response(came, code=code, payload=b"new")
 
 
-@case(MUST, always=["RenewalIgnored"], at="5.9.1.3", needs=("cache",), each={"30": 30, "1,000": 1000, "none": None})
+@case(
+    MUST, always=["RenewalIgnored"], also=["PayloadsChanged", "RenewalShownAlone"], at="5.9.1.3", needs=("cache",),
+    each={"30": 30, "1,000": 1000, "none": None},
+)
 def a_2_03_renews_the_max_age(stage, seconds):
     """The cache MUST update the stored response with the value of the Max-Age option included in it, explicitly or
     implicitly as a default value. Here that is less than the one before, and a change made the response stale."""
@@ -274,7 +281,7 @@ def a_2_03_renews_the_max_age(stage, seconds):
     expect_age(came, seconds)
 
 
-@case(MUST, always=["RenewalIgnored"], at="5.9.1.3", needs=("cache",))
+@case(MUST, always=["RenewalIgnored"], also=["CodesLost"], at="5.9.1.3", needs=("cache",))
 def what_a_2_03_renewed_for_long_stays_fresh(stage):
     """.. also where the new value is more than the one before, so that the response is used when that has passed."""
     resource = stale(stage)
@@ -301,7 +308,7 @@ RENEWED = {
 }
 
 
-@case(MUST, "OptionsNotRenewed", at="5.9.1.3", needs=("cache",), each=RENEWED)
+@case(MUST, "OptionsNotRenewed", also=["PayloadsChanged"], at="5.9.1.3", needs=("cache",), each=RENEWED)
 def a_2_03_renews_the_safe_options(stage, number):
     """For each type of Safe-to-Forward option present in the response, the set of options of this type in the stored
     response MUST be replaced with the one that was received."""
@@ -320,7 +327,7 @@ def a_2_03_leaves_the_options_that_it_does_not_have(stage):
     expect("the options", [[b"\x28"], [b"b"]], [wire.values_of(came, it) for it in (wire.CONTENT_FORMAT, wire.SAFE)])
 
 
-@case(MUST, "ValidWithPayload", "ValidWithoutTag", at="5.9.1.3", needs=("cache",), each={
+@case(MUST, "ValidWithPayload", "ValidWithoutTag", also=["CodesLost"], at="5.9.1.3", needs=("cache",), each={
     "without a tag": "tag", "with a payload": "payload",
 })
 def a_2_03_of_the_cache_is_not(stage, what):

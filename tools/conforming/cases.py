@@ -12,14 +12,15 @@ KEPT_AGAIN, ERROR = "kept at the second time", "error"
 
 # A case: its family's name and the label of its variant, the section, whether it is a MUST or a SHOULD, the function
 # that plays it with its values, the faults of which at least one must be found, those that must all be found, what the
-# proxy must offer, whether it takes longer than a minute, whether it is played while no other is, and the way in which
-# the proxy is asked, if it isn't the first one that it offers.
+# proxy must offer, whether it takes longer than a minute, whether it is played while no other is, the way in which the
+# proxy is asked, if it isn't the first one that it offers, and faults that other expectations of it find.
 Case = namedtuple(
-    "Case", "family label section level function values faults always needs is_long is_alone way", defaults=("",)
+    "Case", "family label section level function values faults always needs is_long is_alone way also",
+    defaults=("", ()),
 )
-# What came of a case, a text that says more: what came, or why it wasn't tried; and the ways in which the proxy was
-# asked.
-Outcome = namedtuple("Outcome", "case result text ways", defaults=("", ()))
+# What came of a case, a text that says more: what came, or why it wasn't tried; the ways in which the proxy was asked;
+# and the lines of the suite at which it wasn't kept.
+Outcome = namedtuple("Outcome", "case result text ways places", defaults=("", (), ()))
 # The ways to ask a proxy for what an origin has, and what is said of them; and what is played in one way alone.
 WAYS = {"forward": "by Proxy-Uri", "scheme": "by Proxy-Scheme", "reverse": "under a prefix"}
 IN_ONE_WAY = {*WAYS, "chain", "libcoap", "any address"}
@@ -45,7 +46,7 @@ def name_of(case):
 def in_other_way(case):
     """A case as it is played under a prefix of a proxy that is asked by URIs, too. The stand-ins that it finds wrong
     are looked for without."""
-    return case._replace(faults=(), always=(), needs=(*case.needs, "reverse", "another way"), way="reverse")
+    return case._replace(faults=(), always=(), also=(), needs=(*case.needs, "reverse", "another way"), way="reverse")
 
 
 def case_list(section):
@@ -53,19 +54,22 @@ def case_list(section):
 
     `each` has a variant for each of its values, or of its labels if it is a dictionary. A tuple is taken apart into
     arguments of the function. `faults` are the stand-ins that it must find wrong: each variant one of them at least,
-    and all that stand in `always`. The function's doc comment is the sentence of the RFC that decides, where the
-    requirement alone doesn't. What doesn't need a certain way is played under a prefix as well, if the proxy can be
-    asked in either way, unless `both` is false."""
+    and all that stand in `always`. `also` are stand-ins that fail at what a case expects beside its requirement. The
+    function's doc comment is the sentence of the RFC that decides, where the requirement alone doesn't. What doesn't
+    need a certain way is played under a prefix as well, if the proxy can be asked in either way, unless `both` is
+    false."""
     cases = []
 
-    def case(level, *faults, always=(), each=None, at=section, needs=(), is_long=False, is_alone=False, both=True):
+    def case(
+        level, *faults, always=(), also=(), each=None, at=section, needs=(), is_long=False, is_alone=False, both=True
+    ):
         def note(function):
             labelled = each if isinstance(each, dict) else {str(value): value for value in each or ()}
             for label, value in labelled.items() if each else [("", ())]:
                 values = value if isinstance(value, tuple) else (value,)
                 cases.append(Case(
                     function.__name__, label, at, level, function, values, (*faults, *always), tuple(always),
-                    tuple(needs), is_long, is_alone,
+                    tuple(needs), is_long, is_alone, "", tuple(also),
                 ))
                 if both and not is_alone and not IN_ONE_WAY & set(needs):
                     cases.append(in_other_way(cases[-1]))

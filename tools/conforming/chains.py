@@ -32,7 +32,7 @@ def uri_of(message):
 WAYS = {f"{way}: {name}": (way, *it) for name, it in URIS.items() for way in ("Proxy-Uri", "Proxy-Scheme")}
 
 
-@case(MUST, "NextIsOrigin", needs=("chain",), each=WAYS)
+@case(MUST, "NextIsOrigin", also=["BodiesChanged", "CodesLost"], needs=("chain",), each=WAYS)
 def a_next_proxy_is_sent_the_uri(stage, way, uri, parts):
     """To another proxy the request names the URI, by a Proxy-Uri or by a Proxy-Scheme beside Uri options."""
     host, port, path, query = parts

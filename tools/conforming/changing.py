@@ -54,7 +54,7 @@ def a_change_whose_response_gives_5_02_makes_stale_too(stage, method, code):
     stage.fetch_again(resource, b"22")
 
 
-@case(MUST, always=["JoinsAfterChange"])
+@case(MUST, always=["JoinsAfterChange"], also=["CodesLost"])
 def a_get_after_a_change_gets_nothing_from_before_it(stage):
     """The response to a GET that was sent before the change is one for the changed resource, and not fresh: who asks
     after the change doesn't get it, even if it comes only then."""
@@ -77,7 +77,7 @@ PAIRS = {
 }
 
 
-@case(MUST, always=["JoinsByTarget"], at="5.6", each=PAIRS)
+@case(MUST, always=["JoinsByTarget"], also=["CodesLost"], at="5.6", each=PAIRS)
 def a_request_gets_no_answer_to_another_under_way(stage, one, other):
     """What two requests may share is a response that could be stored for both: their methods and the options of the
     cache key match."""
@@ -93,7 +93,7 @@ def a_request_gets_no_answer_to_another_under_way(stage, one, other):
     expect_response(late.response(request).message, code=CONTENT, payload=b"second")
 
 
-@case(MUST, always=["RefusedStored"], at="5.7.1")
+@case(MUST, always=["RefusedStored"], also=["PayloadsChanged"], at="5.7.1")
 def what_gave_5_02_is_not_given_later(stage):
     """A response that can't be passed on isn't fit for the next client either, who gets 5.02 again, or what the origin
     answers then."""

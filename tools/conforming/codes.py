@@ -35,7 +35,7 @@ def the_4_05_is_piggybacked(stage, method):
     expect("whether it is in the acknowledgement", True, came.message.kind == ACK)
 
 
-@case(MUST, "UnknownMethodsForwarded", each={"0.08": 8, "0.31": 31})
+@case(MUST, "UnknownMethodsForwarded", also=["CodesLost"], each={"0.08": 8, "0.31": 31})
 def an_unknown_method_is_refused_in_a_non_confirmable_request(stage, method):
     resource, client = stage.resource(), stage.client()
     request = client.request(method, resource.here, kind=NON)
@@ -48,7 +48,10 @@ def an_unknown_method_is_refused_in_a_non_confirmable_request(stage, method):
 OTHERS = {"FETCH": 5, "PATCH": 6, "iPATCH": 7}
 
 
-@case(MUST, always=["OtherMethodsAreGets"], each=OTHERS)
+@case(
+    MUST, always=["OtherMethodsAreGets"], also=["CodesLost", "OtherMethodsWithoutBody", "OtherMethodsLost"],
+    each=OTHERS,
+)
 def a_method_of_rfc_8132_is_forwarded_as_it_is_or_gives_4_05(stage, method):
     """To who doesn't know them they are unrecognised methods. Who does forwards them as what they are."""
     resource, client = stage.resource(), stage.client()
@@ -132,7 +135,7 @@ def a_response_of_the_cache_has_one_etag(stage):
 ALL = {"a 2.04": wire.code("2.04"), "a 4.12": wire.code("4.12")}
 
 
-@case(MUST, "ConditionsLost", at="5.10.8", each=ALL)
+@case(MUST, "ConditionsLost", also=["CodesLost"], at="5.10.8", each=ALL)
 def a_conditional_request_is_decided_by_its_origin(stage, code):
     """If the condition isn't fulfilled the server MUST respond with 4.12: so the proxy passes on condition and code."""
     resource, client = stage.resource(), stage.client()

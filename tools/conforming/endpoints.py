@@ -14,6 +14,8 @@ from testing.network import SO_TIMESTAMPNS, TIMESPEC, udp
 # How long a datagram that must come may take, and how long it is watched that none comes, in seconds. The machine may
 # be loaded.
 PATIENCE, SILENCE = 5.0, 0.5
+# How long a proxy may take to reject a ping before a silence counts, and what it sent may be on its way after that.
+SETTLED, ON_ITS_WAY = 2.0, 0.05
 
 # A message that was sent or came: as a message and as bytes, the other address, and the moment.
 Came = namedtuple("Came", "message data source at")
@@ -44,9 +46,11 @@ def arrival(more):
 
 
 class Endpoint:
-    """A UDP socket. What comes while something else is waited for stays in `came`."""
+    """A UDP socket. What comes while something else is waited for stays in `came`. `settle` waits until the proxy has
+    done what it was sent."""
 
-    def __init__(self, host, port=0):
+    def __init__(self, host, port=0, settle=lambda: None):
+        self.settle = settle
         self.socket = bound(host, port)
         self.socket.setsockopt(socket.SOL_SOCKET, SO_TIMESTAMPNS, 1)
         # Its address as it stands in a URI, and its port.
@@ -113,6 +117,14 @@ class Endpoint:
             elif time.monotonic() >= until:
                 return None
 
+    def find_late(self, wanted, seconds):
+        """The same, on a machine that may keep the proxy waiting: what it sends before it rejects a ping is in time."""
+        it = self.find(wanted, seconds)
+        if it is None:
+            self.settle()
+            it = self.find(wanted, ON_ITS_WAY)
+        return it
+
     def told(self):
         """What came, for a reader."""
         shown = [wire.told(data) for data in self.log[-4:]]
@@ -132,8 +144,8 @@ class Endpoint:
 class Client(Endpoint):
     """A client of the proxy."""
 
-    def __init__(self, host, to):
-        super().__init__(host)
+    def __init__(self, host, to, settle=lambda: None):
+        super().__init__(host, settle=settle)
         self.to = to
 
     def request(self, code, options=(), payload=b"", kind=CON, token=None, message_id=None):
@@ -201,7 +213,7 @@ class Client(Endpoint):
 
     def expect_silence(self, what, seconds=SILENCE):
         """Has no datagram come for a while."""
-        it = self.find(lambda it: True, seconds)
+        it = self.find_late(lambda it: True, seconds)
         if it is not None:
             raise NotKept(f"{what}: silence is right, {wire.told(it.data)} came")
 
@@ -216,8 +228,8 @@ class Origin(Endpoint):
     are rejected. The same request that comes again is passed over, unless each is asked for. What wasn't answered is
     rejected at the end, so that the proxy sends it no more."""
 
-    def __init__(self, host, port=0, mark=None):
-        super().__init__(host, port)
+    def __init__(self, host, port=0, mark=None, settle=lambda: None):
+        super().__init__(host, port, settle)
         self.mark, self.seen, self.open = mark, set(), {}
 
     def poll(self, seconds):
@@ -283,6 +295,9 @@ class Origin(Endpoint):
     def expect_no_request(self, what, seconds=SILENCE):
         """Has no new request come for a while."""
         it = self.new(seconds)
+        if it is None:
+            self.settle()
+            it = self.new(ON_ITS_WAY)
         if it is not None:
             raise NotKept(f"{what}: the origin mustn't be asked, {wire.told(it.data)} came")
 

@@ -57,7 +57,7 @@ def is_not_believed(stage, spoil):
         expect("the code, if the response is an error", wire.code("5.02"), response.code)
 
 
-@case(MUST, "AnyVersion", each=(0, 2, 3))
+@case(MUST, "AnyVersion", also=["VersionsRejected"], each=(0, 2, 3))
 def a_request_of_another_version_is_ignored(stage, version):
     """Messages with unknown version numbers MUST be silently ignored."""
     resource, client = stage.resource(), stage.client()
@@ -97,7 +97,7 @@ def a_request_with_a_long_token_is_rejected(stage, length):
     is_not_served(stage, spoil)
 
 
-@case(MUST, "LongTokensTaken", each=(9, 15))
+@case(MUST, "LongTokensTaken", also=["PayloadsChanged"], each=(9, 15))
 def a_non_confirmable_request_with_a_long_token_is_rejected(stage, length):
     def spoil(data):
         return wire.with_token_length(data[:4] + (b"12345678abcdefg"[:length]) + data[8:], length)
@@ -143,7 +143,10 @@ def a_request_that_ends_within_an_option_is_rejected(stage, raw):
     is_not_served(stage, lambda data: data + raw)
 
 
-@case(MUST, "CutOptionsTaken", at="3.1", each={key: CUT[key] for key in ("a value cut", "a delta's byte lost")})
+@case(
+    MUST, "CutOptionsTaken", also=["CodesLost"], at="3.1",
+    each={key: CUT[key] for key in ("a value cut", "a delta's byte lost")},
+)
 def a_response_that_ends_within_an_option_is_not_believed(stage, raw):
     is_not_believed(stage, lambda data: data + raw)
 
@@ -168,7 +171,7 @@ AMONG = {
 }
 
 
-@case(MUST, "OptionsMisplaced", at="3.1", each=AMONG)
+@case(MUST, "OptionsMisplaced", also=["CodesLost"], at="3.1", each=AMONG)
 def options_are_forwarded_in_their_order(stage, options):
     """The option numbers are what a reader adds the deltas to: one that is out of order is read as another one."""
     resource, client = stage.resource("a", query=["q"]), stage.client()
@@ -180,7 +183,7 @@ def options_are_forwarded_in_their_order(stage, options):
     client.expect_code(request, wire.code("2.04"))
 
 
-@case(MUST, "RepeatedTurned", at="3.1", each=("request", "response"))
+@case(MUST, "RepeatedTurned", also=["CodesLost"], at="3.1", each=("request", "response"))
 def options_of_one_number_keep_their_order(stage, which):
     resource, client = stage.resource("c", "a", "b", query=["z", "y"]), stage.client()
     request = client.request(POST, resource.here, b"x")
@@ -197,7 +200,7 @@ def options_of_one_number_keep_their_order(stage, which):
 LENGTHS = (0, 1, 12, 13, 14, 268, 269, 270)
 
 
-@case(MUST, "LengthsMiscounted", at="3.1", each=LENGTHS)
+@case(MUST, "LengthsMiscounted", also=["CodesLost", "SafeNotReturned"], at="3.1", each=LENGTHS)
 def values_of_each_length_are_forwarded(stage, length):
     """The lengths 12, 13, 268 and 269 are those at which the encoding changes."""
     resource, client = stage.resource(), stage.client()
@@ -214,7 +217,7 @@ def values_of_each_length_are_forwarded(stage, length):
 PAYLOADS = {"one byte": b"x", "a marker": b"\xff", "a zero": b"\x00", "1,024 bytes": bytes(range(256)) * 4}
 
 
-@case(MUST, "PayloadTrimmed", each=PAYLOADS)
+@case(MUST, "PayloadTrimmed", also=["CodesLost"], each=PAYLOADS)
 def payloads_are_forwarded_byte_for_byte(stage, payload):
     resource, client = stage.resource(), stage.client()
     request = client.request(POST, resource.here, payload)

@@ -10,7 +10,7 @@ CONTENT, BAD_OPTION, BAD_GATEWAY = wire.code("2.05"), wire.code("4.02"), wire.co
 OBSERVES = {"0": b"", "1": b"\x01"}
 
 
-@case(MUST, "ObserveInvented", each=OBSERVES)
+@case(MUST, "ObserveInvented", also=["CodesLost", "PayloadsChanged", "ErrorsLost"], each=OBSERVES)
 def an_observe_is_served_or_refused(stage, value):
     """If the server is unwilling or unable to add an observer, the request falls back to a normal GET, and the response
     doesn't include the option. To who doesn't know it, it is unsafe to forward: 4.02 (RFC 7252, 5.7.1)."""
@@ -28,7 +28,7 @@ def an_observe_is_served_or_refused(stage, value):
         expect("how many Observe the response has", 0, len(wire.values_of(came, OBSERVE)))
 
 
-@case(MUST, "ObserveReturned")
+@case(MUST, "ObserveReturned", also=["CodesLost"])
 def an_observe_of_a_response_is_not_returned_unasked(stage):
     """The option in a response says that it is a notification, which a client that didn't register doesn't get. A proxy
     that doesn't know it gives 5.02 (RFC 7252, 5.7.1)."""
@@ -38,7 +38,7 @@ def an_observe_of_a_response_is_not_returned_unasked(stage):
         expect("how many Observe the response has", 0, len(wire.values_of(came, OBSERVE)))
 
 
-@case(MUST, "ObserveReturned", needs=("cache",))
+@case(MUST, "ObserveReturned", also=["PayloadsChanged"], needs=("cache",))
 def an_observe_is_not_returned_from_the_cache(stage):
     resource = stage.resource()
     client = stage.client()
@@ -53,7 +53,7 @@ def an_observe_is_not_returned_from_the_cache(stage):
     expect("how many Observe the response has", 0, len(wire.values_of(came, OBSERVE)))
 
 
-@case(MUST, "KeyHasObserve", needs=("cache",))
+@case(MUST, "KeyHasObserve", also=["PayloadsChanged"], needs=("cache",))
 def an_observe_gets_the_representation_of_the_resource(stage):
     """The option isn't part of the cache key. So what a GET with it gets is what a GET without it gets."""
     resource = stage.resource()
@@ -70,9 +70,12 @@ def an_observe_gets_the_representation_of_the_resource(stage):
         expect("the payload", b"21", came.payload)
 
 
-@case(MUST, "StrayResponsesAcknowledged", always=["RejectsBySilence"], at="RFC 7641, 3.6", each={
-    "of the same token": 0, "of another token": 1,
-})
+@case(
+    MUST, "StrayResponsesAcknowledged", always=["RejectsBySilence"],
+    also=["NotificationsPassed"], at="RFC 7641, 3.6", each={
+        "of the same token": 0, "of another token": 1,
+    },
+)
 def an_unexpected_notification_is_rejected(stage, change):
     """A client that isn't interested rejects a notification by a Reset, and doesn't acknowledge it. So does 4.2 of RFC
     7252 with any Confirmable message that the recipient lacks context to process."""

@@ -117,7 +117,7 @@ def a_max_age_that_stands_twice_in_a_response_gives_5_02(stage):
 SENT_ONCE = {"Max-Age": wire.MAX_AGE, "ETag": wire.ETAG, "Content-Format": wire.CONTENT_FORMAT}
 
 
-@case(MUST, "OptionsDoubled", at="5.4.5", each=SENT_ONCE)
+@case(MUST, "OptionsDoubled", also=["CodesLost"], at="5.4.5", each=SENT_ONCE)
 def an_option_is_sent_as_often_as_it_may_occur(stage, number):
     """An option that is not repeatable MUST NOT be included more than once."""
     resource = stage.resource()
@@ -163,7 +163,7 @@ def a_max_age_of_60_is_not_sent(stage):
 GETS = {"GET": (GET, CONTENT), "DELETE": (4, wire.code("2.02"))}
 
 
-@case(MUST, "PayloadsKept", at="5.5", each=GETS)
+@case(MUST, "PayloadsKept", also=["CodesLost"], at="5.5", each=GETS)
 def a_payload_without_a_meaning_is_not_forwarded(stage, method, code):
     """If the Method or Response Code isn't defined to have a payload, then a sender MUST NOT include one, and the
     recipient MUST ignore it."""

@@ -10,6 +10,7 @@ from conforming.cases import (
     ENDED, ERROR, KEPT, KEPT_AGAIN, NOT_KEPT, NOT_OFFERED, NOT_SEEN, WAYS, Broken, NotKept, NotOffered, Outcome,
     name_of,
 )
+from conforming.expectations import places
 from conforming.running import Proxy
 from conforming.stage import Stage
 
@@ -37,28 +38,28 @@ def missing(case, offers):
 def try_case(proxy, case, scale):
     """What comes of a case, and the ways in which the proxy was asked."""
     stage = Stage(proxy, scale, case.way)
-    result, text = play_on(stage, case)
-    return Outcome(case, result, text, tuple(it for it in WAYS if it in (stage.ways or case.needs)))
+    result, text, where = play_on(stage, case)
+    return Outcome(case, result, text, tuple(it for it in WAYS if it in (stage.ways or case.needs)), where)
 
 
 def play_on(stage, case):
-    """What comes of a case on a stage: the result, and a text."""
+    """What comes of a case on a stage: the result, a text, and the lines at which it isn't kept."""
     try:
         with stage:
             case.function(stage, *case.values)
-    except NotKept as text:
-        return NOT_KEPT, str(text)
+    except NotKept as error:
+        return NOT_KEPT, str(error), places(error)
     except NotOffered as text:
-        return NOT_OFFERED, str(text)
+        return NOT_OFFERED, str(text), ()
     except Broken as text:
-        return NOT_SEEN, str(text)
+        return NOT_SEEN, str(text), ()
     except OSError as error:
-        return ERROR, f"the system refused it: {error}"
+        return ERROR, f"the system refused it: {error}", ()
     except Exception as error:
         line = traceback.extract_tb(error.__traceback__)[-1]
         where = f"{os.path.basename(line.filename)}, line {line.lineno}"
-        return ERROR, f"a fault of the suite: {type(error).__name__}: {error} ({where})"
-    return KEPT, ""
+        return ERROR, f"a fault of the suite: {type(error).__name__}: {error} ({where})", ()
+    return KEPT, "", ()
 
 
 class Play:

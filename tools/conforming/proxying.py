@@ -33,7 +33,7 @@ def a_request_is_forwarded_by_its_proxy_uri(stage, method, kind):
     forwarded(stage, stage.resource("a", "b", query=["c", "d=e"]), method, kind)
 
 
-@case(MUST, "PathLost", "CodesLost", at="5.7.2", needs=("scheme",), each=BOTH)
+@case(MUST, "PathLost", "CodesLost", also=["BodiesChanged"], at="5.7.2", needs=("scheme",), each=BOTH)
 def a_request_is_forwarded_by_its_proxy_scheme(stage, method, kind):
     """A Proxy-Scheme beside Uri options stands for the URI that they compose (5.10.2), and isn't sent to an origin."""
     forwarded(stage, stage.resource("a", "b", query=["c", "d=e"], way="scheme"), method, kind)
@@ -87,7 +87,7 @@ SAFE = {
 }
 
 
-@case(MUST, "SafeLost", each={name: tuple(options) for name, options in SAFE.items()})
+@case(MUST, "SafeLost", also=["CodesLost"], each={name: tuple(options) for name, options in SAFE.items()})
 def an_unrecognised_safe_option_of_a_request_is_forwarded(stage, *options):
     """Unrecognized options of class Safe-to-Forward MUST be forwarded."""
     resource, client = stage.resource(), stage.client()
@@ -135,7 +135,7 @@ def an_unsafe_option_of_a_separate_response_gives_5_02(stage, kind):
     client.expect_code(request, BAD_GATEWAY)
 
 
-@case(MUST, "SafeNotReturned", each={name: tuple(options) for name, options in SAFE.items()})
+@case(MUST, "SafeNotReturned", also=["CodesLost"], each={name: tuple(options) for name, options in SAFE.items()})
 def an_unrecognised_safe_option_of_a_response_is_forwarded(stage, *options):
     """Unrecognized options of class Safe-to-Forward in a response MUST be forwarded."""
     came = stage.fetch(stage.resource(), list(options)).message
@@ -156,7 +156,10 @@ TO_ORIGIN = {
 }
 
 
-@case(MUST, "KnownLost", at="5.7.1", each={name: tuple(options) for name, options in TO_ORIGIN.items()})
+@case(
+    MUST, "KnownLost", also=["CodesLost"], at="5.7.1",
+    each={name: tuple(options) for name, options in TO_ORIGIN.items()},
+)
 def a_safe_option_reaches_the_origin(stage, *options):
     """These are Safe-to-Forward (table 4), so that a proxy need not know them."""
     resource, client = stage.resource(), stage.client()
@@ -179,7 +182,7 @@ TO_CLIENT = {
 }
 
 
-@case(MUST, "KnownNotReturned", "TagsAreNumbers", at="5.7.1", each=TO_CLIENT)
+@case(MUST, "KnownNotReturned", "TagsAreNumbers", also=["CodesLost"], at="5.7.1", each=TO_CLIENT)
 def a_safe_option_reaches_the_client(stage, code, option):
     """These are Safe-to-Forward, and an ETag is an opaque sequence of bytes (5.10.6)."""
     method = GET if code == CONTENT else POST
@@ -198,7 +201,7 @@ def a_response_code_reaches_the_client(stage, code):
     expect_response(came, code=wire.code(code), payload=b"why")
 
 
-@case(MUST, "ResetsWaitedFor")
+@case(MUST, "ResetsWaitedFor", also=["ResetsAreNotFound"])
 def a_request_that_is_rejected_gives_an_error(stage):
     """A Reset says that the request wasn't processed (4.2): there will be no response, and what the proxy was asked
     for failed. Which error of the server tells so is left open."""
@@ -232,7 +235,10 @@ def a_response_with_a_format_error_gives_5_02(stage, raw):
     client.expect_code(request, BAD_GATEWAY, seconds=stage.seconds(110) + 1)
 
 
-@case(MUST, "PiggybackedIgnored", at="5.7.1", each={"4.04": wire.code("4.04"), "5.03": wire.code("5.03")})
+@case(
+    MUST, "PiggybackedIgnored", also=["CodesLost"], at="5.7.1",
+    each={"4.04": wire.code("4.04"), "5.03": wire.code("5.03")},
+)
 def an_error_of_the_origin_is_returned_with_its_options(stage, code):
     options = [(wire.SAFE, b"x")]
     came = stage.fetch(stage.resource(), [*options, wire.max_age(30)], b"why", code).message
@@ -244,7 +250,7 @@ def an_error_of_the_origin_is_returned_with_its_options(stage, code):
 SCHEMES = ("nosuchscheme", "x-none", "mailto")
 
 
-@case(MUST, "SchemesIgnored", at="5.10.2", needs=("forward",), each=SCHEMES)
+@case(MUST, "SchemesIgnored", also=["CodesLost"], at="5.10.2", needs=("forward",), each=SCHEMES)
 def a_proxy_uri_of_a_scheme_that_is_not_served_gives_5_05(stage, scheme):
     """An endpoint receiving a request with a Proxy-Uri Option that is unable or unwilling to act as a forward-proxy for
     the request MUST cause the return of a 5.05 (Proxying Not Supported) response."""
@@ -255,7 +261,7 @@ def a_proxy_uri_of_a_scheme_that_is_not_served_gives_5_05(stage, scheme):
     client.expect_code(request, wire.code("5.05"))
 
 
-@case(MUST, "SchemesIgnored", at="5.10.2", needs=("scheme",), each=SCHEMES)
+@case(MUST, "SchemesIgnored", also=["CodesLost"], at="5.10.2", needs=("scheme",), each=SCHEMES)
 def a_proxy_scheme_that_is_not_served_gives_5_05(stage, scheme):
     resource, client = stage.resource(way="scheme"), stage.client()
     options = [it for it in resource.here if it[0] != wire.PROXY_SCHEME]

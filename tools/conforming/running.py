@@ -55,7 +55,9 @@ def loopback(is_v6):
 
 
 class Proxy:
-    """A proxy, and what it offers."""
+    """A proxy, and what it offers. It may take `ready` seconds until it answers after its start."""
+
+    ready = READY
 
     def __init__(self, setup, scale=1.0, offers=()):
         self.setup, self.scale, self.offers = setup, scale, set(offers)
@@ -164,9 +166,9 @@ class Proxy:
         finally:
             client.close()
 
-    def wait_until_ready(self, process, address, seconds=READY):
+    def wait_until_ready(self, process, address, seconds=None):
         """Waits until a proxy rejects an Empty message, or answers a request."""
-        client, until = Client(self.client_host, address), time.monotonic() + seconds
+        client, until = Client(self.client_host, address), time.monotonic() + (seconds or self.ready)
         while time.monotonic() < until:
             if process is not None and process.poll() is not None:
                 break

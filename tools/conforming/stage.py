@@ -6,7 +6,7 @@ import time
 
 from conforming import wire
 from conforming.cases import WAYS, NotKept, NotOffered, expect
-from conforming.endpoints import PATIENCE, Client, Origin
+from conforming.endpoints import PATIENCE, SETTLED, Client, Origin
 from conforming.wire import CON, GET, PROXY_SCHEME, PROXY_URI, URI_HOST, URI_PATH, URI_PORT, URI_QUERY
 
 CONTENT = wire.code("2.05")
@@ -98,13 +98,25 @@ class Stage:
 
     def client(self, to=None):
         """A new client of the proxy."""
-        client = Client(self.proxy.client_host, to or self.proxy.address)
+        client = Client(self.proxy.client_host, to or self.proxy.address, self.settle)
         self.endpoints.append(client)
         return client
 
+    def settle(self):
+        """Waits until the proxy has rejected a ping, and so has done what it was sent before that, or for a while."""
+        client = Client(self.proxy.client_host, self.proxy.address)
+        ping = wire.message(CON, wire.EMPTY, client.new_id())
+        try:
+            client.send_raw(ping)
+            client.find(lambda it: it.data[2:4] == ping[2:4], SETTLED)
+        except NotKept:
+            pass
+        finally:
+            client.close()
+
     def origin(self, host=None, port=0):
         """A new origin, at an address that hardly any other case has."""
-        origin = Origin(host or self.host, port)
+        origin = Origin(host or self.host, port, settle=self.settle)
         self.endpoints.append(origin)
         return origin
 
@@ -138,7 +150,7 @@ class Stage:
         if not self.leases:
             self.leases.append(self.proxy.lease())
             lease = self.leases[0]
-            lease.endpoint = Origin(lease.host, lease.port, self.mark)
+            lease.endpoint = Origin(lease.host, lease.port, self.mark, self.settle)
             self.endpoints.append(lease.endpoint)
         lease = self.leases[0]
         return Resource(lease.endpoint, lease.base, segments, query, by_prefix(lease.prefix))

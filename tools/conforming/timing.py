@@ -13,7 +13,7 @@ LATE, EARLY = 0.6, 0.02
 
 def again(stage, endpoint, first, longest):
     """A message that comes again within so many seconds of the RFC, or None."""
-    return endpoint.find(lambda it: it.data[2:4] == first.data[2:4], stage.seconds(longest) + LATE)
+    return endpoint.find_late(lambda it: it.data[2:4] == first.data[2:4], stage.seconds(longest) + LATE)
 
 
 def ask(stage, kind=CON):
@@ -25,7 +25,7 @@ def ask(stage, kind=CON):
     return resource, client, request, asked
 
 
-@case(MUST, "SendsOnce", "SendsAgainSoon")
+@case(MUST, "SendsOnce", "SendsAgainSoon", also=["CodesLost"])
 def a_request_that_is_not_acknowledged_is_sent_again(stage):
     """For a new Confirmable message, the initial timeout is set to a random duration between ACK_TIMEOUT and
     ACK_TIMEOUT * ACK_RANDOM_FACTOR."""
@@ -54,7 +54,7 @@ def a_retransmission_is_the_same_message(stage, what):
         expect("where it came from", asked.source, second.source)
 
 
-@case(MUST, "TimeoutsConstant")
+@case(MUST, "TimeoutsConstant", also=["SendsTwice", "TimeoutsLong"])
 def a_timeout_is_doubled(stage):
     """When the timeout is triggered and the counter is less than MAX_RETRANSMIT, the timeout is doubled."""
     resource, _, _, asked = ask(stage)
@@ -99,7 +99,7 @@ def first_timeouts_are_random(stage):
         raise NotKept(f"eight of them lie within {spread:.3f} s")
 
 
-@case(MUST, "SendsFourTimes", "SendsSixTimes", is_long=True)
+@case(MUST, "SendsFourTimes", "SendsSixTimes", also=["TimeoutsConstant"], is_long=True)
 def a_request_is_sent_five_times(stage):
     """MAX_RETRANSMIT is 4: the message is sent once, and then up to four times again."""
     stage.is_silent = True
@@ -132,7 +132,7 @@ def a_request_that_is_only_acknowledged_gives_5_04(stage):
 # Answers in messages of their own
 
 
-@case(MUST, "AnswersOnce", "AnswersAgainSoon")
+@case(MUST, "AnswersOnce", "AnswersAgainSoon", also=["AnswersAgainChanged"])
 def an_answer_that_is_not_acknowledged_is_sent_again(stage):
     resource, client = stage.resource(), stage.client()
     answer = separate_answer(stage, resource, client)
@@ -159,7 +159,7 @@ def an_answer_is_not_sent_again_after(stage, kind):
 FILLED = {"a code": (CONTENT, b"", b""), "a code and a payload": (CONTENT, b"\x01", b"x"), "a request": (GET, b"", b"")}
 
 
-@case(MUST, "FilledAcksIgnored", at="5.2.2", each=FILLED)
+@case(MUST, "FilledAcksIgnored", also=["AnswersNothing"], at="5.2.2", each=FILLED)
 def an_answer_is_ended_by_an_acknowledgement_with(stage, code, token, payload):
     """.. on any matching Acknowledgement (silently ignoring any Response Code or payload) or Reset. Of one with a
     request that is arguable: the sentence names response codes and payloads, and 4.2 has such an Acknowledgement be

@@ -80,7 +80,7 @@ def a_uri_is_decomposed_into_options(stage, text, segments, queries):
     decomposed(stage, uri, list(segments), list(queries), origin)
 
 
-@case(MUST, "CaseSensitive", needs=("forward",), each=("COAP", "Coap"))
+@case(MUST, "CaseSensitive", also=["CodesLost"], needs=("forward",), each=("COAP", "Coap"))
 def a_scheme_is_read_in_any_case(stage, scheme):
     """Schemes are case-insensitive (RFC 3986, 3.1)."""
     origin = stage.origin()
@@ -96,7 +96,7 @@ def a_uri_without_a_port_means_5683(stage, port):
     decomposed(stage, uri, [], [], origin)
 
 
-@case(MUST, "PathLost", "UriLost", needs=("forward",), each={"nothing": "", "a slash": "/"})
+@case(MUST, "PathLost", "UriLost", also=["QueriesLost"], needs=("forward",), each={"nothing": "", "a slash": "/"})
 def a_uri_without_a_path_has_no_uri_path(stage, text):
     """If the value of the path component is empty or consists of a single slash, no Uri-Path is included."""
     origin, client = stage.origin(), stage.client()
@@ -141,7 +141,7 @@ TOO_LONG = {
 }
 
 
-@case(MUST, always=["LongPartsSent"], needs=("forward",), each=TOO_LONG)
+@case(MUST, always=["LongPartsSent"], also=["AnswersNothing"], needs=("forward",), each=TOO_LONG)
 def a_uri_that_no_options_can_have_gives_an_error(stage, text):
     """A Uri-Path and a Uri-Query have at most 255 bytes (5.10, table 4); one that is longer is unrecognised by whoever
     gets it (5.4.3). So such a URI can't be asked for, and least of all a part of it."""
@@ -171,7 +171,7 @@ def named(stage, origin, form=str, is_uri=True):
     return [*place, *path, (wire.PROXY_SCHEME, b"coap")]
 
 
-@case(MUST, "NamesLost", "NamesAsTheyStand", needs=("forward", "host"), each=NAMES)
+@case(MUST, "NamesLost", "NamesAsTheyStand", also=["CodesLost"], needs=("forward", "host"), each=NAMES)
 def the_name_of_a_host_reaches_its_origin(stage, form, is_uri):
     """If the host isn't the address that the request is sent to, a Uri-Host is included: the host in lower case, and
     then with its percent-encodings decoded."""
@@ -184,7 +184,7 @@ def the_name_of_a_host_reaches_its_origin(stage, form, is_uri):
     client.expect_code(request, wire.code("2.05"))
 
 
-@case(MUST, always=["NamesAreAddresses"], at="5.6", needs=("forward", "host", "cache"))
+@case(MUST, always=["NamesAreAddresses"], also=["PayloadsChanged"], at="5.6", needs=("forward", "host", "cache"))
 def a_name_and_its_address_are_two_resources(stage):
     """The Uri-Host is in the cache key: an origin may have something else under each of its names."""
     name, address = stage.proxy.known
@@ -214,7 +214,7 @@ NOT_BY_3986 = {
 }
 
 
-@case(MUST, "SloppyUris", needs=("forward",), each=NOT_BY_3986)
+@case(MUST, "SloppyUris", also=["AnswersNothing"], needs=("forward",), each=NOT_BY_3986)
 def a_uri_is_read_by_rfc_3986(stage, form):
     """The string is resolved by the process of RFC 3986, whose grammar has none of these characters."""
     origin, client = stage.origin(), stage.client()
@@ -246,7 +246,7 @@ def a_uri_of_options_has_the_same_options_at_the_origin(stage, *segments):
     is_same(stage, stage.resource(*segments, way="scheme"))
 
 
-@case(MUST, *COMPOSE_FAULTS, at="6.5", needs=("reverse",), each=ODD)
+@case(MUST, *COMPOSE_FAULTS, also=["CodesLost"], at="6.5", needs=("reverse",), each=ODD)
 def a_path_under_a_prefix_has_the_same_options_at_the_origin(stage, *segments):
     is_same(stage, stage.resource(*segments, way="reverse"))
 

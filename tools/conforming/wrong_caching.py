@@ -258,3 +258,14 @@ class JoinsByTarget(Proxy):
 class JoinsAfterChange(Proxy):
     def joined(self, target, key):
         return next((it for it in self.exchanges.values() if it.key == key), None)
+
+
+class RenewalShownAlone(Proxy):
+    """Gives what a 2.03 renewed with its new Max-Age, and from then on with the one before."""
+
+    def on_valid(self, exchange, options):
+        before = exchange.validated.options if exchange.validated else []
+        code, shown, payload, entry = super().on_valid(exchange, options)
+        if entry is not None:
+            entry.options = before
+        return code, shown, payload, entry

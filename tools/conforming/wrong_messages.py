@@ -307,3 +307,50 @@ class EndsAmongMany(Proxy):
         super().forward(waiter, target, key, validated)
         if len(self.exchanges) > 7:
             os._exit(1)
+
+
+class VersionsRejected(Proxy):
+    def receive(self, sock, data, source):
+        if not self.is_of_version(data):
+            self.reject(sock, data, source)
+        super().receive(sock, data, source)
+
+
+class AcknowledgesNothing(Proxy):
+    """Sends clients no acknowledgement, nor what would be in one."""
+
+    def send(self, sock, data, to):
+        if sock is not self.front or data[0] >> 4 & 3 != ACK:
+            super().send(sock, data, to)
+
+
+class DuplicatesAcknowledgedAlone(Proxy):
+    """Acknowledges a request that comes again, without the response that was in the first acknowledgement, for which it
+    waits long."""
+
+    waits = 3
+
+    def on_duplicate(self, sock, it, source, record):
+        record.reply = None
+        super().on_duplicate(sock, it, source, record)
+
+
+class NonDuplicatesRejected(Proxy):
+    def on_duplicate(self, sock, it, source, record):
+        super().on_duplicate(sock, it, source, record)
+        if it.kind == NON:
+            self.send(sock, message(RST, EMPTY, it.message_id), source)
+
+
+class SeparateAnsweredTwice(Proxy):
+    """Acknowledges a response that comes again, and answers the client again."""
+
+    def on_answer(self, exchange, it):
+        self.last = exchange.waiters[0], it
+        super().on_answer(exchange, it)
+
+    def on_duplicate(self, sock, it, source, record):
+        super().on_duplicate(sock, it, source, record)
+        if sock is self.back:
+            waiter, answer = self.last
+            self.respond(waiter, answer.code, answer.options, answer.payload)

@@ -1,6 +1,7 @@
 """Stand-ins that are wrong in one respect of proxying: what goes on and comes back, codes, Observe and blocks."""
 
-from conforming.model import NOT_FOUND, Proxy
+from conforming import wire
+from conforming.model import NOT_FOUND, Plain, Proxy
 from conforming.model_options import REQUEST_LENGTHS
 from conforming.wire import BLOCK1, BLOCK2, ETAG, GET, OBSERVE, SIZE2, URI_PATH, URI_QUERY
 
@@ -192,3 +193,53 @@ class SizesRefused(Proxy):
 class SizesInKey(Proxy):
     def is_in_key(self, number):
         return number == SIZE2 or super().is_in_key(number)
+
+
+class BlockPartsTurned(BlocksMixed):
+    """Knows Block2, and returns parts from their end to their beginning."""
+
+    def answer_bytes(self, *parts):
+        return super().answer_bytes(*parts[:-1], parts[-1][::-1])
+
+
+class BlocksFirst(BlocksMixed):
+    """Asks for the first block, whichever was asked for."""
+
+    def carried(self, options):
+        return [(number, b"" if number == BLOCK2 else value) for number, value in super().carried(options)]
+
+
+class AsksNothing(Proxy):
+    """Answers each request that it should forward by 5.04."""
+
+    def forward(self, waiter, target, key, validated):
+        self.error(waiter, wire.code("5.04"))
+
+
+class ErrorsLost(Plain):
+    """Returns another error of the same class."""
+
+    def answer_bytes(self, kind, code, *rest):
+        return super().answer_bytes(kind, code ^ 1 if wire.is_error(code) else code, *rest)
+
+
+class OtherMethodsWithoutBody(Proxy):
+    """Forwards FETCH, PATCH and iPATCH without what they have to say."""
+
+    def is_known_method(self, code):
+        return super().is_known_method(code) or code in (5, 6, 7)
+
+
+class OtherMethodsLost(OtherMethodsWithoutBody):
+    """Forwards them whole, and returns another code."""
+
+    def payload_of(self, request):
+        return request.payload
+
+    def answer_bytes(self, kind, code, *rest):
+        return super().answer_bytes(kind, code ^ 1, *rest)
+
+
+class ResetsAreNotFound(Proxy):
+    def on_reset(self, exchange):
+        self.fail(exchange, NOT_FOUND)

@@ -5,6 +5,7 @@ import time
 from conforming import wire
 from conforming.model import Proxy, Separate
 from conforming.wire import ACK, CON, NON
+from testing.coap import message
 from testing.network import udp
 
 
@@ -31,6 +32,27 @@ class PiggybackedIgnored(Proxy):
 class SeparateUnacknowledged(Proxy):
     def acknowledge_response(self, sock, it, source, record):
         pass
+
+
+class AnswersNothing(Proxy):
+    """Acknowledges requests, and answers none."""
+
+    def respond(self, waiter, code, options, payload):
+        self.acknowledge_soon(waiter)
+
+
+class PayloadsChanged(Proxy):
+    """Returns a byte more than a response has."""
+
+    def answer_bytes(self, *parts):
+        return message(*parts[:-1], parts[-1] + b"!")
+
+
+class BodiesChanged(Proxy):
+    """Forwards a byte more than a request has."""
+
+    def payload_of(self, request):
+        return super().payload_of(request) + b"!"
 
 
 class AnswersInAcks(Separate):
@@ -130,3 +152,36 @@ class AcknowledgesElsewhere(Elsewhere):
 class SendsAgainElsewhere(Elsewhere):
     def is_elsewhere(self, sock, data):
         return sock is self.back and any(it.data == data and it.tries > 1 for it in self.sendings.values())
+
+
+class LaterAcksFilled(Separate):
+    """Has a request that comes again after its answer be acknowledged with that."""
+
+    def respond(self, waiter, code, options, payload):
+        super().respond(waiter, code, options, payload)
+        request = waiter.request
+        waiter.record.reply = message(ACK, code, request.message_id, request.token, options, payload)
+
+
+class NotificationsPassed(Proxy):
+    """Rejects a response that nobody waits for, and gives it to whom it answered last."""
+
+    def respond(self, waiter, code, options, payload):
+        self.last = waiter
+        super().respond(waiter, code, options, payload)
+
+    def on_stray_response(self, sock, it, data, source):
+        super().on_stray_response(sock, it, data, source)
+        waiter = self.last
+        self.send(self.front, message(NON, it.code, 1, waiter.request.token, [], it.payload), waiter.source)
+
+
+class AnswersNothingLater(Proxy):
+    """After a rest, answers no request."""
+
+    def on_request(self, it, source, record):
+        now = time.monotonic()
+        self.is_deaf = getattr(self, "is_deaf", False) or now - getattr(self, "last_at", now) > 100 * self.scale
+        self.last_at = now
+        if not self.is_deaf:
+            super().on_request(it, source, record)

@@ -243,3 +243,8 @@ class NamesAreAddresses(Proxy):
 
     def key_of(self, target, options):
         return super().key_of(target._replace(host=self.hosts.get(target.host, target.host)), options)
+
+
+class QueriesLost(Proxy):
+    def target_options(self, target):
+        return [it for it in super().target_options(target) if it[0] != URI_QUERY]

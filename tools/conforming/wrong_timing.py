@@ -103,3 +103,24 @@ class NstartForever(Proxy):
 class ProbesFast(Proxy):
     def note_silence(self, exchange):
         pass
+
+
+class SendsTwice(Proxy):
+    retransmissions = 1
+
+
+class TimeoutsLong(Proxy):
+    """Waits five times as long as before, and more."""
+
+    def first_timeout(self):
+        return 2.1
+
+    def next_timeout(self, wait):
+        return 5.2 * wait
+
+
+class AnswersAgainChanged(Proxy):
+    """Sends an answer again with another code."""
+
+    def again(self, sock, data):
+        return data[:1] + bytes([data[1] ^ 1]) + data[2:] if sock is self.front else data
