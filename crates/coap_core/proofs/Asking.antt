@@ -4,8 +4,6 @@ use Rattle.std.specs.Prelude.{◌&&◌, IfOk, IfSome, option_map}
 use Rattle.std.specs.Option.{option_map_or}
 use Rattle.std.proofs.lemmas.Bool.{leb-false, lt-leb}
 use Rattle.std.proofs.lemmas.Result.{IfOk-weaker}
-use Rattle.coap_message.specs.declared.code.Code.{Code}
-use Rattle.coap_message.specs.declared.code.TheConstants.Code.{REQUEST_ENTITY_TOO_LARGE}
 use Rattle.coap_message.specs.declared.error.OutOfMemory.{OutOfMemory}
 use Rattle.coap_message.specs.declared.kind.Kind.{Kind}
 use Rattle.coap_message.specs.declared.kind.Kind.TheVariants.{Con, Non, Ack, Rst}
@@ -21,35 +19,39 @@ use Rattle.coap_dedup.specs.declared.record.Record.{Record}
 use Rattle.coap_pending.specs.Exchanges.{is_joinable}
 use Rattle.coap_pending.specs.Ids.{given_in}
 use Rattle.coap_pending.specs.Table.{first_that}
-use Rattle.coap_model.specs.declared.report.Outcome.TheVariants.{Joined, Opened}
-use Rattle.coap_model.specs.declared.report.Report.{Report}
+use Rattle.coap_model.specs.Deeds.{held_of}
+use Rattle.coap_model.specs.declared.deed.Deed.TheVariants.{Joined, Opened}
+use Rattle.coap_model.specs.declared.deed.Held.{Held}
+use Rattle.coap_model.specs.declared.deed.Lacks.{Lacks}
+use Rattle.coap_model.specs.declared.deed.Refusal.{Refusal}
+use Rattle.coap_model.specs.declared.deed.Refusal.TheVariants.{Length}
+use Rattle.coap_model.specs.declared.deed.Did.{Did}
 use Rattle.coap_forward.specs.Forms.{form_fits}
 use Rattle.coap_forward.specs.Messages.{is_get}
 use Rattle.coap_model.specs.Verdicts.{Verdict, refused_with, may_ask, verdict_of}
-use Rattle.coap_model.specs.State.{State, Step, reserved, has_ids, can_reply, has_exchange_room, has_waiter_room, has_room_to_join, has_room_to_open, known_of, remembers, repeats}
+use Rattle.coap_model.specs.State.{lacks_to_join, lacks_to_open, State, Step, reserved, has_ids, can_reply, has_exchange_room, has_waiter_room, has_room_to_join, has_room_to_open, known_of, remembers, repeats}
 use Rattle.coap_model.specs.Requests.{lacks_id, refuses, overloads, opens, turns_down, turns_away, hits, joins, on_exchange_needed, on_joinable, on_miss, on_entry, on_key, on_verdict, on_new}
 use Rattle.coap_core.specs.Arrivals.{of_arrival}
 use Rattle.coap_core.specs.Asked.{CanAsk, IsForwardable, missed_step, needing_step, opening_step}
-use Rattle.coap_core.specs.Done.{Does, IsDone, repetition_of, wants_memory}
+use Rattle.coap_core.specs.Done.{DoesSo, IsDone, repetition_of, wants_memory}
 use Rattle.coap_core.specs.declared.arrival.Arrival.{Arrival}
 use Rattle.coap_core.specs.declared.request_target.CacheQuery.{CacheQuery}
-use Rattle.coap_core.specs.declared.misses.Miss.{Miss}
 use Rattle.coap_model.proofs.Verdicts.{askable}
 use Rattle.coap_core.proofs.Puts.{taken-takes}
 use Rattle.coap_core.proofs.Records.{held-same}
 
 -- what is done in a step is done in one that is equal, where the datagram was written to before
-pub done-as : {s t : Step} {r : Result Report OutOfMemory} {old mid new : Datagram} {w v : State} → t ≡ s → mid.room ≡ old.room → IsDone s r mid new w v → IsDone t r old new w v
+pub done-as : {s t : Step} {r : Result Did OutOfMemory} {old mid new : Datagram} {w v : State} → t ≡ s → mid.room ≡ old.room → IsDone s r mid new w v → IsDone t r old new w v
 done-as {s} {t} {r} {old} {mid} {new} {w} {v} same room done =
     record {
-      exact = subst (λ (x : Step). IfOk r (λ report. Does x report old new v)) (sym same)
-          (IfOk-weaker r (λ report. Does s report mid new v) (λ report. Does s report old new v) (λ report d. (d.0, d.1 ∙ held-same mid old s.bytes room, d.2)) done.exact);
+      exact = subst (λ (x : Step). IfOk r (λ report. DoesSo x report old new v)) (sym same)
+          (IfOk-weaker r (λ report. DoesSo s report mid new v) (λ report. DoesSo s report old new v) (λ report d. (d.0, d.1 ∙ held-same mid old s.bytes room, d.2)) done.exact);
       err = done.err;
       kept = done.kept ∙ room;
     }
 
 -- the same for a request that is remembered
-pub remembered-as : (a : Arrival) {s t : Step} {r : Result Report OutOfMemory} {old mid new : Datagram} {w v : State} → t ≡ s → mid.room ≡ old.room → IsDone (of_arrival remembers a s) r mid new w v → IsDone (of_arrival remembers a t) r old new w v
+pub remembered-as : (a : Arrival) {s t : Step} {r : Result Did OutOfMemory} {old mid new : Datagram} {w v : State} → t ≡ s → mid.room ≡ old.room → IsDone (of_arrival remembers a s) r mid new w v → IsDone (of_arrival remembers a t) r old new w v
 remembered-as a same room done = done-as (ap (of_arrival remembers a) same) room done
 
 -- what is sent in a step fits where what is sent in an equal one does
@@ -77,21 +79,21 @@ module _ (w : State) (now : ℕ) (client : Endpoint) (m : Message) where
   either-takes true s t p q = p
   either-takes false s t p q = q
 
-  down-takes : (code : Code) → Takes (turns_down w now client m code)
-  down-takes code = either-takes (can_reply w now m.kind) (refuses w now client m code) (lacks_id w now) refl refl
+  down-takes : (why : Refusal) → Takes (turns_down w now client m why)
+  down-takes why = either-takes (can_reply w now m.kind) (refuses w now client m why) (lacks_id w now) refl refl
 
-  away-takes : Takes (turns_away w now client m)
-  away-takes = either-takes (can_reply w now m.kind) (overloads w now client m) (lacks_id w now) refl refl
+  away-takes : (lacks : Lacks) → Takes (turns_away w now client m lacks)
+  away-takes lacks = either-takes (can_reply w now m.kind) (overloads w now client m lacks) (lacks_id w now) refl refl
 
   wanted-takes : (key : CacheKey) (stored : Option Stored) → Takes (on_exchange_needed w now client m key stored)
   wanted-takes key stored =
-      either-takes (form_fits w.setting.limits.datagram key.target None m) (cond (has_room_to_open w now client) (opens w now client m key stored) (turns_away w now client m)) (turns_down w now client m REQUEST_ENTITY_TOO_LARGE)
-      (either-takes (has_room_to_open w now client) (opens w now client m key stored) (turns_away w now client m) (taken-takes Opened client m _ (λ bytes. refl)) away-takes)
-      (down-takes REQUEST_ENTITY_TOO_LARGE)
+      either-takes (form_fits w.setting.limits.datagram key.target None m) (cond (has_room_to_open w now client) (opens w now client m key stored) (turns_away w now client m (lacks_to_open w now client))) (turns_down w now client m Length)
+      (either-takes (has_room_to_open w now client) (opens w now client m key stored) (turns_away w now client m (lacks_to_open w now client)) (taken-takes (Opened (w.admitted + 1) (w.opened + 1) (held_of m stored)) client m _ (λ bytes. refl)) (away-takes (lacks_to_open w now client)))
+      (down-takes Length)
 
   joinable-takes : (key : CacheKey) (stored : Option Stored) (o : Option ℕ) → Takes (on_joinable w now client m key stored o)
   joinable-takes key stored None = wanted-takes key stored
-  joinable-takes key stored (Some exchange) = either-takes (has_room_to_join w now client) (joins w now client m exchange) (turns_away w now client m) (taken-takes Joined client m _ (λ bytes. refl)) away-takes
+  joinable-takes key stored (Some exchange) = either-takes (has_room_to_join w now client) (joins w now client m exchange) (turns_away w now client m (lacks_to_join w now client)) (taken-takes (Joined (w.admitted + 1) exchange) client m _ (λ bytes. refl)) (away-takes (lacks_to_join w now client))
 
   miss-takes : (key : CacheKey) (stored : Option Stored) → Takes (on_miss w now client m key stored)
   miss-takes key stored = joinable-takes key stored (first_that (is_joinable key) w.exchanges)
@@ -110,7 +112,7 @@ module _ (w : State) (now : ℕ) (client : Endpoint) (m : Message) where
       (wanted-takes key None)
 
   verdict-takes : (v : Verdict) → Takes (on_verdict w now client m v)
-  verdict-takes (refused_with code) = down-takes code
+  verdict-takes (refused_with why) = down-takes why
   verdict-takes (may_ask key) = key-takes key
 
   -- whatever becomes of a request that is new takes memory
@@ -192,12 +194,12 @@ module _ (w : State) (now : ℕ) (client : Endpoint) (m : Message) where
       keyed key false = want key None
 
       of : (v : Verdict) → on_verdict w now client m v ≡ lacks_id w now
-      of (refused_with code) = rw none refl
+      of (refused_with why) = rw none refl
       of (may_ask key) = keyed key (is_get m.code)
 
 -- ---- requests that aren't answered from the store
 
-module _ {a : Arrival} {query : CacheQuery} {miss : Miss} {w : State} (can : CanAsk a query miss w) where
+module _ {a : Arrival} {query : CacheQuery} {held : Held} {w : State} (can : CanAsk a query held w) where
   -- they may be forwarded
   pub forwardable : IsForwardable a.message.now query
   forwardable =
@@ -205,13 +207,13 @@ module _ {a : Arrival} {query : CacheQuery} {miss : Miss} {w : State} (can : Can
       record { method = is.method; survey = can.asked.survey; target = is.sound }
 
   -- the form is too long
-  pub too-long : form_fits w.setting.limits.datagram query.key.target None a.message.now ≡ false → of_arrival (needing_step w) a query.key ≡ of_arrival (refuses w) a REQUEST_ENTITY_TOO_LARGE
+  pub too-long : form_fits w.setting.limits.datagram query.key.target None a.message.now ≡ false → of_arrival (needing_step w) a query.key ≡ of_arrival (refuses w) a Length
   too-long fits = rw (fits, can.reply.ids) refl
 
   module _ (fits : form_fits w.setting.limits.datagram query.key.target None a.message.now ≡ true) where
     -- there is no room
-    pub turned-away : has_room_to_open w a.now a.from ≡ false → of_arrival (needing_step w) a query.key ≡ of_arrival (overloads w) a
-    turned-away closed = rw (fits, closed, can.reply.ids) refl
+    pub turned-away : (lacks : Lacks) → lacks ≡ lacks_to_open w a.now a.from → has_room_to_open w a.now a.from ≡ false → of_arrival (needing_step w) a query.key ≡ of_arrival (overloads w) a lacks
+    turned-away lacks is closed = rw (is, fits, closed, can.reply.ids) refl
 
     -- it is asked for
     pub opened : has_room_to_open w a.now a.from ≡ true → of_arrival (needing_step w) a query.key ≡ of_arrival (opening_step w) a query.key

@@ -20,9 +20,11 @@ use Rattle.coap_pending.specs.Table.{Numbered, IsRising, all_changed, item_at, c
 use Rattle.coap_forward.specs.Messages.{is_con, is_ack, is_rst, is_empty, is_bare, acknowledgement}
 use Rattle.coap_forward.specs.Answers.{answer_of, bad_gateway, own_answer}
 use Rattle.coap_forward.specs.Changes.{changed_by}
-use Rattle.coap_model.specs.declared.report.Outcome.{Outcome}
-use Rattle.coap_model.specs.declared.report.Outcome.TheVariants.{Answered}
-use Rattle.coap_model.specs.declared.report.Report.{Report}
+use Rattle.coap_model.specs.declared.report.Outcome.TheVariants as outcomes
+use Rattle.coap_model.specs.declared.deed.Deed.{Deed}
+use Rattle.coap_model.specs.declared.deed.Deed.TheVariants.{Answered}
+use Rattle.coap_model.specs.declared.deed.Did.{Did}
+use Rattle.coap_model.specs.Deeds.{outcome_of}
 use Rattle.coap_model.specs.declared.report.Storing.{Storing}
 use Rattle.coap_model.specs.declared.report.Storing.TheVariants.{Kept, TooLarge, NoMemory, NotStored}
 use Rattle.coap_model.specs.History.{grown_of}
@@ -32,7 +34,7 @@ use Rattle.coap_model.specs.State.{State, Step, later, silent, says, accepts, ha
 use Rattle.coap_model.specs.Empties.{on_exchange}
 use Rattle.coap_model.specs.Responses.{awaiting, on_not_confirmable, on_new_confirmable}
 use Rattle.coap_core.proofs.Awaiting.{awaited}
-use Rattle.coap_core.specs.Done.{Does, resets, wants_memory}
+use Rattle.coap_core.specs.Done.{DoesSo, resets, wants_memory}
 use Rattle.coap_core.specs.Needs.{IsUnansweredAt}
 use Rattle.coap_core.specs.Storing.{IsKept, IsPut, answering, answering_at, not_confirmable_step, new_confirmable_step, if_storable, accepted, accepted_bytes, accepted_to}
 
@@ -88,7 +90,7 @@ module _ (w v : State) (now : ℕ) (a : Arrived) where
   made = entry_made w now a.exchange.1 a.answer
 
   abbrev left : Storing → Step
-  left storing = accepts (Answered storing) a.source a.message (answered_in v now a.exchange.0 a.answer)
+  left storing = accepts (Answered a.exchange.0 storing) a.source a.message (answered_in v now a.exchange.0 a.answer)
 
   -- memory for one more isn't asked for where it is there
   keeps-grown : (o : Option Entry) → keeps_if w now true a o ≡ keeps w now a
@@ -96,17 +98,17 @@ module _ (w v : State) (now : ℕ) (a : Arrived) where
   keeps-grown (Some entry) = refl
 
   -- what the store did with it, the step says
-  put-is : (storing : Storing) → IsPut w made storing v → stores w now (grown_of (Answered storing)) a ≡ left storing
+  put-is : (storing : Storing) → IsPut w made storing v → stores w now (grown_of (outcomes.Answered storing)) a ≡ left storing
   put-is Kept k = rw (le-leb _ _ k.1, k.0) (keeps-grown (of_key entry_key a.exchange.1.key w.store))
   put-is TooLarge k = rw (lt-leb _ _ k.1, k.0) refl
   put-is NoMemory k = rw (le-leb _ _ k.1, k.2, k.0) refl
   put-is NotStored k = absurd k
 
   -- the same of an answer that may be one that isn't stored
-  pub kept-is : (storing : Storing) → IsKept w (if_storable w now a.exchange.1 a.answer) storing v → answers_with w now (grown_of (Answered storing)) a ≡ left storing
+  pub kept-is : (storing : Storing) → IsKept w (if_storable w now a.exchange.1 a.answer) storing v → answers_with w now (grown_of (outcomes.Answered storing)) a ≡ left storing
   kept-is storing k = go (may_store a.exchange.1 a.answer) k
     where
-      go : (b : Bool) → IsKept w (cond b (Some made) None) storing v → cond b (stores w now (grown_of (Answered storing)) a) (answers_so w now a NotStored w.store) ≡ left storing
+      go : (b : Bool) → IsKept w (cond b (Some made) None) storing v → cond b (stores w now (grown_of (outcomes.Answered storing)) a) (answers_so w now a NotStored w.store) ≡ left storing
       go true e = put-is storing e
       go false e = rw (e.0, e.1) refl
 
@@ -147,34 +149,35 @@ module _ (w v : State) (now : ℕ) (source : Endpoint) (m : Message) (x : Number
   abbrev step_left : Step
   step_left =
       record {
-        report = record { send = accepted_to source m; outcome = Answered storing };
+        deed = Answered x.0 storing;
+        report = record { send = accepted_to source m; outcome = outcomes.Answered storing };
         bytes = accepted_bytes m;
         state = answered_in v now x.0 a;
       }
 
   -- a response that isn't confirmable
-  other-is : is_con m.kind ≡ false → IsKept u (if_storable w now x.1 a) storing v → answers w now (grown_of (Answered storing)) source m x ≡ step_left
+  other-is : is_con m.kind ≡ false → IsKept u (if_storable w now x.1 a) storing v → answers w now (grown_of (outcomes.Answered storing)) source m x ≡ step_left
   other-is other k = kept-is u v now arrived storing k ∙ rw other refl
 
   -- a confirmable one, which is remembered
-  con-is : is_con m.kind ≡ true → IsKept (with_record now source m (spelling (acknowledgement m.id)) u) (if_storable w now x.1 a) storing v → remembers now source m (answers w now (grown_of (Answered storing)) source m x) ≡ step_left
+  con-is : is_con m.kind ≡ true → IsKept (with_record now source m (spelling (acknowledgement m.id)) u) (if_storable w now x.1 a) storing v → remembers now source m (answers w now (grown_of (outcomes.Answered storing)) source m x) ≡ step_left
   con-is con k =
       let parts = kept-before u v now source m (spelling (acknowledgement m.id)) (if_storable w now x.1 a) storing k in
       let is = kept-is u (record u { store = v.store }) now arrived storing parts.0 in
       ap (remembers now source m) is ∙ said parts.1
     where
-      said : v ≡ with_record now source m (spelling (acknowledgement m.id)) (record u { store = v.store }) → remembers now source m (accepts (Answered storing) source m (answered_in (record u { store = v.store }) now x.0 a)) ≡ step_left
+      said : v ≡ with_record now source m (spelling (acknowledgement m.id)) (record u { store = v.store }) → remembers now source m (accepts (Answered x.0 storing) source m (answered_in (record u { store = v.store }) now x.0 a)) ≡ step_left
       said e =
           let states : with_record now source m (spelling (acknowledgement m.id)) (answered_in (record u { store = v.store }) now x.0 a) ≡ answered_in v now x.0 a = sym (ap (λ (z : State). answered_in z now x.0 a) e) in
           let turned = rw con at states in
-          rw con (λ i. record { report = record { send = Some source; outcome = Answered storing }; bytes = spelling (acknowledgement m.id); state = turned i })
+          rw con (λ i. record { deed = Answered x.0 storing; report = record { send = Some source; outcome = outcomes.Answered storing }; bytes = spelling (acknowledgement m.id); state = turned i })
 
   -- either
-  pub answering-is : IsKept (accepted now source m u) (if_storable w now x.1 a) storing v → answering w now (grown_of (Answered storing)) source m x ≡ step_left
+  pub answering-is : IsKept (accepted now source m u) (if_storable w now x.1 a) storing v → answering w now (grown_of (outcomes.Answered storing)) source m x ≡ step_left
   answering-is k = go (is_con m.kind) refl k
     where
       go : (b : Bool) → is_con m.kind ≡ b → IsKept (cond b (with_record now source m (spelling (acknowledgement m.id)) u) u) (if_storable w now x.1 a) storing v
-          → cond b (remembers now source m (answers w now (grown_of (Answered storing)) source m x)) (answers w now (grown_of (Answered storing)) source m x) ≡ step_left
+          → cond b (remembers now source m (answers w now (grown_of (outcomes.Answered storing)) source m x)) (answers w now (grown_of (outcomes.Answered storing)) source m x) ≡ step_left
       go true e f = con-is e f
       go false e f = other-is e f
 
@@ -209,17 +212,17 @@ module _ (w v : State) (now number : ℕ) (source : Endpoint) (m : Message) (cha
   left-events = ap (λ (u : State). u.events) beside ∙ events-taken (is_con m.kind)
 
 -- what is done for the exchange of a number
-pub answer-does : (w v : State) (now number : ℕ) (source : Endpoint) (m : Message) (entry : Option Entry) (changed : List Target) (storing : Storing) (report : Report) (old new : Datagram) (after : State) (a : Answer)
+pub answer-does : (w v : State) (now number : ℕ) (source : Endpoint) (m : Message) (entry : Option Entry) (changed : List Target) (storing : Storing) (report : Did) (old new : Datagram) (after : State) (a : Answer)
     → Some a ≡ option_map (answer_for w now m) (item_at number w.exchanges)
     → IfSome (item_at number w.exchanges) (λ x. entry ≡ if_storable w now x a)
     → IfSome (item_at number w.exchanges) (λ x. changed ≡ changed_by x.key.target m)
     → IsKept (with_changed changed (accepted now source m w)) entry storing v
-    → report ≡ record { send = accepted_to source m; outcome = Answered storing } → new ≡ holding old (accepted_bytes m) → after ≡ answered_in v now number a
-    → IfSome (answering_at w now (grown_of report.outcome) source m number) (λ step. Does step report old new after)
+    → report ≡ record { send = accepted_to source m; deed = Answered number storing } → new ≡ holding old (accepted_bytes m) → after ≡ answered_in v now number a
+    → IfSome (answering_at w now (grown_of (outcome_of report.deed)) source m number) (λ step. DoesSo step report old new after)
 answer-does w v now number source m entry changed storing report old new after a is made marked kept told said left = go (item_at number w.exchanges) is made marked
   where
     go : (o : Option Exchange) → Some a ≡ option_map (answer_for w now m) o → IfSome o (λ x. entry ≡ if_storable w now x a) → IfSome o (λ x. changed ≡ changed_by x.key.target m)
-        → IfSome (option_map (λ x. answering w now (grown_of report.outcome) source m (number, x)) o) (λ step. Does step report old new after)
+        → IfSome (option_map (λ x. answering w now (grown_of (outcome_of report.deed)) source m (number, x)) o) (λ step. DoesSo step report old new after)
     go None i e t = tt
     go (Some x) i e t =
         let same : a ≡ answer_for w now m x = same_Some a (answer_for w now m x) i in
@@ -248,19 +251,19 @@ module _ (w : State) (now : ℕ) (grown : Bool) (source : Endpoint) (m : Message
 -- ---- memory
 
 -- whether it is acknowledged or not, what is taken up wants memory where its outcome does
-pub taken-takes : (outcome : Outcome) (source : Endpoint) (m : Message) (w : State) → ((bytes : List ℕ) → takes_memory outcome bytes ≡ true) → wants_memory (accepts outcome source m w) ≡ true
-taken-takes outcome source m w takes = go (is_con m.kind)
+pub taken-takes : (deed : Deed) (source : Endpoint) (m : Message) (w : State) → ((bytes : List ℕ) → takes_memory (outcome_of deed) bytes ≡ true) → wants_memory (accepts deed source m w) ≡ true
+taken-takes deed source m w takes = go (is_con m.kind)
   where
-    go : (b : Bool) → wants_memory (cond b (says outcome source (acknowledgement m.id) w) (silent outcome w)) ≡ true
+    go : (b : Bool) → wants_memory (cond b (says deed source (acknowledgement m.id) w) (silent deed w)) ≡ true
     go true = takes (spelling (acknowledgement m.id))
     go false = takes []
 
 module _ (w : State) (now : ℕ) (grown : Bool) (a : Arrived) where
   so-takes : (storing : Storing) (store : List Entry) → wants_memory (answers_so w now a storing store) ≡ true
-  so-takes storing store = taken-takes (Answered storing) a.source a.message _ (λ bytes. refl)
+  so-takes storing store = taken-takes (Answered a.exchange.0 storing) a.source a.message _ (λ bytes. refl)
 
   keeps-takes : wants_memory (keeps w now a) ≡ true
-  keeps-takes = taken-takes (Answered Kept) a.source a.message _ (λ bytes. refl)
+  keeps-takes = taken-takes (Answered a.exchange.0 Kept) a.source a.message _ (λ bytes. refl)
 
   -- an answer that is kept takes memory, or wants it
   kept-takes : (g : Bool) (o : Option Entry) → wants_memory (keeps_if w now g a o) ≡ true

@@ -17,6 +17,7 @@ use Rattle.coap_pending.specs.Table.{Numbered, IsRising, item_at, changed_at}
 use Rattle.coap_pending.specs.Timers.{started, goes_on, sent_again}
 use Rattle.coap_pending.specs.Waiters.{due_after}
 use Rattle.coap_pending.proofs.Changes.{changed_at-below}
+use Rattle.coap_model.specs.declared.deed.Silence.TheVariants.{NotAcknowledged}
 use Rattle.coap_model.specs.declared.due.DueItem.{DueItem}
 use Rattle.coap_model.specs.declared.due.DueItem.TheVariants.{OfExchange, OfWaiter}
 use Rattle.coap_model.specs.State.{State, later, next_id}
@@ -205,7 +206,7 @@ pub again-step : (w : State) (now number : ℕ) (x : Exchange) → item_at numbe
 again-step w now number x found again = rw found (ap (on_request_timeout w now number x) (sym again))
 
 -- it is given up
-pub over-step : (w : State) (now number : ℕ) (x : Exchange) → item_at number w.exchanges ≡ Some x → GiveUp ≡ fire_of_sending now x.sending → request_timeout_at w now number ≡ gives_up w now number
+pub over-step : (w : State) (now number : ℕ) (x : Exchange) → item_at number w.exchanges ≡ Some x → GiveUp ≡ fire_of_sending now x.sending → request_timeout_at w now number ≡ gives_up w now number NotAcknowledged
 over-step w now number x found over = rw found (ap (on_request_timeout w now number x) (sym over))
 
 -- ---- the tables after a request was sent

@@ -1,12 +1,15 @@
 -- What a step did: its report, its datagram, and the tables that it left.
-use Rattle.std.specs.Prelude.{◌≡◌, ℕ, Bool, true, List, ◌∷◌, Option, IfOk, OnErr, Result, option_map}
+use Rattle.std.specs.Prelude.{◌≡◌, ℕ, Bool, true, List, ◌∷◌, Option, IfOk, OnErr, Result, Ok, Err, option_map}
 use Rattle.coap_message.specs.Datagram.{Datagram, holding}
 use Rattle.coap_message.specs.Message.{Message}
 use Rattle.coap_message.specs.declared.error.OutOfMemory.{OutOfMemory}
 use Rattle.coap_pending.specs.Exchanges.{answered}
 use Rattle.coap_pending.specs.Table.{changed_at}
 use Rattle.coap_forward.specs.Answers.{own_answer, bad_gateway}
-use Rattle.coap_model.specs.declared.report.Outcome.TheVariants.{Answered, Delivered}
+use Rattle.coap_model.specs.Deeds.{outcome_of, report_of}
+use Rattle.coap_model.specs.declared.deed.Did.{Did}
+use Rattle.coap_model.specs.declared.deed.Deed.TheVariants as deeds
+use Rattle.coap_model.specs.declared.report.Outcome.TheVariants.{Delivered}
 use Rattle.coap_model.specs.declared.report.Report.{Report}
 use Rattle.coap_model.specs.declared.report.Storing.TheVariants.{NotStored}
 use Rattle.coap_core.specs.Arrivals.{of_arrival}
@@ -21,15 +24,28 @@ use Rattle.coap_model.specs.Word.{KeepsItsWord}
 use Rattle.coap_endpoint.specs.declared.endpoint.Endpoint.{Endpoint}
 use Rattle.coap_model.specs.State.{State, Step, later, silent, known_of, remembers, repeats}
 
--- the report, the datagram and the tables after it are those of the step
+-- what a step did, with the destination of its datagram
+abbrev pub did_of : Step → Did
+did_of s = record { send = s.report.send; deed = s.deed }
+
+-- what was done, the datagram and the tables after it are those of the step
+abbrev pub DoesSo : Step → Did → Datagram → Datagram → State → Type 0
+DoesSo s did old new state = (did ≡ did_of s) × (new ≡ holding old s.bytes) × (state ≡ s.state)
+
+-- the same in short: the report is the step's
 abbrev pub Does : Step → Report → Datagram → Datagram → State → Type 0
 Does s report old new state = (report ≡ s.report) × (new ≡ holding old s.bytes) × (state ≡ s.state)
 
+-- what came of a step, in short
+abbrev pub in_short : Result Did OutOfMemory → Result Report OutOfMemory
+in_short (Ok did) = Ok (report_of did)
+in_short (Err error) = Err error
+
 -- The step is done, or it ran out of memory and nothing happened. The datagram keeps its capacity.
-pub record IsDone (s : Step) (result : Result Report OutOfMemory)
+pub record IsDone (s : Step) (result : Result Did OutOfMemory)
     (out_old out_new : Datagram) (before after : State)
     : Type 0 where
-  pub exact : IfOk result (λ report. Does s report out_old out_new after)
+  pub exact : IfOk result (λ did. DoesSo s did out_old out_new after)
   pub err : OnErr result (after ≡ before)
   pub kept : out_new.room ≡ out_old.room
 
@@ -37,7 +53,7 @@ pub record IsDone (s : Step) (result : Result Report OutOfMemory)
 abbrev pub IsDoneFor :
     Arrival
     → Step
-    → Result Report OutOfMemory
+    → Result Did OutOfMemory
     → Datagram
     → Datagram
     → State
@@ -46,11 +62,12 @@ abbrev pub IsDoneFor :
 IsDoneFor arrival s = IsDone (of_arrival remembers arrival s)
 
 -- the same for a step that depends on whether memory sufficed, which the report says
-pub record IsDoneBy (s : Bool → Step) (result : Result Report OutOfMemory)
+pub record IsDoneBy (s : Bool → Step) (result : Result Did OutOfMemory)
     (out_old out_new : Datagram) (before after : State)
     : Type 0 where
   pub exact :
-      IfOk result (λ report. Does (s (grown_of report.outcome)) report out_old out_new after)
+      IfOk result (λ did.
+      DoesSo (s (grown_of (outcome_of did.deed))) did out_old out_new after)
   pub err : OnErr result (after ≡ before)
   pub kept : out_new.room ≡ out_old.room
 
@@ -93,12 +110,12 @@ repetition_of w now source m =
     option_map (λ known. repeats w now source known.reply) (known_of w now source m)
 
 -- the report and the datagram are those of the step
-abbrev pub IsSaid : Step → Report → Datagram → Datagram → Type 0
-IsSaid s report old new = (report ≡ s.report) × (new ≡ holding old s.bytes)
+abbrev pub IsSaid : Step → Did → Datagram → Datagram → Type 0
+IsSaid s did old new = (did ≡ did_of s) × (new ≡ holding old s.bytes)
 
 -- the request of the exchange with this number was rejected: the proxy generates its answer
 abbrev pub resets : State → ℕ → ℕ → Step
 resets w now number =
-    silent (Answered NotStored) (record (later w now) {
+    silent (deeds.Answered number NotStored) (record (later w now) {
       exchanges = changed_at number (answered (own_answer now bad_gateway)) w.exchanges;
     })

@@ -17,7 +17,7 @@ use Rattle.coap_model.specs.declared.report.Report.{Report}
 use Rattle.coap_core.specs.declared.holders.Holder.{Holder}
 use Rattle.coap_core.specs.declared.holders.SharedTable.{SharedTable}
 use Rattle.coap_core.specs.declared.holders.SharedTable.TheVariants.{ConRecords, NonRecords, Exchanges, Waiters}
-use Rattle.coap_core.specs.Told.{Told}
+use Rattle.coap_core.specs.Told.{Told, report_told}
 
 -- ---- what addresses have
 
@@ -113,7 +113,7 @@ lacking_in event w None = None
 lacking_in event w (Some report) = lacking_at event w report.outcome
 
 abbrev pub lacking : Told → Option SharedTable
-lacking t = lacking_in t.turn.event t.state t.report
+lacking t = lacking_in t.turn.event t.state (report_told t)
 
 -- ---- when somebody is looked for
 

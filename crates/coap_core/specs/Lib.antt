@@ -6,6 +6,7 @@ pub mod Holdings
 pub mod Settings
 pub mod Asked
 pub mod Done
+pub mod StepDone
 pub mod Dues
 pub mod Needs
 pub mod Targets

@@ -159,7 +159,7 @@ impl Holders {
         ensures found { IfSome (spec.looks_in self.old (told turn.entry core.now)) (λ table.
             spec.IsFound table turn.entry.now core.now self.old result self.new) }
     {
-        let outcome = turn.report?.outcome;
+        let outcome = turn.report()?.outcome;
         if may_be_full(outcome) {
             self.look_closely(turn.now, turn.event, outcome, core)
         } else {

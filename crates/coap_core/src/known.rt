@@ -8,7 +8,7 @@ ghost use Rattle.coap_forward.specs.Messages.{acknowledgement, reply_kind, reply
 ghost use Rattle.coap_model.specs.State.{next_id, records_of, has_record_room, can_reply, drops, known_of, with_record};
 ghost use Rattle.coap_model.specs.Requests.{replied};
 ghost use Rattle.coap_core.specs.Arrivals.{of_arrival};
-ghost use Rattle.coap_core.specs.Done.{Does, IsSaid, repetition_of};
+ghost use Rattle.coap_core.specs.Done.{DoesSo, IsSaid, repetition_of};
 ghost use Rattle.coap_core.specs.Needs.{CanGoOn, CanRemember, CanReplyTo, CanStep};
 ghost use Rattle.coap_core.specs.Storing.{accepted_bytes, accepted_to};
 
@@ -18,7 +18,7 @@ use coap_dedup::{Records, Seen};
 use coap_endpoint::Endpoint;
 use coap_forward::put_bare;
 use coap_message::{Code, Datagram, Head, Kind, MessageRef, Moment, OutOfMemory, Seq, Token};
-use coap_model::{Outcome, Report};
+use coap_model::{Deed, Did};
 use coap_store::Store;
 
 /// The type of message in which a reply is sent at once to a request of this type.
@@ -89,13 +89,13 @@ impl<S: Store + Drop> State<S> {
 
     /// If the message is a duplicate, writes to `out` what it gets: the kept reply if it is
     /// Confirmable, and otherwise nothing (RFC 7252, 4.5). If it is new, leaves `out` as it is.
-    pub(crate) fn repeat(&self, arrival: Arrival<'_, '_>, out: &mut Datagram) -> Option<Report>
+    pub(crate) fn repeat(&self, arrival: Arrival<'_, '_>, out: &mut Datagram) -> Option<Did>
         requires fits { IfSome (of_arrival (repetition_of self.now) arrival) (λ step.
             length step.bytes ≤ out.old.room) }
         ensures found { is_some result ≡ is_some (of_arrival (known_of self.now) arrival.entry) }
-        ensures said { IfSome result (λ report.
+        ensures said { IfSome result (λ did.
             IfSome (of_arrival (repetition_of self.now) arrival.entry) (λ step.
-            IsSaid step report out.old out.new)) }
+            IsSaid step did out.old out.new)) }
         ensures kept { out.new.room ≡ out.old.room }
     {
         let (kind, id) = (arrival.message.kind(), arrival.message.id());
@@ -110,20 +110,20 @@ impl<S: Store + Drop> State<S> {
             }
             None => None,
         };
-        Some(Report {
+        Some(Did {
             send,
-            outcome: Outcome::Again,
+            deed: Deed::Repeated,
         })
     }
 
     /// Drops a message that there is no room to remember, without a reply.
-    pub(crate) fn drop_message(&mut self, now: Moment, out: &mut Datagram) -> Report
+    pub(crate) fn drop_message(&mut self, now: Moment, kind: Kind, out: &mut Datagram) -> Did
         requires { CanGoOn self.old }
-        ensures { Does (drops self.old now) result out.old out.new self.new }
+        ensures { DoesSo (drops self.old now kind) result out.old out.new self.new }
     {
         out.clear();
         self.advance(now);
-        silent(Outcome::NoRecordRoom)
+        silent(Deed::Unremembered(kind))
     }
 
     /// Whether a reply can be sent at once to a request of this type: an acknowledgement needs no
@@ -191,12 +191,12 @@ impl<S: Store + Drop> State<S> {
     pub(crate) fn reply(
         &mut self,
         arrival: Arrival<'_, '_>,
-        outcome: Outcome,
+        deed: Deed,
         out: &Datagram,
-    ) -> Result<Report, OutOfMemory>
+    ) -> Result<Did, OutOfMemory>
         requires reply { CanReplyTo arrival self.old }
-        ensures report { IfOk result (λ report.
-            report ≡ record { send = Some arrival.entry.from; outcome = outcome }) }
+        ensures did { IfOk result (λ did.
+            did ≡ record { send = Some arrival.entry.from; deed = deed }) }
         ensures done { OnOk result
             (self.new
             ≡ of_arrival with_record arrival.entry out.now.bytes
@@ -208,9 +208,9 @@ impl<S: Store + Drop> State<S> {
             self.take_id(arrival.now);
         }
         self.advance(arrival.now);
-        Ok(Report {
+        Ok(Did {
             send: Some(arrival.from),
-            outcome,
+            deed,
         })
     }
 }

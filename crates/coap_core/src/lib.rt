@@ -46,7 +46,8 @@ pub use coap_endpoint::{Endpoint, Ip};
 pub use coap_exchange::{EndpointMap, Exchange, Waiter};
 pub use coap_message::{Code, Datagram, LAST_MOMENT, MOST_JITTER, Moment, OutOfMemory};
 pub use coap_model::{
-    ClientCounts, Counts, Limit, LimitError, LimitValues, Limits, Outcome, Report, Storing,
+    ClientCounts, Counts, Deed, Did, Held, Lacks, Limit, LimitError, LimitValues, Limits, Outcome,
+    Refusal, Report, Silence, Storing, Unprocessed,
 };
 pub use coap_store::Store;
 pub use coap_target::{RouteError, Routes};

@@ -4,6 +4,7 @@ ghost use Rattle.coap_message.specs.Spelling.{spelling};
 ghost use Rattle.coap_option.specs.Selection.{tags_of};
 ghost use Rattle.coap_forward.specs.Forms.{form_fits, forwarded};
 ghost use Rattle.coap_forward.specs.Messages.{is_get};
+ghost use Rattle.coap_model.specs.Deeds.{held_of};
 ghost use Rattle.coap_model.specs.Requests.{overloads, next_token, copy_of, tag_carried, joins};
 ghost use Rattle.coap_model.specs.State.{has_room_to_join, has_room_to_open, later, accepts};
 ghost use Rattle.coap_core.specs.Arrivals.{of_arrival};
@@ -21,18 +22,9 @@ use crate::state::State;
 use coap_exchange::{ExchangeNumber, Joining, Opening};
 use coap_forward::{Form, put_forwarded, put_with_max_age, token_of, validating_tag};
 use coap_message::{Code, Datagram, Full, MessageRef, OutOfMemory, Pieces, Seq, Token};
-use coap_model::{Outcome, Report};
+use coap_model::{Deed, Did, Held, Lacks, Refusal};
 use coap_store::{SharedKey, Store, Stored};
 use endpoint_counts::DigestedEndpoint;
-
-/// What is stored for the key of a request that isn't answered from the store.
-#[derive(Clone, Copy)]
-pub(crate) enum Miss {
-    /// Nothing, or the request isn't a GET, so that nothing is looked up.
-    Nothing,
-    /// A response that is stale, or is marked since its target was changed.
-    Unusable,
-}
 
 /// What an exchange is opened with, in addition to its request.
 #[derive(Drop)]
@@ -43,6 +35,8 @@ pub(crate) struct NewExchange<'k> {
     tags: Pieces,
     /// The stored response that the request asks to validate.
     copy: Option<Stored>,
+    /// What the cache has for the request.
+    held: Held,
 }
 
 /// A request that waits for the exchange of this number, whose client holds responses with these
@@ -73,10 +67,10 @@ impl<S: Store + Drop> State<S> {
         &mut self,
         arrival: Arrival<'_, '_>,
         query: &CacheQuery,
-        miss: Miss,
+        held: Held,
         out: &mut Datagram,
-    ) -> Result<Report, OutOfMemory>
-        requires ask { CanAsk arrival query.now miss self.old }
+    ) -> Result<Did, OutOfMemory>
+        requires ask { CanAsk arrival query.now held self.old }
         requires can { CanDo (of_arrival (missed_step self.old) arrival query.now.key)
             arrival.now self.old out.old }
         ensures { IsDoneFor arrival.entry
@@ -86,7 +80,7 @@ impl<S: Store + Drop> State<S> {
         let exchanges = self.under_way.exchanges();
         match exchanges.joinable_as(&query.key) {
             Some(exchange) => self.on_joinable(arrival, exchange, query, out),
-            None => self.on_exchange_needed(arrival, query, miss, out),
+            None => self.on_exchange_needed(arrival, query, held, out),
         }
     }
 
@@ -97,7 +91,7 @@ impl<S: Store + Drop> State<S> {
         exchange: ExchangeNumber,
         query: &CacheQuery,
         out: &mut Datagram,
-    ) -> Result<Report, OutOfMemory>
+    ) -> Result<Did, OutOfMemory>
         requires can { CanSend (of_arrival (joinable_step self.old) arrival exchange)
             arrival self.old out.old }
         requires tags { query.now.tags ≡ tags_of arrival.message.now }
@@ -108,7 +102,8 @@ impl<S: Store + Drop> State<S> {
         let client = DigestedEndpoint::new(arrival.from);
         self.seek_joiner(client);
         if !self.has_room_to_join(arrival.now, client) {
-            return self.overload(arrival, out);
+            let lacks = self.lacks_to_join(arrival.now, client);
+            return self.overload(arrival, lacks, out);
         }
         let tags = query.tags.clone()?;
         self.join(arrival, client, exchange, tags, out)
@@ -121,10 +116,10 @@ impl<S: Store + Drop> State<S> {
         &mut self,
         arrival: Arrival<'_, '_>,
         query: &CacheQuery,
-        miss: Miss,
+        held: Held,
         out: &mut Datagram,
-    ) -> Result<Report, OutOfMemory>
-        requires ask { CanAsk arrival query.now miss self.old }
+    ) -> Result<Did, OutOfMemory>
+        requires ask { CanAsk arrival query.now held self.old }
         requires can { CanDo (of_arrival (needing_step self.old) arrival query.now.key)
             arrival.now self.old out.old }
         ensures { IsDoneFor arrival.entry
@@ -132,20 +127,21 @@ impl<S: Store + Drop> State<S> {
             result out.old out.new self.old self.new }
     {
         if self.put_request(arrival.message, query, None, out).is_err() {
-            let code = Code::REQUEST_ENTITY_TOO_LARGE;
-            return self.refuse(arrival, code, out);
+            return self.refuse(arrival, Refusal::Length, out);
         }
         let client = DigestedEndpoint::new(arrival.from);
         self.seek_opener(client);
         if !self.has_room_to_open(arrival.now, client) {
-            return self.overload(arrival, out);
+            let lacks = self.lacks_to_open(arrival.now, client);
+            return self.overload(arrival, lacks, out);
         }
-        let copy = self.put_validating(arrival.message, query, miss, out)?;
+        let copy = self.put_validating(arrival.message, query, held, out)?;
         let new = NewExchange {
             client,
             key: &query.key,
             tags: query.tags.clone()?,
             copy,
+            held,
         };
         self.open(arrival, new, out)
     }
@@ -158,11 +154,11 @@ impl<S: Store + Drop> State<S> {
         &self,
         request: &MessageRef<'_>,
         query: &CacheQuery,
-        miss: Miss,
+        held: Held,
         out: &mut Datagram,
     ) -> Result<Option<Stored>, OutOfMemory>
         requires can { CanGoOn self.now }
-        requires missed { IsMissed self.now request.now query.now.key miss }
+        requires missed { IsMissed self.now request.now query.now.key held }
         requires room { self.now.setting.limits.datagram ≤ out.old.room }
         requires forwardable { IsForwardable request.now query.now }
         requires fits { form_fits self.now.setting.limits.datagram query.now.key.target None
@@ -183,7 +179,7 @@ impl<S: Store + Drop> State<S> {
             request.now 0)) }
         ensures kept { out.new.room ≡ out.old.room }
     {
-        if let Miss::Nothing = miss {
+        if !held.is_stored() {
             return Ok(None);
         }
         let Some(stored) = self.store.peek(&query.key) else {
@@ -244,17 +240,19 @@ impl<S: Store + Drop> State<S> {
     fn overload(
         &mut self,
         arrival: Arrival<'_, '_>,
+        lacks: Lacks,
         out: &mut Datagram,
-    ) -> Result<Report, OutOfMemory>
-        requires can { CanSend (of_arrival (overloads self.old) arrival) arrival self.old out.old }
+    ) -> Result<Did, OutOfMemory>
+        requires can { CanSend (of_arrival (overloads self.old) arrival lacks)
+            arrival self.old out.old }
         ensures { IsDoneFor arrival.entry
-            (of_arrival (overloads self.old) arrival.entry)
+            (of_arrival (overloads self.old) arrival.entry lacks)
             result out.old out.new self.old self.new }
     {
         let head = self.reply_head(arrival.message, Code::SERVICE_UNAVAILABLE);
         let token = Token::new(arrival.message.token());
         put_with_max_age(head, &token, self.setting.limits.values().retry_s, &[], out);
-        self.reply(arrival, Outcome::Overloaded, out)
+        self.reply(arrival, Deed::Overloaded(lacks), out)
     }
 
     /// Accepts a new request: a Confirmable one is acknowledged, and what is sent is remembered
@@ -262,21 +260,21 @@ impl<S: Store + Drop> State<S> {
     fn accept_request(
         &mut self,
         arrival: Arrival<'_, '_>,
-        outcome: Outcome,
+        deed: Deed,
         out: &mut Datagram,
-    ) -> Result<Report, OutOfMemory>
+    ) -> Result<Did, OutOfMemory>
         requires events { self.old.events < 2 ^ 63 }
         requires new { CanRemember arrival.now arrival.from arrival.message.now self.old }
         requires fits { length (accepted_bytes arrival.message.now) ≤ out.old.room }
         ensures { IsDoneFor arrival.entry
-            (accepts outcome arrival.entry.from arrival.entry.message.now
+            (accepts deed arrival.entry.from arrival.entry.message.now
             (later self.old arrival.entry.now))
             result out.old out.new self.old self.new }
     {
         let send = put_acceptance(arrival.from, arrival.message, out);
         self.remember(arrival, out.bytes())?;
         self.advance(arrival.now);
-        Ok(Report { send, outcome })
+        Ok(Did { send, deed })
     }
 
     /// Opens an exchange, and has the client wait for it. `out` holds the forwarded request. If
@@ -286,7 +284,7 @@ impl<S: Store + Drop> State<S> {
         arrival: Arrival<'_, '_>,
         exchange: NewExchange<'_>,
         out: &mut Datagram,
-    ) -> Result<Report, OutOfMemory>
+    ) -> Result<Did, OutOfMemory>
         requires can { CanSend (of_arrival (opening_step self.old) arrival exchange.key.now)
             arrival self.old out.old }
         requires client { exchange.client ≡ arrival.from }
@@ -294,6 +292,9 @@ impl<S: Store + Drop> State<S> {
         requires tags { exchange.tags ≡ tags_of arrival.message.now }
         requires copy { exchange.copy
             ≡ copy_of self.old.setting.limits.datagram exchange.key.now.target arrival.message.now
+            (held_for self.old arrival.message.now exchange.key.now) }
+        requires held { exchange.held
+            ≡ held_of arrival.message.now
             (held_for self.old arrival.message.now exchange.key.now) }
         requires form { out.old.bytes
             ≡ spelling
@@ -311,6 +312,7 @@ impl<S: Store + Drop> State<S> {
             key,
             tags,
             copy,
+            held,
         } = exchange;
         let form = Seq::from_slice(self.alloc, out.bytes())?;
         let opening = Opening {
@@ -323,11 +325,19 @@ impl<S: Store + Drop> State<S> {
         };
         let number = self.under_way.open(opening)?;
         let joining = joining_of(arrival, tags, number);
-        if let Err(error) = self.under_way.join(joining, client) {
-            self.under_way.withdraw_exchange();
-            return Err(error);
-        }
-        let done = self.accept_request(arrival, Outcome::Opened, out);
+        let waiter = match self.under_way.join(joining, client) {
+            Ok(waiter) => waiter,
+            Err(error) => {
+                self.under_way.withdraw_exchange();
+                return Err(error);
+            }
+        };
+        let deed = Deed::Opened {
+            waiter,
+            exchange: number,
+            held,
+        };
+        let done = self.accept_request(arrival, deed, out);
         if done.is_err() {
             self.under_way.withdraw_waiter();
             self.under_way.withdraw_exchange();
@@ -343,7 +353,7 @@ impl<S: Store + Drop> State<S> {
         exchange: ExchangeNumber,
         tags: Pieces,
         out: &mut Datagram,
-    ) -> Result<Report, OutOfMemory>
+    ) -> Result<Did, OutOfMemory>
         requires can { CanSend (of_arrival (joins self.old) arrival exchange)
             arrival self.old out.old }
         requires client { client ≡ arrival.from }
@@ -354,8 +364,9 @@ impl<S: Store + Drop> State<S> {
             result out.old out.new self.old self.new }
     {
         let joining = joining_of(arrival, tags, exchange);
-        self.under_way.join(joining, client)?;
-        let done = self.accept_request(arrival, Outcome::Joined, out);
+        let waiter = self.under_way.join(joining, client)?;
+        let deed = Deed::Joined { waiter, exchange };
+        let done = self.accept_request(arrival, deed, out);
         if done.is_err() {
             self.under_way.withdraw_waiter();
         }

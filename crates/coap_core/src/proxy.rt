@@ -1,17 +1,16 @@
 //! The core of a proxy: one step for one event.
-ghost use Rattle.std.specs.Prelude.{◌≡◌, ◌≤◌, ◌<◌, ◌^◌, ◌+◌, [], true, length, IfOk, IfSome, IsOk, IsTrue, OnErr};
-ghost use Rattle.coap_message.specs.Datagram.{holding};
+ghost use Rattle.std.specs.Prelude.{◌≡◌, ◌≤◌, ◌<◌, ◌^◌, ◌+◌, [], IfOk, IfSome, IsTrue};
 ghost use Rattle.coap_endpoint.specs.declared.endpoint.Endpoint.{Endpoint};
-ghost use Rattle.coap_model.specs.Events.{tick};
+ghost use Rattle.coap_model.specs.Deeds.{outcome_of};
 ghost use Rattle.coap_model.specs.Setting.{setting_of};
 ghost use Rattle.coap_model.specs.State.{new_state, client_counts, counts};
-ghost use Rattle.coap_model.specs.Ticks.{next_due, on_tick};
+ghost use Rattle.coap_model.specs.Ticks.{next_due};
 ghost use Rattle.coap_model.specs.History.{grown_of};
 ghost use Rattle.coap_model.specs.Step.{step_of};
 ghost use Rattle.coap_model.specs.Carries.{Carries};
-ghost use Rattle.coap_core.specs.Events.{HoldsEmpty, IsUnread, seen};
-ghost use Rattle.coap_core.specs.Done.{CarriesOn, Does, GivesConfirmable, KeepsWordOn, LeavesRoomOn, PromisesOn, observation_told, wants_memory};
-ghost use Rattle.coap_core.specs.Within.{AreWithinLimits};
+ghost use Rattle.coap_core.specs.Events.{seen};
+ghost use Rattle.coap_core.specs.Done.{DoesSo, in_short};
+ghost use Rattle.coap_core.specs.StepDone.{IsStepDone};
 
 use crate::event::Event;
 use crate::request_target::CacheQuery;
@@ -21,7 +20,7 @@ use crate::ticks::moment_of;
 use crate::timing::Timing;
 use coap_endpoint::Endpoint;
 use coap_message::{Datagram, LAST_MOMENT, MOST_JITTER, Moment, OutOfMemory};
-use coap_model::{ClientCounts, Counts, DueItem, Limits, Report, laws};
+use coap_model::{ClientCounts, Counts, Did, DueItem, Limits, Report, laws};
 use coap_store::Store;
 use coap_target::Routes;
 use std::alloc::Global;
@@ -132,63 +131,43 @@ impl<S: Store + Drop> Core<S> {
         requires room { self.old.setting.limits.datagram ≤ out.old.room }
         requires events { self.old.events < 2 ^ 63 }
 
-        // The report, the datagram and the core after the step are determined, and the datagram
-        // isn't too long. `grown_of` is what the report alone says: whether there was memory for
-        // one more entry of the store.
-        ensures exact { IfOk result (λ report.
-            Does (step_of self.old now draw (grown_of report.outcome) (seen event.entry)) report
-            out.old out.new self.new) }
+        // All that is promised of a step is in the fields of this record: the report, the datagram
+        // and the core after the step are determined; what is carried is promised; the limits hold;
+        // and where memory runs out, which is said of it, nothing happens.
+        ensures done { IsStepDone now draw (seen event.entry) result self.old self.new out.old
+            out.new }
+    {
+        match self.step_told(now, draw, event, out) {
+            Ok(did) => Ok(did.report()),
+            Err(error) => Err(error),
+        }
+    }
 
-        ensures short { length out.new.bytes ≤ self.new.setting.limits.datagram }
+    /// `step`, which says in full what it did: its case, the exchange or the waiter that it is
+    /// about, and why. All else is as there.
+    ///
+    /// # Errors
+    /// Out of memory, as `step`.
+    pub fn step_told(
+        &mut self,
+        now: Moment,
+        draw: u16,
+        event: Event<'_>,
+        out: &mut Datagram,
+    ) -> Result<Did, OutOfMemory>
+        requires moment { now ≤ 2 ^ 62 }
+        requires onward { self.old.last ≤ now }
+        requires draw { draw ≤ 1000 }
+        requires room { self.old.setting.limits.datagram ≤ out.old.room }
+        requires events { self.old.events < 2 ^ 63 }
 
-        // A core that carries a history then carries it with the step's observation in front.
-        ensures carries { IfOk result (λ report.
-            CarriesOn self.old (observation_told now draw (seen event.entry) report out.new.bytes)
-            self.new) }
-
-        // So what it promises of earlier steps it promises of this one.
-        ensures promised { IfOk result (λ report.
-            PromisesOn self.old (observation_told now draw (seen event.entry) report out.new.bytes)
-            self.new) }
-
-        // In short: at each event the limits hold; each reply from the cache was received for an
-        // equal key, is fresh, and its target is unchanged; and each duplicate gets the reply that
-        // was kept.
-        ensures word { IfOk result (λ report.
-            KeepsWordOn self.old (observation_told now draw (seen event.entry) report out.new.bytes)
-            self.new) }
-
-        // One client leaves room for the others: below its own limits a client is turned away only
-        // if a shared limit is reached or too few Message IDs are free, and if few enough endpoints
-        // have sent anything, only if too few Message IDs are free.
-        ensures shares { IfOk result (λ report.
-            LeavesRoomOn self.old
-            (observation_told now draw (seen event.entry) report out.new.bytes)
-            self.new) }
-
-        // The settings don't change, and the tables stay within the limits and within the bound on
-        // bytes.
-        ensures setting { self.new.setting ≡ self.old.setting }
-        ensures limits { AreWithinLimits self.new }
-
-        // If it runs out of memory, nothing happened.
-        ensures err { OnErr result (self.new ≡ self.old) }
-        ensures none { OnErr result (out.new ≡ holding out.old []) }
-
-        // It can only run out of memory when a new request is remembered, a response becomes the
-        // answer of its exchange, or a client is sent an answer that is kept until it is
-        // acknowledged. So a tick only allocates to send a client its answer in a Confirmable
-        // message, and neither a duplicate, nor a datagram without a message, nor one with an Empty
-        // message allocates: the proxy's own answer for an exchange whose request was rejected with
-        // a Reset takes no memory.
-        ensures memory { OnErr result
-            (wants_memory (step_of self.old now draw true (seen event.entry)) ≡ true) }
-        ensures ticks { seen event.entry ≡ tick
-            → OnErr result (GivesConfirmable (on_tick self.old now draw)) }
-        ensures unread { IsUnread self.old.setting.limits.datagram (seen event.entry)
-            → IsOk result }
-        ensures empty { HoldsEmpty self.old.setting.limits.datagram (seen event.entry)
-            → IsOk result }
+        // What was done is the deed of the step, and all else is as `step` promises.
+        ensures exact { IfOk result (λ did.
+            DoesSo
+            (step_of self.old now draw (grown_of (outcome_of did.deed)) (seen event.entry))
+            did out.old out.new self.new) }
+        ensures done { IsStepDone now draw (seen event.entry) (in_short result) self.old self.new
+            out.old out.new }
     {
         laws::steps_are_carried();
         laws::what_is_carried_is_promised();

@@ -20,12 +20,11 @@ ghost use Rattle.coap_core.specs.declared.requests.Verdict.TheVariants as verdic
 
 use crate::arrival::Arrival;
 use crate::known::reply_kind;
-use crate::misses::Miss;
 use crate::request_target::{CacheQuery, RequestTarget};
 use crate::state::{State, silent};
 use coap_forward::{put_bare, put_stored};
 use coap_message::{Code, Datagram, MessageRef, OutOfMemory, Token};
-use coap_model::{Outcome, Report};
+use coap_model::{Deed, Did, Held, Refusal};
 use coap_option::{Survey, survey_request};
 use coap_store::{Envelope, Store};
 use coap_target::{TargetError, laws};
@@ -33,8 +32,8 @@ use coap_target::{TargetError, laws};
 /// The verdict on a request, apart from its length, the room, and what is stored.
 #[derive(Drop)]
 pub(crate) enum Verdict {
-    /// It is refused with this code.
-    RefusedWith(Code),
+    /// It is refused for this.
+    RefusedWith(Refusal),
     /// It may be forwarded.
     MayAsk,
 }
@@ -62,7 +61,7 @@ impl<S: Store + Drop> State<S> {
         arrival: Arrival<'_, '_>,
         query: &mut CacheQuery,
         out: &mut Datagram,
-    ) -> Result<Report, OutOfMemory>
+    ) -> Result<Did, OutOfMemory>
         requires can { CanDo (of_arrival (on_request self.old) arrival)
             arrival.now self.old out.old }
         ensures done { IsDone
@@ -71,12 +70,12 @@ impl<S: Store + Drop> State<S> {
         ensures memory { OnErr result
             (wants_memory (of_arrival (on_request self.old) arrival.entry) ≡ true) }
     {
-        if let Some(report) = self.repeat(arrival, out) {
+        if let Some(did) = self.repeat(arrival, out) {
             self.advance(arrival.now);
-            return Ok(report);
+            return Ok(did);
         }
         if !self.has_record_room(arrival.now, arrival.from, arrival.message.kind()) {
-            return Ok(self.drop_message(arrival.now, out));
+            return Ok(self.drop_message(arrival.now, arrival.message.kind(), out));
         }
         self.on_new(arrival, query, out)
     }
@@ -87,7 +86,7 @@ impl<S: Store + Drop> State<S> {
         arrival: Arrival<'_, '_>,
         query: &mut CacheQuery,
         out: &mut Datagram,
-    ) -> Result<Report, OutOfMemory>
+    ) -> Result<Did, OutOfMemory>
         requires new { CanRemember arrival.now arrival.from arrival.message.now self.old }
         requires can { CanDo (of_arrival (on_new self.old) arrival) arrival.now self.old out.old }
         ensures { IsDoneFor arrival.entry
@@ -101,7 +100,7 @@ impl<S: Store + Drop> State<S> {
             return self.lack_id(arrival, out);
         }
         match self.verdict_of(arrival.message, query)? {
-            Verdict::RefusedWith(code) => self.refuse(arrival, code, out),
+            Verdict::RefusedWith(why) => self.refuse(arrival, why, out),
             Verdict::MayAsk => self.on_key(arrival, query, out),
         }
     }
@@ -123,19 +122,20 @@ impl<S: Store + Drop> State<S> {
             verdict ≡ verdicts.MayAsk → IsSurvey request.now query.new.survey) }
     {
         if !is_method(request.code()) {
-            return Ok(Verdict::RefusedWith(Code::METHOD_NOT_ALLOWED));
+            return Ok(Verdict::RefusedWith(Refusal::Method));
         }
-        let Ok(survey) = survey_request(request) else {
-            return Ok(Verdict::RefusedWith(Code::BAD_OPTION));
+        let survey = match survey_request(request) {
+            Ok(survey) => survey,
+            Err(bad) => return Ok(Verdict::RefusedWith(Refusal::Option(bad.number))),
         };
         match self.target_of(request, survey) {
             Ok(target) => {
                 query.read(&target, request, survey, self.store.secret())?;
                 Ok(Verdict::MayAsk)
             }
-            Err(TargetError::BadUri) => Ok(Verdict::RefusedWith(Code::BAD_REQUEST)),
-            Err(TargetError::NotProxied) => Ok(Verdict::RefusedWith(Code::PROXYING_NOT_SUPPORTED)),
-            Err(TargetError::NotFound) => Ok(Verdict::RefusedWith(Code::NOT_FOUND)),
+            Err(TargetError::BadUri) => Ok(Verdict::RefusedWith(Refusal::Uri)),
+            Err(TargetError::NotProxied) => Ok(Verdict::RefusedWith(Refusal::NotProxied)),
+            Err(TargetError::NotFound) => Ok(Verdict::RefusedWith(Refusal::NoMap)),
             Err(TargetError::OutOfMemory) => Err(OutOfMemory),
         }
     }
@@ -147,7 +147,7 @@ impl<S: Store + Drop> State<S> {
         arrival: Arrival<'_, '_>,
         query: &CacheQuery,
         out: &mut Datagram,
-    ) -> Result<Report, OutOfMemory>
+    ) -> Result<Did, OutOfMemory>
         requires reply { CanReplyTo arrival self.old }
         requires asked { IsAsked self.old arrival.message.now query.now }
         requires can { CanDo (of_arrival (on_key self.old) arrival query.now.key)
@@ -157,15 +157,15 @@ impl<S: Store + Drop> State<S> {
             result out.old out.new self.old self.new }
     {
         if !is_get(arrival.message.code()) {
-            return self.on_exchange_needed(arrival, query, Miss::Nothing, out);
+            return self.on_exchange_needed(arrival, query, Held::NotGet, out);
         }
         match self.put_usable(arrival, query, out) {
             Ok(()) => {
-                let report = self.reply(arrival, Outcome::Hit, out)?;
+                let did = self.reply(arrival, Deed::Hit, out)?;
                 self.store.touch(&query.key);
-                Ok(report)
+                Ok(did)
             }
-            Err(miss) => self.on_miss(arrival, query, miss, out),
+            Err(held) => self.on_miss(arrival, query, held, out),
         }
     }
 
@@ -178,7 +178,7 @@ impl<S: Store + Drop> State<S> {
         arrival: Arrival<'_, '_>,
         query: &CacheQuery,
         out: &mut Datagram,
-    ) -> Result<(), Miss>
+    ) -> Result<(), Held>
         requires get { is_get arrival.message.now.code ≡ true }
         requires ids { can_reply self.now arrival.now arrival.message.now.kind ≡ true }
         requires tags { query.now.tags ≡ tags_of arrival.message.now }
@@ -207,8 +207,9 @@ impl<S: Store + Drop> State<S> {
                 put_stored(arrival.now, stored, envelope, out);
                 Ok(())
             }
-            Some(_) => Err(Miss::Unusable),
-            None => Err(Miss::Nothing),
+            Some(stored) if stored.marked => Err(Held::Marked),
+            Some(_) => Err(Held::Stale),
+            None => Err(Held::Absent),
         }
     }
 
@@ -240,31 +241,27 @@ impl<S: Store + Drop> State<S> {
         }
     }
 
-    /// Refuses the request with a code.
+    /// Refuses the request.
     pub(crate) fn refuse(
         &mut self,
         arrival: Arrival<'_, '_>,
-        code: Code,
+        why: Refusal,
         out: &mut Datagram,
-    ) -> Result<Report, OutOfMemory>
-        requires can { CanSend (of_arrival (refuses self.old) arrival code)
+    ) -> Result<Did, OutOfMemory>
+        requires can { CanSend (of_arrival (refuses self.old) arrival why)
             arrival self.old out.old }
         ensures { IsDoneFor arrival.entry
-            (of_arrival (refuses self.old) arrival.entry code)
+            (of_arrival (refuses self.old) arrival.entry why)
             result out.old out.new self.old self.new }
     {
-        let head = self.reply_head(arrival.message, code);
+        let head = self.reply_head(arrival.message, why.code());
         let token = Token::new(arrival.message.token());
         put_bare(head, &token, out);
-        self.reply(arrival, Outcome::Refused(code), out)
+        self.reply(arrival, Deed::Refused(why), out)
     }
 
     /// Remembers a request and sends nothing, because no Message ID is free for a reply.
-    fn lack_id(
-        &mut self,
-        arrival: Arrival<'_, '_>,
-        out: &mut Datagram,
-    ) -> Result<Report, OutOfMemory>
+    fn lack_id(&mut self, arrival: Arrival<'_, '_>, out: &mut Datagram) -> Result<Did, OutOfMemory>
         requires can { CanGoOn self.old }
         requires new { CanRemember arrival.now arrival.from arrival.message.now self.old }
         ensures { IsDoneFor arrival.entry
@@ -274,6 +271,6 @@ impl<S: Store + Drop> State<S> {
         out.clear();
         self.remember(arrival, &[])?;
         self.advance(arrival.now);
-        Ok(silent(Outcome::NoId))
+        Ok(silent(Deed::LackedId))
     }
 }

@@ -5,13 +5,14 @@ ghost use Rattle.coap_message.specs.Datagram.{holding};
 ghost use Rattle.coap_endpoint.specs.Endpoint.{same_endpoint};
 ghost use Rattle.coap_forward.specs.Messages.{is_con};
 ghost use Rattle.coap_forward.specs.Changes.{changed_by};
+ghost use Rattle.coap_model.specs.Deeds.{outcome_of};
 ghost use Rattle.coap_model.specs.Answers.{answer_for, may_store, with_changed};
 ghost use Rattle.coap_pending.specs.Exchanges.{is_in_flight};
 ghost use Rattle.coap_model.specs.Responses.{has_id, awaiting, on_response};
 ghost use Rattle.coap_model.specs.History.{grown_of};
 ghost use Rattle.coap_core.specs.Arrivals.{of_arrival, of_grown};
 ghost use Rattle.coap_core.specs.Storing.{IsKept, answering_at, not_confirmable_step, confirmable_step, new_confirmable_step, if_storable, targets_in, accepted, accepted_bytes, accepted_to};
-ghost use Rattle.coap_core.specs.Done.{Does, IsDoneBy, wants_memory};
+ghost use Rattle.coap_core.specs.Done.{DoesSo, IsDoneBy, wants_memory};
 ghost use Rattle.coap_core.specs.Needs.{CanDo, CanGoOn, CanRemember, IsNew, IsUnansweredAt};
 
 use crate::arrival::Arrival;
@@ -21,7 +22,7 @@ use coap_endpoint::{Endpoint, Target};
 use coap_exchange::{Answer, Exchange, ExchangeNumber};
 use coap_forward::{AnsweredRequest, answer_of, created_by, is_change, is_storable, number_of};
 use coap_message::{Datagram, Kind, MessageRef, Moment, OutOfMemory};
-use coap_model::{Outcome, Report, Storing};
+use coap_model::{Deed, Did, Storing, Unprocessed};
 use coap_store::{Put, SharedKey, Store, Stored};
 use std::alloc::Global;
 
@@ -96,7 +97,7 @@ impl<S: Store + Drop> State<S> {
         &mut self,
         arrival: Arrival<'_, '_>,
         out: &mut Datagram,
-    ) -> Result<Report, OutOfMemory>
+    ) -> Result<Did, OutOfMemory>
         requires can { CanDo (of_grown (on_response self.old) arrival true)
             arrival.now self.old out.old }
         ensures done { IsDoneBy (of_grown (on_response self.old) arrival.entry)
@@ -115,7 +116,7 @@ impl<S: Store + Drop> State<S> {
         &mut self,
         arrival: Arrival<'_, '_>,
         out: &mut Datagram,
-    ) -> Result<Report, OutOfMemory>
+    ) -> Result<Did, OutOfMemory>
         requires can { CanGoOn self.old }
         requires other { is_con arrival.message.now.kind ≡ false }
         requires room { self.old.setting.limits.datagram ≤ out.old.room }
@@ -129,7 +130,7 @@ impl<S: Store + Drop> State<S> {
                 self.seek_exchange(number);
                 self.answer(arrival, number, out)
             }
-            None => Ok(self.ignore(arrival.now, out)),
+            None => Ok(self.ignore(arrival.now, Unprocessed::NoExchange, out)),
         }
     }
 
@@ -138,7 +139,7 @@ impl<S: Store + Drop> State<S> {
         &mut self,
         arrival: Arrival<'_, '_>,
         out: &mut Datagram,
-    ) -> Result<Report, OutOfMemory>
+    ) -> Result<Did, OutOfMemory>
         requires con { is_con arrival.message.now.kind ≡ true }
         requires can { CanDo (of_grown (confirmable_step self.old) arrival true)
             arrival.now self.old out.old }
@@ -147,9 +148,9 @@ impl<S: Store + Drop> State<S> {
         ensures memory { OnErr result
             (wants_memory (of_grown (confirmable_step self.old) arrival.entry true) ≡ true) }
     {
-        if let Some(report) = self.repeat(arrival, out) {
+        if let Some(did) = self.repeat(arrival, out) {
             self.advance(arrival.now);
-            return Ok(report);
+            return Ok(did);
         }
         self.on_new_confirmable(arrival, out)
     }
@@ -160,7 +161,7 @@ impl<S: Store + Drop> State<S> {
         &mut self,
         arrival: Arrival<'_, '_>,
         out: &mut Datagram,
-    ) -> Result<Report, OutOfMemory>
+    ) -> Result<Did, OutOfMemory>
         requires can { CanGoOn self.old }
         requires con { is_con arrival.message.now.kind ≡ true }
         requires new { IsNew arrival.now arrival.from arrival.message.now self.old }
@@ -174,10 +175,11 @@ impl<S: Store + Drop> State<S> {
             (wants_memory (of_grown (new_confirmable_step self.old) arrival.entry true) ≡ true) }
     {
         let Some(number) = self.awaiting(arrival.from, arrival.message) else {
-            return Ok(self.reject(arrival.now, arrival.from, arrival.message.id(), out));
+            let why = Unprocessed::NoExchange;
+            return Ok(self.reject(arrival.now, arrival.from, arrival.message.id(), why, out));
         };
         if !self.has_record_room(arrival.now, arrival.from, arrival.message.kind()) {
-            return Ok(self.drop_message(arrival.now, out));
+            return Ok(self.drop_message(arrival.now, arrival.message.kind(), out));
         }
         self.seek_exchange(number);
         self.answer(arrival, number, out)
@@ -210,15 +212,17 @@ impl<S: Store + Drop> State<S> {
         arrival: Arrival<'_, '_>,
         number: ExchangeNumber,
         out: &mut Datagram,
-    ) -> Result<Report, OutOfMemory>
+    ) -> Result<Did, OutOfMemory>
         requires can { CanGoOn self.old }
         requires unanswered { IsUnansweredAt number self.old.exchanges }
         requires new { is_con arrival.message.now.kind ≡ true
             → CanRemember arrival.now arrival.from arrival.message.now self.old }
         requires room { self.old.setting.limits.datagram ≤ out.old.room }
-        ensures exact { IfOk result (λ report.
-            IfSome (of_grown (answering_at self.old) arrival.entry (grown_of report.outcome) number)
-            (λ step. Does step report out.old out.new self.new)) }
+        ensures exact { IfOk result (λ did.
+            IfSome
+            (of_grown (answering_at self.old) arrival.entry (grown_of (outcome_of did.deed))
+            number)
+            (λ step. DoesSo step did out.old out.new self.new)) }
         ensures err { OnErr result (self.new ≡ self.old) }
         ensures kept { out.new.room ≡ out.old.room }
     {
@@ -234,9 +238,12 @@ impl<S: Store + Drop> State<S> {
         let storing = self.store_entry(entry);
         self.under_way.answered(number, answer);
         self.advance(arrival.now);
-        Ok(Report {
+        Ok(Did {
             send,
-            outcome: Outcome::Answered { storing },
+            deed: Deed::Answered {
+                exchange: number,
+                storing,
+            },
         })
     }
 

@@ -3,7 +3,7 @@ ghost use Rattle.std.specs.Prelude.{◌≡◌, ◌+◌, ◌<◌, ◌^◌, None, 
 ghost use Rattle.coap_pending.specs.Ids.{called, left_of};
 ghost use Rattle.coap_pending.specs.Table.{seeded_table};
 ghost use Rattle.coap_limits.specs.Limits.{AreLimits};
-ghost use Rattle.coap_model.specs.State.{next_id, later, reserved, has_ids, has_exchange_room, has_waiter_room, has_room_to_join, has_room_to_open, new_state, no_con_records, no_non_records, client_counts, counts};
+ghost use Rattle.coap_model.specs.State.{next_id, later, reserved, has_ids, has_exchange_room, has_waiter_room, has_room_to_join, has_room_to_open, lacks_to_join, lacks_to_open, new_state, no_con_records, no_non_records, client_counts, counts};
 ghost use Rattle.coap_core.specs.Settings.{seen};
 ghost use Rattle.coap_core.specs.Needs.{CanGoOn, CanStep};
 
@@ -12,7 +12,7 @@ use coap_dedup::{EXCHANGE_LIFETIME, NON_LIFETIME, Records};
 use coap_endpoint::Endpoint;
 use coap_exchange::{ExchangeNumber, Exchanges, Ids, UnderWay, Waiters};
 use coap_message::{Moment, OutOfMemory};
-use coap_model::{ClientCounts, Counts, Limits, Outcome, Report};
+use coap_model::{ClientCounts, Counts, Deed, Did, Lacks, Limits};
 use coap_store::Store;
 use endpoint_counts::DigestedEndpoint;
 use std::alloc::Global;
@@ -213,6 +213,39 @@ impl<S: Store + Drop> State<S> {
         self.has_exchange_room(client) && self.has_waiter_room(client) && self.has_ids(2, now)
     }
 
+    /// What is lacking where there is no room for one more waiter of this client.
+    pub(crate) fn lacks_to_join(&self, now: Moment, client: DigestedEndpoint) -> Lacks
+        requires ready { CanStep now self.now }
+        ensures { result ≡ lacks_to_join self.now now client }
+    {
+        let limits = self.setting.limits.values();
+        let waiters = self.under_way.waiters();
+        Lacks {
+            exchanges: false,
+            client_exchanges: false,
+            waiters: limits.waiters <= waiters.len() as u64,
+            client_waiters: limits.client_waiters <= waiters.count_of_peer(client) as u64,
+            ids: !self.has_ids(1, now),
+        }
+    }
+
+    /// What is lacking where there is no room for one more exchange, and for a waiter of this
+    /// client, which opens it.
+    pub(crate) fn lacks_to_open(&self, now: Moment, client: DigestedEndpoint) -> Lacks
+        requires ready { CanStep now self.now }
+        ensures { result ≡ lacks_to_open self.now now client }
+    {
+        let limits = self.setting.limits.values();
+        let (exchanges, waiters) = (self.under_way.exchanges(), self.under_way.waiters());
+        Lacks {
+            exchanges: limits.exchanges <= exchanges.len() as u64,
+            client_exchanges: limits.client_exchanges <= exchanges.count_of_peer(client) as u64,
+            waiters: limits.waiters <= waiters.len() as u64,
+            client_waiters: limits.client_waiters <= waiters.count_of_peer(client) as u64,
+            ids: !self.has_ids(2, now),
+        }
+    }
+
     /// How much of what the proxy holds is an endpoint's.
     pub(crate) fn client_counts(&self, client: Endpoint) -> ClientCounts
         ensures { result ≡ client_counts self.now client }
@@ -274,12 +307,9 @@ fn new_records(alloc: Global, limits: &Limits) -> Result<(Records, Records), Out
     Ok((con_records, non_records))
 }
 
-/// A report of this outcome, with nothing sent.
-pub(crate) fn silent(outcome: Outcome) -> Report
-    ensures { result ≡ record { send = None; outcome = outcome } }
+/// This deed, with nothing sent.
+pub(crate) fn silent(deed: Deed) -> Did
+    ensures { result ≡ record { send = None; deed = deed } }
 {
-    Report {
-        send: None,
-        outcome,
-    }
+    Did { send: None, deed }
 }

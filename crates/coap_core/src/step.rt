@@ -1,5 +1,6 @@
 //! One step: a datagram or a tick at a moment.
 ghost use Rattle.std.specs.Prelude.{◌≡◌, ◌≤◌, ◌<◌, [], true, length, None, Some, IfOk, IsOk, OnErr, option_map};
+ghost use Rattle.coap_model.specs.Deeds.{outcome_of, unread};
 ghost use Rattle.coap_model.specs.Events.{tick};
 ghost use Rattle.coap_message.specs.declared.kind.Kind.{Kind};
 ghost use Rattle.coap_message.specs.Datagram.{holding};
@@ -10,7 +11,7 @@ ghost use Rattle.coap_model.specs.Step.{message_in, on_message, on_datagram, ste
 ghost use Rattle.coap_model.specs.Ticks.{item_due, on_tick};
 ghost use Rattle.coap_core.specs.Arrivals.{of_grown};
 ghost use Rattle.coap_core.specs.Events.{HoldsEmpty, IsUnread, seen};
-ghost use Rattle.coap_core.specs.Done.{Does, GivesConfirmable, IsDoneBy, wants_memory};
+ghost use Rattle.coap_core.specs.Done.{DoesSo, GivesConfirmable, IsDoneBy, wants_memory};
 ghost use Rattle.coap_core.specs.Needs.{CanDo, CanGoOn};
 
 use crate::arrival::Arrival;
@@ -21,7 +22,7 @@ use crate::timing::Timing;
 use coap_endpoint::Endpoint;
 use coap_forward::put_bare;
 use coap_message::{Code, Datagram, Head, Kind, MessageRef, Moment, OutOfMemory, Token, head_of};
-use coap_model::{DueItem, Outcome, Report};
+use coap_model::{Deed, Did, DueItem, Unprocessed};
 use coap_store::Store;
 
 impl<S: Store + Drop> State<S> {
@@ -35,14 +36,15 @@ impl<S: Store + Drop> State<S> {
         due: Option<DueItem>,
         query: &mut CacheQuery,
         out: &mut Datagram,
-    ) -> Result<Report, OutOfMemory>
+    ) -> Result<Did, OutOfMemory>
         requires due { due ≡ item_due self.old }
         requires can { CanDo (step_of self.old timing.now timing.draw true (seen event))
             timing.now self.old out.old }
-        ensures exact { IfOk result (λ report.
-            Does
-            (step_of self.old timing.now timing.draw (grown_of report.outcome) (seen event.entry))
-            report out.old out.new self.new) }
+        ensures exact { IfOk result (λ did.
+            DoesSo
+            (step_of self.old timing.now timing.draw (grown_of (outcome_of did.deed))
+            (seen event.entry))
+            did out.old out.new self.new) }
         ensures err { OnErr result (self.new ≡ self.old) }
         ensures none { OnErr result (out.new ≡ holding out.old []) }
         ensures memory { OnErr result
@@ -75,7 +77,7 @@ impl<S: Store + Drop> State<S> {
         bytes: &[u8],
         query: &mut CacheQuery,
         out: &mut Datagram,
-    ) -> Result<Report, OutOfMemory>
+    ) -> Result<Did, OutOfMemory>
         requires can { CanDo (on_datagram self.old now true source bytes.now) now self.old out.old }
         ensures done { IsDoneBy (λ grown. on_datagram self.old now grown source bytes.now)
             result out.old out.new self.old self.new }
@@ -97,8 +99,11 @@ impl<S: Store + Drop> State<S> {
             return self.on_message(arrival, query, out);
         }
         match head_of(bytes) {
-            Some(head) => Ok(self.unprocessed(now, source, head, out)),
-            None => Ok(self.ignore(now, out)),
+            Some(head) => {
+                let why = self.unread(bytes);
+                Ok(self.unprocessed(now, source, head, why, out))
+            }
+            None => Ok(self.ignore(now, self.unread(bytes), out)),
         }
     }
 
@@ -113,6 +118,17 @@ impl<S: Store + Drop> State<S> {
         MessageRef::read(bytes).ok()
     }
 
+    /// Why a datagram that holds no message isn't processed.
+    fn unread(&self, bytes: &[u8]) -> Unprocessed
+        ensures { result ≡ unread self.now.setting.limits.datagram bytes.now }
+    {
+        if bytes.len() > self.setting.limits.values().datagram as usize {
+            Unprocessed::Length
+        } else {
+            Unprocessed::Format
+        }
+    }
+
     /// Handles a request, a response or an Empty message; anything else isn't processed.
     #[tactic(auto, using(crate::proofs::Read::no_request, crate::proofs::Read::no_response))]
     fn on_message(
@@ -120,7 +136,7 @@ impl<S: Store + Drop> State<S> {
         arrival: Arrival<'_, '_>,
         query: &mut CacheQuery,
         out: &mut Datagram,
-    ) -> Result<Report, OutOfMemory>
+    ) -> Result<Did, OutOfMemory>
         requires can { CanDo (of_grown (on_message self.old) arrival true)
             arrival.now self.old out.old }
         ensures done { IsDoneBy (of_grown (on_message self.old) arrival.entry)
@@ -145,7 +161,8 @@ impl<S: Store + Drop> State<S> {
                     code: arrival.message.code(),
                     id: arrival.message.id(),
                 };
-                Ok(self.unprocessed(arrival.now, arrival.from, head, out))
+                let why = Unprocessed::of(kind, arrival.message.code());
+                Ok(self.unprocessed(arrival.now, arrival.from, head, why, out))
             }
         }
     }
@@ -157,17 +174,18 @@ impl<S: Store + Drop> State<S> {
         now: Moment,
         source: Endpoint,
         head: Head,
+        why: Unprocessed,
         out: &mut Datagram,
-    ) -> Report
+    ) -> Did
         requires can { CanGoOn self.old }
-        requires fits { length (unprocessed self.old now source head.kind head.id).bytes
+        requires fits { length (unprocessed self.old now source head.kind head.id why).bytes
             ≤ out.old.room }
-        ensures { Does (unprocessed self.old now source head.kind head.id) result out.old out.new
-            self.new }
+        ensures { DoesSo (unprocessed self.old now source head.kind head.id why) result
+            out.old out.new self.new }
     {
         match head.kind {
-            Kind::Con => self.reject(now, source, head.id, out),
-            Kind::Non | Kind::Ack | Kind::Rst => self.ignore(now, out),
+            Kind::Con => self.reject(now, source, head.id, why, out),
+            Kind::Non | Kind::Ack | Kind::Rst => self.ignore(now, why, out),
         }
     }
 
@@ -178,11 +196,12 @@ impl<S: Store + Drop> State<S> {
         now: Moment,
         source: Endpoint,
         id: u16,
+        why: Unprocessed,
         out: &mut Datagram,
-    ) -> Report
+    ) -> Did
         requires can { CanGoOn self.old }
-        requires fits { length (rejects self.old now source id).bytes ≤ out.old.room }
-        ensures { Does (rejects self.old now source id) result out.old out.new self.new }
+        requires fits { length (rejects self.old now source id why).bytes ≤ out.old.room }
+        ensures { DoesSo (rejects self.old now source id why) result out.old out.new self.new }
     {
         let head = Head {
             kind: Kind::Rst,
@@ -191,19 +210,19 @@ impl<S: Store + Drop> State<S> {
         };
         put_bare(head, &Token::empty(), out);
         self.advance(now);
-        Report {
+        Did {
             send: Some(source),
-            outcome: Outcome::Rejected,
+            deed: Deed::Rejected(why),
         }
     }
 
     /// Ignores a message.
-    pub(crate) fn ignore(&mut self, now: Moment, out: &mut Datagram) -> Report
+    pub(crate) fn ignore(&mut self, now: Moment, why: Unprocessed, out: &mut Datagram) -> Did
         requires { CanGoOn self.old }
-        ensures { Does (ignores self.old now) result out.old out.new self.new }
+        ensures { DoesSo (ignores self.old now why) result out.old out.new self.new }
     {
         out.clear();
         self.advance(now);
-        silent(Outcome::Ignored)
+        silent(Deed::Ignored(why))
     }
 }

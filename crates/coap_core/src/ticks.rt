@@ -8,7 +8,7 @@ ghost use Rattle.coap_model.specs.History.{is_con_datagram};
 ghost use Rattle.coap_model.specs.Ticks.{abandons, item_due, moment_of, gives_up, idles, on_tick, without_idle};
 ghost use Rattle.coap_pending.specs.Waiters as waiters;
 ghost use Rattle.coap_pending.specs.Waiters.{is_waiting};
-ghost use Rattle.coap_core.specs.Done.{Does, GivesConfirmable, IsDone};
+ghost use Rattle.coap_core.specs.Done.{DoesSo, GivesConfirmable, IsDone};
 ghost use Rattle.coap_core.specs.Dues.{HasAnswer, IsWaiterDue, IsExchangeDue, IsServed, answer_at, delivery_at, exchange_at, request_timeout_at, form_at, given_at, sending_at, waiters_after, delivery_timeout_at, waiter_at};
 ghost use Rattle.coap_core.specs.Needs.{CanDo, CanGoOn, CanStep, IsFound};
 
@@ -22,7 +22,7 @@ use coap_exchange::{
 };
 use coap_forward::{gateway_timeout, put_shown};
 use coap_message::{Datagram, Kind, Moment, OutOfMemory, Seq};
-use coap_model::{DueItem, Outcome, Report};
+use coap_model::{Deed, Did, DueItem, Silence};
 use coap_store::{Envelope, Store};
 
 /// The moment from which on this is due, if it is something.
@@ -58,7 +58,7 @@ impl<S: Store + Drop> State<S> {
         timing: Timing,
         due: Option<DueItem>,
         out: &mut Datagram,
-    ) -> Result<Report, OutOfMemory>
+    ) -> Result<Did, OutOfMemory>
         requires due { due ≡ item_due self.old }
         requires can { CanDo (on_tick self.old timing.now timing.draw) timing.now self.old out.old }
         ensures done { IsDone (on_tick self.old timing.now timing.draw)
@@ -104,29 +104,30 @@ impl<S: Store + Drop> State<S> {
     }
 
     /// Nothing is due.
-    fn idle(&mut self, now: Moment, out: &mut Datagram) -> Report
+    fn idle(&mut self, now: Moment, out: &mut Datagram) -> Did
         requires { CanGoOn self.old }
-        ensures { Does (idles self.old now) result out.old out.new self.new }
+        ensures { DoesSo (idles self.old now) result out.old out.new self.new }
     {
         out.clear();
         self.advance(now);
-        silent(Outcome::Idle)
+        silent(Deed::Idle)
     }
 
     // ---- requests
 
     /// Handles the exchange numbered `number`, which is due: it times out at its deadline, and
     /// before that its request is sent, sent again, or given up after its last timeout.
-    fn on_exchange(&mut self, timing: Timing, number: ExchangeNumber, out: &mut Datagram) -> Report
+    fn on_exchange(&mut self, timing: Timing, number: ExchangeNumber, out: &mut Datagram) -> Did
         requires due { IsFound (IsExchangeDue self.old timing.now) number self.old.exchanges }
         requires can { CanDo (exchange_at self.old timing number) timing.now self.old out.old }
-        ensures { Does (exchange_at self.old timing number) result out.old out.new self.new }
+        ensures { DoesSo (exchange_at self.old timing number) result out.old out.new self.new }
     {
         let Some(exchange) = self.under_way.exchange(number) else {
             unreachable!()
         };
         if self.is_late(timing.now, exchange) {
-            return self.give_up(timing.now, number, out);
+            let silence = Silence::of(&exchange.state);
+            return self.give_up(timing.now, number, silence, out);
         }
         let to = exchange.key.key().target.at;
         let due = Addressed { number, to };
@@ -147,11 +148,11 @@ impl<S: Store + Drop> State<S> {
 
     /// Sends the request of an exchange to its origin, with a new Message ID. It is to be sent
     /// again until it is acknowledged or answered (RFC 7252, 4.2).
-    fn send(&mut self, timing: Timing, due: Addressed, out: &mut Datagram) -> Report
+    fn send(&mut self, timing: Timing, due: Addressed, out: &mut Datagram) -> Did
         requires queued { IsFound (λ x. (is_queued x ≡ true) × (due.to ≡ x.key.target.at))
             due.number self.old.exchanges }
         requires can { CanDo (sending_at self.old timing due.number) timing.now self.old out.old }
-        ensures { Does (sending_at self.old timing due.number) result out.old out.new self.new }
+        ensures { DoesSo (sending_at self.old timing due.number) result out.old out.new self.new }
     {
         let (asked, timer) = (self.events, Timer::start(timing.now, timing.draw));
         let id = self.take_id(timing.now);
@@ -159,31 +160,35 @@ impl<S: Store + Drop> State<S> {
         self.under_way.send(due.number, sending);
         self.put_form(due.number, out);
         self.advance(timing.now);
-        Report {
+        Did {
             send: Some(due.to),
-            outcome: Outcome::SentRequest,
+            deed: Deed::Sent {
+                exchange: due.number,
+            },
         }
     }
 
     /// Handles the end of the current timeout of an exchange: its request is retransmitted, with
     /// the same bytes, or given up (RFC 7252, 4.2).
-    fn on_request_timeout(&mut self, now: Moment, due: Addressed, out: &mut Datagram) -> Report
+    fn on_request_timeout(&mut self, now: Moment, due: Addressed, out: &mut Datagram) -> Did
         requires ended { IsFound (λ x. IsDue now x × (due.to ≡ x.key.target.at)) due.number
             self.old.exchanges }
         requires can { CanDo (request_timeout_at self.old now due.number) now self.old out.old }
-        ensures { Does (request_timeout_at self.old now due.number) result out.old out.new
+        ensures { DoesSo (request_timeout_at self.old now due.number) result out.old out.new
             self.new }
     {
         match self.under_way.fire(due.number, now) {
             Fire::Again => {
                 self.put_form(due.number, out);
                 self.advance(now);
-                Report {
+                Did {
                     send: Some(due.to),
-                    outcome: Outcome::Resent,
+                    deed: Deed::Resent {
+                        exchange: due.number,
+                    },
                 }
             }
-            Fire::GiveUp => self.give_up(now, due.number, out),
+            Fire::GiveUp => self.give_up(now, due.number, Silence::NotAcknowledged, out),
         }
     }
 
@@ -202,16 +207,25 @@ impl<S: Store + Drop> State<S> {
 
     /// Answers the exchange numbered `number` with 5.04, because no answer came in time (RFC 7252,
     /// 5.7.1 and 5.9.3.5).
-    fn give_up(&mut self, now: Moment, number: ExchangeNumber, out: &mut Datagram) -> Report
+    fn give_up(
+        &mut self,
+        now: Moment,
+        number: ExchangeNumber,
+        silence: Silence,
+        out: &mut Datagram,
+    ) -> Did
         requires events { self.old.events < 2 ^ 63 }
         requires unanswered { IfSome (item_at number self.old.exchanges) (λ x. is_done x ≡ false) }
-        ensures { Does (gives_up self.old now number) result out.old out.new self.new }
+        ensures { DoesSo (gives_up self.old now number silence) result out.old out.new self.new }
     {
         self.under_way
             .answered(number, gateway_timeout(self.alloc, now));
         out.clear();
         self.advance(now);
-        silent(Outcome::GaveUp)
+        silent(Deed::GaveUp {
+            exchange: number,
+            silence,
+        })
     }
 
     // ---- waiters
@@ -223,7 +237,7 @@ impl<S: Store + Drop> State<S> {
         timing: Timing,
         number: WaiterNumber,
         out: &mut Datagram,
-    ) -> Result<Report, OutOfMemory>
+    ) -> Result<Did, OutOfMemory>
         requires due { IsFound (IsWaiterDue self.old timing.now) number self.old.waiters }
         requires can { CanDo (waiter_at self.old timing number) timing.now self.old out.old }
         ensures done { IsDone (waiter_at self.old timing number)
@@ -290,7 +304,7 @@ impl<S: Store + Drop> State<S> {
         timing: Timing,
         delivery: Delivery,
         out: &Datagram,
-    ) -> Result<Report, OutOfMemory>
+    ) -> Result<Did, OutOfMemory>
         requires ready { CanStep timing.now self.old }
         requires waits { IsFound (IsServed delivery) delivery.waiter.number self.old.waiters }
         requires answered { HasAnswer delivery.exchange self.old.exchanges }
@@ -303,9 +317,12 @@ impl<S: Store + Drop> State<S> {
         self.take_id(timing.now);
         self.close_if_unused(delivery.exchange);
         self.advance(timing.now);
-        Ok(Report {
+        Ok(Did {
             send: Some(delivery.waiter.to),
-            outcome: Outcome::Delivered,
+            deed: Deed::Delivered {
+                waiter: delivery.waiter.number,
+                exchange: delivery.exchange,
+            },
         })
     }
 
@@ -349,11 +366,11 @@ impl<S: Store + Drop> State<S> {
 
     /// Handles the end of the current timeout of a waiter that was sent its answer: the answer is
     /// retransmitted, with the same bytes, or abandoned (RFC 7252, 4.2).
-    fn on_delivery_timeout(&mut self, now: Moment, due: Addressed, out: &mut Datagram) -> Report
+    fn on_delivery_timeout(&mut self, now: Moment, due: Addressed, out: &mut Datagram) -> Did
         requires ended { IsFound (λ v. waiters.IsDue now v × (due.to ≡ v.client)) due.number
             self.old.waiters }
         requires can { CanDo (delivery_timeout_at self.old now due.number) now self.old out.old }
-        ensures { Does (delivery_timeout_at self.old now due.number) result out.old out.new
+        ensures { DoesSo (delivery_timeout_at self.old now due.number) result out.old out.new
             self.new }
     {
         match self.under_way.fire_waiter(due.number, now) {
@@ -361,9 +378,9 @@ impl<S: Store + Drop> State<S> {
             Fire::Again => {
                 self.put_answer(due.number, out);
                 self.advance(now);
-                Report {
+                Did {
                     send: Some(due.to),
-                    outcome: Outcome::Resent,
+                    deed: Deed::Redelivered { waiter: due.number },
                 }
             }
         }
@@ -386,13 +403,13 @@ impl<S: Store + Drop> State<S> {
     }
 
     /// Removes the waiter numbered `number`, which didn't acknowledge its answer in time.
-    fn abandon(&mut self, now: Moment, number: WaiterNumber, out: &mut Datagram) -> Report
+    fn abandon(&mut self, now: Moment, number: WaiterNumber, out: &mut Datagram) -> Did
         requires { self.old.events < 2 ^ 63 }
-        ensures { Does (abandons self.old now number) result out.old out.new self.new }
+        ensures { DoesSo (abandons self.old now number) result out.old out.new self.new }
     {
         self.under_way.close_waiter(number);
         out.clear();
         self.advance(now);
-        silent(Outcome::GaveUp)
+        silent(Deed::Abandoned { waiter: number })
     }
 }

@@ -1,5 +1,6 @@
 //! What is told of a turn, and to whom.
-ghost use Rattle.std.specs.Prelude.{◌≡◌, [], None, Some, false};
+ghost use Rattle.std.specs.Prelude.{◌≡◌, [], None, Some, false, option_map};
+ghost use Rattle.coap_model.specs.Deeds.{report_of};
 ghost use Rattle.coap_model.specs.Events.{event_given, IsEvent};
 ghost use Rattle.coap_model.specs.State.{State};
 ghost use Rattle.coap_core.specs.Events.{seen};
@@ -10,7 +11,7 @@ use crate::laws;
 use crate::proxy::Core;
 use coap_endpoint::Endpoint;
 use coap_message::Moment;
-use coap_model::Report;
+use coap_model::{Deed, Did, Report};
 use coap_store::Store;
 
 /// A turn that has begun, was done, or was lost: what it was, and what was done in it, if anything.
@@ -22,8 +23,8 @@ pub struct WatchedTurn<'a> {
     pub draw: u16,
     /// What happened: a datagram with its source, or a tick.
     pub event: Event<'a>,
-    /// What the step did; none if memory ran out, so that nothing was done.
-    pub report: Option<Report>,
+    /// What the step did, in full; none if memory ran out, so that nothing was done.
+    pub did: Option<Did>,
     /// The bytes that the report sends to an endpoint; none if it sends nothing.
     pub sent: &'a [u8],
     /// Whether the port took what was sent; true as well if nothing was sent, and false for a lost
@@ -52,7 +53,7 @@ impl<'a> WatchedTurn<'a> {
         ensures bytes { IsEvent (event_given from bytes.entry.now) }
         ensures lost { (w : State) → told result w ≡ record {
           turn = record { now = now; draw = draw; event = event_given from bytes.entry.now };
-          report = None;
+          did = None;
           bytes = [];
           went = false;
           state = w;
@@ -63,25 +64,47 @@ impl<'a> WatchedTurn<'a> {
             now,
             draw,
             event: event_of(from, bytes),
-            report: None,
+            did: None,
             sent: &[],
             went: false,
         }
     }
 
+    /// What the step did, in short.
+    #[inline(always)]
+    pub fn report(self) -> Option<Report>
+        ensures exact { result ≡ option_map report_of self.entry.did }
+    {
+        match self.did {
+            Some(did) => Some(did.report()),
+            None => None,
+        }
+    }
+
+    /// What the step did, without the destination of its datagram.
+    #[inline(always)]
+    pub fn deed(self) -> Option<Deed>
+        ensures exact { result ≡ option_map (λ did. did.deed) self.entry.did }
+    {
+        match self.did {
+            Some(did) => Some(did.deed),
+            None => None,
+        }
+    }
+
     /// The same turn, whose step was done: with what it did, the bytes that it sends, and whether
     /// they were taken.
-    pub fn done(self, report: Report, sent: &'a [u8], went: bool) -> WatchedTurn<'a>
+    pub fn done(self, did: Did, sent: &'a [u8], went: bool) -> WatchedTurn<'a>
         ensures { (w : State) → told result w ≡ record {
           turn = (told self.entry w).turn;
-          report = Some report;
+          did = Some did;
           bytes = sent.entry.now;
           went = went;
           state = w;
         } }
     {
         WatchedTurn {
-            report: Some(report),
+            did: Some(did),
             sent,
             went,
             ..self
@@ -104,7 +127,7 @@ impl<'a> WatchedTurn<'a> {
 ///     fn foresee<S: Store + Drop>(&mut self, _turn: WatchedTurn<'_>, _core: &Core<S>) {}
 ///
 ///     fn see<S: Store + Drop>(&mut self, turn: WatchedTurn<'_>, _core: &Core<S>) {
-///         if turn.report.is_none() {
+///         if turn.did.is_none() {
 ///             self.0 = turn.now;
 ///         }
 ///     }

@@ -2,8 +2,8 @@
 ghost use Rattle.std.specs.Prelude.{◌≡◌, ◌≤◌, is_some, length, slice_get};
 ghost use Rattle.std.specs.Option.{option_copied, option_map};
 ghost use Rattle.coap_pending.specs.Exchanges.{is_joinable, is_opened_by};
-ghost use Rattle.coap_pending.specs.Table.{first_that, item_at};
-ghost use Rattle.coap_pending.specs.Waiters.{is_of};
+ghost use Rattle.coap_pending.specs.Table.{count, first_that, item_at};
+ghost use Rattle.coap_pending.specs.Waiters.{is_of, waits_for};
 ghost use Rattle.endpoint_counts.specs.Clients.{AreOfClients};
 ghost use Rattle.coap_model.specs.State.{records_of};
 ghost use Rattle.coap_model.specs.Ticks.{item_due};
@@ -81,6 +81,20 @@ impl<S: Store + Drop> Core<S> {
     {
         let number = self.state.awaiting(from, response)?;
         self.state.under_way.exchange(number)
+    }
+
+    /// The exchange of this number, if it isn't closed.
+    pub fn exchange(&self, number: ExchangeNumber) -> Option<&Exchange>
+        ensures exact { option_copied result ≡ item_at number self.now.exchanges }
+    {
+        self.state.under_way.exchange(number)
+    }
+
+    /// How many waiters wait for the exchange of this number.
+    pub fn waiting_for(&self, number: ExchangeNumber) -> usize
+        ensures exact { result ≡ count (waits_for number) self.now.waiters }
+    {
+        self.state.under_way.waiters().waiting_for(number)
     }
 
     /// The exchange that was opened last, if it isn't closed yet.

@@ -1,10 +1,9 @@
 //! Counts of why exchanges were opened.
 ghost use Rattle.std.specs.Prelude.{◌≡◌};
-ghost use Rattle.std.specs.Option.{option_map};
 ghost use Rattle.coap_counts.specs.Openings as spec;
 
 use crate::requests::one_more;
-use coap_store::Stored;
+use coap_model::Held;
 
 /// How many exchanges were opened, by what the cache had for the request.
 #[derive(Clone, Copy, Debug, PartialEq, Eq)]
@@ -32,27 +31,15 @@ impl OpeningCounts {
         }
     }
 
-    /// Counts an exchange of a GET, for whose key this is stored.
-    fn count_get(&mut self, stored: Option<&Stored>)
-        ensures { self.new ≡ spec.with_get (option_map (λ s. s.now) stored.entry) self.old }
+    /// Counts an exchange that was opened while the cache had this for its request.
+    pub fn count(&mut self, held: Held)
+        ensures { self.new ≡ spec.with_opening held self.old }
     {
-        match stored {
-            None => one_more(&mut self.absent),
-            Some(stored) if stored.marked => one_more(&mut self.marked),
-            Some(_) => one_more(&mut self.stale),
-        }
-    }
-
-    /// Counts an exchange that was opened, for a GET or another method, while this is stored for
-    /// its key.
-    pub fn count(&mut self, is_get: bool, stored: Option<&Stored>)
-        ensures { self.new
-            ≡ spec.with_opening is_get (option_map (λ s. s.now) stored.entry) self.old }
-    {
-        if is_get {
-            self.count_get(stored);
-        } else {
-            one_more(&mut self.not_get);
+        match held {
+            Held::NotGet => one_more(&mut self.not_get),
+            Held::Absent => one_more(&mut self.absent),
+            Held::Marked => one_more(&mut self.marked),
+            Held::Stale => one_more(&mut self.stale),
         }
     }
 }

@@ -15,7 +15,7 @@ use Rattle.coap_model.specs.declared.report.Report.{Report}
 use Rattle.coap_model.specs.declared.report.Storing.{Storing}
 use Rattle.coap_model.specs.Events.{Event, arrival, tick}
 use Rattle.coap_model.specs.State.{State}
-use Rattle.coap_core.specs.Told.{Told}
+use Rattle.coap_core.specs.Told.{Told, report_told}
 use Rattle.coap_explain.specs.declared.answering.Answering.{Answering}
 use Rattle.coap_explain.specs.declared.answering.Answering.TheVariants.{Own, Passed, Unknown}
 use Rattle.coap_explain.specs.declared.due.TickSubject.{TickSubject}
@@ -216,6 +216,6 @@ line_of t time routed n = record {
   source = source_text t.turn.event;
   message = message_text t.turn.event;
   target = routed_text routed;
-  outcome = outcome_text t.report;
-  details = details_of t.turn.event t.report t.bytes t.turn.now t.state n;
+  outcome = outcome_text (report_told t);
+  details = details_of t.turn.event (report_told t) t.bytes t.turn.now t.state n;
 }

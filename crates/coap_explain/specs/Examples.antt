@@ -7,7 +7,7 @@ use Rattle.coap_endpoint.specs.declared.target.Target.{Target}
 use Rattle.coap_limits.specs.Limits.{Limits, default_limits}
 use Rattle.coap_target.specs.Examples.{fixed_routes}
 use Rattle.coap_model.specs.Examples.{answer, client, content, from, get_t_as, origin, proxy, tick_at}
-use Rattle.coap_model.specs.declared.report.Outcome.TheVariants.{Idle}
+use Rattle.coap_model.specs.declared.deed.Deed.TheVariants.{Idle}
 use Rattle.coap_model.specs.Runs.{Turn}
 use Rattle.coap_model.specs.State.{State, new_state}
 use Rattle.coap_core.specs.Told.{Told}
@@ -98,7 +98,7 @@ long_payload = 0xFF ∷ replicate 111 0x61
 abbrev pub lost : Told
 lost = record {
   turn = from 7 (client 1) (get_t_as 7 []);
-  report = None;
+  did = None;
   bytes = [];
   went = false;
   state = proxy;
@@ -107,7 +107,7 @@ lost = record {
 abbrev pub idle : Told
 idle = record {
   turn = tick_at 7;
-  report = Some (record { send = None; outcome = Idle });
+  did = Some (record { send = None; deed = Idle });
   bytes = [];
   went = true;
   state = record proxy { events = 1 };

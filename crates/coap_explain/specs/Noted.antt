@@ -22,7 +22,6 @@ use Rattle.coap_explain.specs.declared.answering.Answering.TheVariants.{Own, Pas
 use Rattle.coap_explain.specs.declared.causes.BadGateway.TheVariants.{Reset}
 use Rattle.coap_explain.specs.declared.causes.Silence.{Silence}
 use Rattle.coap_explain.specs.declared.causes.Silence.TheVariants.{NotSent, NotAcknowledged, NotAnswered}
-use Rattle.coap_explain.specs.declared.due.ResponseCause.{ResponseCause}
 use Rattle.coap_explain.specs.declared.due.TickSubject.{TickSubject}
 use Rattle.coap_explain.specs.declared.due.TickSubject.TheVariants as subjects
 use Rattle.coap_explain.specs.declared.due.DueAnswer.{DueAnswer}
@@ -95,35 +94,6 @@ due_in w (Some x) = subjects.Exchange (exchange_of x (due_waiting w))
 -- the exchange that is due, or else the client
 abbrev pub due_of : State → TickSubject
 due_of w = due_in w (due_exchange w)
-
--- ---- what came for an exchange, and why its clients get 5.02 if they do
-
-abbrev pub response_cause_sent :
-    Endpoint → Message → Exchange → Option Sending → Option ResponseCause
-response_cause_sent from m x None = None
-response_cause_sent from m x (Some s) =
-    Some (record { origin = from; id = s.id; cause = gateway_of m (Some x) })
-
-abbrev pub response_cause_for : Endpoint → Message → Exchange → Option ResponseCause
-response_cause_for from m x = response_cause_sent from m x x.sending
-
-abbrev pub response_cause_awaited : Endpoint → Message → Option Exchange → Option ResponseCause
-response_cause_awaited from m None = None
-response_cause_awaited from m (Some x) = response_cause_for from m x
-
-abbrev pub response_cause_with : State → Endpoint → Message → Option ResponseCause
-response_cause_with w from m =
-    if is_reset m.kind then Some (record { origin = from; id = m.id; cause = Reset })
-    else (if is_response m.code then response_cause_awaited from m (awaited w from m) else None)
-
-abbrev pub response_cause_read :
-    State → Endpoint → Result Message DecodeError → Option ResponseCause
-response_cause_read w from (Ok m) = response_cause_with w from m
-response_cause_read w from (Err e) = None
-
-abbrev pub response_cause_of : State → Event → Option ResponseCause
-response_cause_of w (arrival from bytes) = response_cause_read w from (read_message bytes)
-response_cause_of w tick = None
 
 -- ---- what is made of it
 

@@ -11,6 +11,7 @@ use Rattle.coap_model.specs.Runs.{Turn}
 use Rattle.coap_model.specs.State.{State, Step}
 use Rattle.coap_model.specs.Step.{step_of}
 use Rattle.coap_model.specs.Verdicts.{Verdict, may_ask, refused_with, verdict_of}
+use Rattle.coap_core.specs.Done.{did_of}
 use Rattle.coap_core.specs.Told.{Told}
 use Rattle.coap_core.specs.Watching.{due_exchange}
 use Rattle.coap_explain.specs.Account.{Noted, line_of, line_text}
@@ -50,7 +51,7 @@ noted_of before t after = record {
 
 abbrev pub told_of : Turn → Step → Told
 told_of t s =
-    record { turn = t; report = Some s.report; bytes = s.bytes; went = true; state = s.state }
+    record { turn = t; did = Some (did_of s); bytes = s.bytes; went = true; state = s.state }
 
 abbrev pub line_said : State → Turn → Step → List ℕ
 line_said w t s =

@@ -1,5 +1,5 @@
 //! Why a message was refused, ignored or dropped, in words, for an account and for a log. The
-//! causes are found again from the message and from what the proxy holds: a step doesn't give them.
+//! causes are found again from the message and from what the proxy holds, not from the step's deed.
 ghost use Rattle.std.specs.Prelude.{◌≡◌, ◌++◌, codes, OnOk};
 ghost use Rattle.std.specs.Io.KnownBytes.{Appends};
 ghost use Rattle.std.specs.Option.{option_copied};

@@ -1,16 +1,14 @@
 //! What a tick is about, noted before it: an exchange, or a client that is being sent its answer.
 ghost use Rattle.std.specs.Prelude.{◌≡◌, OnOk};
 ghost use Rattle.std.specs.Io.KnownBytes.{Appends};
-ghost use Rattle.coap_core.specs.Events.{seen};
-ghost use Rattle.coap_message.specs.Reading.{read_message};
 ghost use Rattle.coap_explain.specs.Account as text;
 ghost use Rattle.coap_explain.specs.Noted as spec;
 
-use crate::causes::{BadGateway, Silence};
+use crate::causes::Silence;
 use crate::messages::put_endpoint;
-use coap_core::{Core, Event, Exchange, Waiter};
+use coap_core::{Core, Exchange, Waiter};
 use coap_endpoint::Endpoint;
-use coap_message::{Code, Kind, MessageRef, Moment};
+use coap_message::{Code, Moment};
 use coap_pending::{ExchangeState, WaiterState};
 use coap_store::Store;
 use std::io;
@@ -88,7 +86,7 @@ fn answer_of(state: &ExchangeState) -> Option<DueAnswer>
 
 impl DueExchange {
     /// An exchange that this many waiters wait for.
-    fn of(exchange: &Exchange, waiting: usize) -> DueExchange
+    pub(crate) fn of(exchange: &Exchange, waiting: usize) -> DueExchange
         ensures { result ≡ spec.exchange_of exchange.now waiting }
     {
         let (id, transmissions) = match exchange.sending {
@@ -170,72 +168,6 @@ impl TickSubject {
         match DueClient::of(waiter) {
             Some(client) => TickSubject::Client(client),
             None => TickSubject::Nothing,
-        }
-    }
-}
-
-/// A response that came for an exchange, and why its clients get 5.02 in place of it, if they do;
-/// of one that is passed on, that says nothing. What becomes of the response isn't found here, as
-/// `Answering` finds it for `--explain`: that may allocate.
-#[derive(Clone, Copy, Debug, PartialEq, Eq)]
-pub(crate) struct ResponseCause {
-    pub(crate) origin: Endpoint,
-    /// The Message ID of the exchange's request.
-    pub(crate) id: u16,
-    pub(crate) cause: BadGateway,
-}
-
-impl ResponseCause {
-    /// What an event brings to an exchange of a core, if it does.
-    pub(crate) fn of<S: Store + Drop>(event: Event<'_>, core: &Core<S>) -> Option<ResponseCause>
-        ensures { result ≡ spec.response_cause_of core.now (seen event.entry) }
-    {
-        let Event::Datagram { from, bytes } = event else {
-            return None;
-        };
-        match MessageRef::read(bytes) {
-            Ok(message) => ResponseCause::of_message(from, &message, core),
-            Err(_) => None,
-        }
-    }
-
-    /// What a message brings to an exchange of a core, if it does.
-    fn of_message<S: Store + Drop>(
-        from: Endpoint,
-        message: &MessageRef<'_>,
-        core: &Core<S>,
-    ) -> Option<ResponseCause>
-        ensures { result ≡ spec.response_cause_with core.now from message.now }
-    {
-        if message.kind() == Kind::Rst {
-            return Some(ResponseCause {
-                origin: from,
-                id: message.id(),
-                cause: BadGateway::Reset,
-            });
-        }
-        if !message.code().is_response() {
-            return None;
-        }
-        let exchange = core.awaited(from, message)?;
-        ResponseCause::for_exchange(from, message, exchange)
-    }
-
-    /// What a response brings to the exchange that awaits it.
-    fn for_exchange(
-        from: Endpoint,
-        response: &MessageRef<'_>,
-        exchange: &Exchange,
-    ) -> Option<ResponseCause>
-        ensures { result ≡ spec.response_cause_for from response.now exchange.now }
-    {
-        match exchange.sending {
-            Some(sending) => Some(ResponseCause {
-                origin: from,
-                id: sending.id,
-                cause: BadGateway::of(response, Some(exchange)),
-            }),
-            None => None,
         }
     }
 }

@@ -1,5 +1,5 @@
-//! What is short where a message is turned away: found again from what the proxy holds, since a
-//! step doesn't give it.
+//! What is short where a message is turned away: found again from what the proxy holds, not from
+//! the step's deed.
 ghost use Rattle.std.specs.Prelude.{◌≡◌};
 ghost use Rattle.coap_explain.specs.Account as text;
 ghost use Rattle.coap_explain.specs.Lacks as spec;

@@ -5,16 +5,17 @@ ghost use Rattle.std.specs.Io.KnownBytes.{Appends};
 ghost use Rattle.coap_explain.specs.Logged as spec;
 
 use crate::causes::{BadGateway, Silence, joins, overload_of};
-use crate::due::{DueAnswer, DueExchange, ResponseCause, TickSubject};
+use crate::due::{DueAnswer, DueExchange, TickSubject};
 use crate::lacks::{Lacks, Usage};
 use crate::log_fields::{Cause, Fields, NotedCause, TargetText};
 use crate::log_lines::Failed;
 use crate::ring::Ring;
 use crate::silent::SilentOrigins;
-use coap_core::{Core, Event, Holder, Holders, LimitValues, Outcome, Report, Watch, WatchedTurn};
+use coap_core::{Core, Deed, Did, Event, Holder, Holders, LimitValues, Watch, WatchedTurn};
 use coap_endpoint::Endpoint;
 use coap_log::Limiter;
 use coap_message::{Code, LAST_MOMENT, MessageRef, Moment, OutOfMemory};
+use coap_pending::ExchangeNumber;
 use coap_store::Store;
 use std::alloc::Global;
 use std::io::Write;
@@ -41,7 +42,6 @@ pub struct Logger<W: Write> {
     /// Whether the output took only a part of the last line.
     pub(crate) torn: bool,
     due: TickSubject,
-    response: Option<ResponseCause>,
     causes: Ring<NotedCause>,
     silent: SilentOrigins,
     holders: Holders,
@@ -57,7 +57,6 @@ impl<W: Write + Drop> Drop for Logger<W> {
             left_out: _,
             torn: _,
             due: _,
-            response: _,
             causes: _,
             silent: _,
             holders: _,
@@ -86,7 +85,6 @@ impl<W: Write + Drop> Logger<W> {
             left_out: 0,
             torn: false,
             due: TickSubject::Nothing,
-            response: None,
             causes: Ring::new(alloc, CAUSES)?,
             silent: SilentOrigins::new(alloc)?,
             holders: Holders::new(alloc, limits)?,
@@ -95,40 +93,63 @@ impl<W: Write + Drop> Logger<W> {
 }
 
 impl<W: Write> Logger<W> {
-    /// Notes that an exchange was given up, and logs it.
-    fn on_given_up(&mut self, now: Moment) {
-        let TickSubject::Exchange(exchange) = self.due else {
+    /// Notes that the exchange of this number was given up, and logs it: so far it was.
+    fn on_given_up<S: Store + Drop>(
+        &mut self,
+        core: &Core<S>,
+        number: ExchangeNumber,
+        silence: Silence,
+        now: Moment,
+    ) {
+        let Some(exchange) = core.exchange(number) else {
             return;
         };
-        self.silent.note(exchange.origin, exchange.admitted);
-        if let Some(id) = exchange.id {
+        self.target.take(&exchange.key.target);
+        let given_up = DueExchange {
+            silence,
+            ..DueExchange::of(exchange, core.waiting_for(number))
+        };
+        self.silent.note(given_up.origin, given_up.admitted);
+        if let Some(id) = given_up.id {
             self.causes.note(NotedCause {
-                origin: exchange.origin,
+                origin: given_up.origin,
                 id,
                 got: now,
-                cause: Cause::Silence(exchange.silence),
+                cause: Cause::Silence(silence),
             });
         }
-        self.tell_given_up(&exchange, now);
+        self.tell_given_up(&given_up, now);
     }
 
-    /// Notes why an exchange got an answer of the proxy's own, if it is for what came.
-    fn note_answer(&mut self, now: Moment) {
-        let Some(response) = self.response else {
+    /// Notes why the exchange of this number got an answer of the proxy's own, if it did, for what
+    /// came.
+    fn note_answer<S: Store + Drop>(
+        &mut self,
+        core: &Core<S>,
+        number: ExchangeNumber,
+        bytes: &[u8],
+        now: Moment,
+    ) {
+        let Some(exchange) = core.exchange(number) else {
             return;
         };
-        match response.cause {
-            // `ResponseCause::of` says so of every response that has no other fault, also of those
-            // that are passed on; `cause_of` falls back on it.
-            BadGateway::TooLong => {}
-            BadGateway::Reset | BadGateway::Option(_) | BadGateway::Tag => {
-                self.causes.note(NotedCause {
-                    origin: response.origin,
-                    id: response.id,
-                    got: now,
-                    cause: Cause::BadGateway(response.cause),
-                });
-            }
+        let (Some(answer), Some(sending)) = (exchange.answer(), exchange.sending) else {
+            return;
+        };
+        if !answer.own {
+            return;
+        }
+        let Ok(message) = MessageRef::read(bytes) else {
+            return;
+        };
+        let cause = BadGateway::of(&message, Some(exchange));
+        if cause != BadGateway::TooLong {
+            self.causes.note(NotedCause {
+                origin: exchange.key.target.at,
+                id: sending.id,
+                got: now,
+                cause: Cause::BadGateway(cause),
+            });
         }
     }
 
@@ -235,59 +256,63 @@ impl<W: Write> Logger<W> {
         &mut self,
         from: Endpoint,
         bytes: &[u8],
-        report: Report,
+        deed: Deed,
         core: &Core<S>,
         now: Moment,
     ) {
-        match report.outcome {
-            Outcome::Overloaded => self.on_overloaded(from, bytes, core, now),
-            Outcome::NoRecordRoom => {
-                if let Ok(message) = MessageRef::read(bytes) {
-                    let lacks = Usage::of(core, from).to_remember(message.kind());
-                    self.on_dropped(from, &lacks, now);
-                }
+        match deed {
+            Deed::Overloaded(_) => self.on_overloaded(from, bytes, core, now),
+            Deed::Unremembered(kind) => {
+                self.on_dropped(from, &Usage::of(core, from).to_remember(kind), now);
             }
-            Outcome::NoId => self.on_dropped(from, &Usage::of(core, from).to_reply(), now),
-            Outcome::Answered { .. } => {
-                self.note_answer(now);
+            Deed::LackedId => self.on_dropped(from, &Usage::of(core, from).to_reply(), now),
+            Deed::Answered { exchange, .. } => {
+                self.note_answer(core, exchange, bytes, now);
                 self.on_heard(from, now);
             }
-            Outcome::Acked => self.on_heard(from, now),
-            Outcome::Ignored
-            | Outcome::Rejected
-            | Outcome::Again
-            | Outcome::Refused(_)
-            | Outcome::Hit
-            | Outcome::Joined
-            | Outcome::Opened
-            | Outcome::SentRequest
-            | Outcome::Resent
-            | Outcome::Delivered
-            | Outcome::GaveUp
-            | Outcome::Idle => {}
+            Deed::Acknowledged { .. } | Deed::Closed { .. } => self.on_heard(from, now),
+            Deed::Ignored(_)
+            | Deed::Rejected(_)
+            | Deed::Repeated
+            | Deed::Refused(_)
+            | Deed::Hit
+            | Deed::Joined { .. }
+            | Deed::Opened { .. }
+            | Deed::Sent { .. }
+            | Deed::Resent { .. }
+            | Deed::Delivered { .. }
+            | Deed::Redelivered { .. }
+            | Deed::GaveUp { .. }
+            | Deed::Abandoned { .. }
+            | Deed::Idle => {}
         }
     }
 
     /// Logs what the step of a tick did.
-    fn on_tick(&mut self, report: Report, now: Moment) {
-        match report.outcome {
-            Outcome::GaveUp => self.on_given_up(now),
-            Outcome::Delivered => self.on_delivered(report.send, now),
-            Outcome::Idle => self.on_idle(now),
-            Outcome::Ignored
-            | Outcome::Rejected
-            | Outcome::Again
-            | Outcome::NoRecordRoom
-            | Outcome::Refused(_)
-            | Outcome::Hit
-            | Outcome::Joined
-            | Outcome::Opened
-            | Outcome::Overloaded
-            | Outcome::NoId
-            | Outcome::Answered { .. }
-            | Outcome::Acked
-            | Outcome::SentRequest
-            | Outcome::Resent => {}
+    fn on_tick<S: Store + Drop>(&mut self, did: Did, core: &Core<S>, now: Moment) {
+        match did.deed {
+            Deed::GaveUp { exchange, silence } => {
+                self.on_given_up(core, exchange, silence_seen(silence), now);
+            }
+            Deed::Delivered { .. } => self.on_delivered(did.send, now),
+            Deed::Idle => self.on_idle(now),
+            Deed::Ignored(_)
+            | Deed::Rejected(_)
+            | Deed::Repeated
+            | Deed::Unremembered(_)
+            | Deed::Refused(_)
+            | Deed::LackedId
+            | Deed::Overloaded(_)
+            | Deed::Hit
+            | Deed::Joined { .. }
+            | Deed::Opened { .. }
+            | Deed::Answered { .. }
+            | Deed::Acknowledged { .. }
+            | Deed::Closed { .. }
+            | Deed::Sent { .. }
+            | Deed::Resent { .. }
+            | Deed::Redelivered { .. }
+            | Deed::Abandoned { .. } => {}
         }
     }
 
@@ -298,22 +323,29 @@ impl<W: Write> Logger<W> {
         }
     }
 
-    /// Notes what the next tick is about; its target only if that may be logged.
-    fn note_due<S: Store + Drop>(&mut self, core: &Core<S>, now: Moment) {
-        self.due = TickSubject::of(core);
+    /// Notes what the next tick is about, if it is an answer that is logged: its exchange may be
+    /// closed with it.
+    fn note_due<S: Store + Drop>(&mut self, core: &Core<S>) {
+        self.due = TickSubject::Nothing;
         let Some(exchange) = core.due_exchange() else {
             return;
         };
-        let may_be_told = match self.due {
-            TickSubject::Exchange(due) => match due.answer {
-                Some(answer) => is_logged(answer.code),
-                None => now > due.admitted,
-            },
-            TickSubject::Client(_) | TickSubject::Nothing => false,
-        };
-        if may_be_told {
-            self.target.take(&exchange.key.target);
+        match exchange.answer() {
+            Some(answer) if is_logged(answer.message.code) => {
+                self.due = TickSubject::of(core);
+                self.target.take(&exchange.key.target);
+            }
+            Some(_) | None => {}
         }
+    }
+}
+
+/// How far an exchange was, as a log has it.
+fn silence_seen(silence: coap_core::Silence) -> Silence {
+    match silence {
+        coap_core::Silence::NotSent => Silence::NotSent,
+        coap_core::Silence::NotAcknowledged => Silence::NotAcknowledged,
+        coap_core::Silence::NotAnswered => Silence::NotAnswered,
     }
 }
 
@@ -322,20 +354,19 @@ impl<W: Write> Watch for Logger<W> {
     ghost sees = { λ before told after. Unit {0} };
 
     fn foresee<S: Store + Drop>(&mut self, turn: WatchedTurn<'_>, core: &Core<S>) {
-        match turn.event {
-            Event::Tick => self.note_due(core, turn.now),
-            Event::Datagram { .. } => self.response = ResponseCause::of(turn.event, core),
+        if let Event::Tick = turn.event {
+            self.note_due(core);
         }
     }
 
     fn see<S: Store + Drop>(&mut self, turn: WatchedTurn<'_>, core: &Core<S>) {
-        let Some(report) = turn.report else {
+        let Some(did) = turn.did else {
             return;
         };
         match turn.event {
-            Event::Tick => self.on_tick(report, turn.now),
+            Event::Tick => self.on_tick(did, core, turn.now),
             Event::Datagram { from, bytes } => {
-                self.on_arrived(from, bytes, report, core, turn.now);
+                self.on_arrived(from, bytes, did.deed, core, turn.now);
             }
         }
         if let Some(holder) = self.holders.look(turn, core) {

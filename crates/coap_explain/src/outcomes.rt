@@ -1,5 +1,6 @@
 //! What a step did, in words.
-ghost use Rattle.std.specs.Prelude.{◌≡◌, ◌++◌, codes, OnOk};
+ghost use Rattle.std.specs.Prelude.{◌≡◌, ◌++◌, codes, option_map, OnOk};
+ghost use Rattle.coap_model.specs.Deeds.{report_of};
 ghost use Rattle.coap_core.specs.Events.{seen};
 ghost use Rattle.coap_message.specs.Reading.{read_message};
 ghost use Rattle.coap_explain.specs.Account as text;
@@ -345,11 +346,11 @@ pub(crate) fn put_outcome<S: Store + Drop>(
     noted: Noted<'_>,
 ) -> io::Result<()>
     ensures { OnOk result (line.new.items
-        ≡ line.old.items ++ text.outcome_text turn.entry.report
-        ++ text.details_of (seen turn.entry.event) turn.entry.report turn.entry.sent.now
-        turn.entry.now core.now (text.noted_seen noted.entry)) }
+        ≡ line.old.items ++ text.outcome_text (option_map report_of turn.entry.did)
+        ++ text.details_of (seen turn.entry.event) (option_map report_of turn.entry.did)
+        turn.entry.sent.now turn.entry.now core.now (text.noted_seen noted.entry)) }
 {
-    let Some(report) = turn.report else {
+    let Some(report) = turn.report() else {
         return line.write_all(b" out of memory");
     };
     put_word(line, report.outcome)?;

@@ -3,7 +3,6 @@ use Rattle.std.proofs.Common.{◌≡◌, ℕ, ◌≤◌, Bool, true, false, List
 use Rattle.std.specs.Prelude.{◌&&◌, not, find, option_map}
 use Rattle.std.proofs.lemmas.Bool.{and_parts, and_from}
 use Rattle.std.proofs.lemmas.Option.{same_Some}
-use Rattle.coap_message.specs.declared.code.Code.{Code}
 use Rattle.coap_message.specs.Message.{Message}
 use Rattle.coap_endpoint.specs.declared.endpoint.Endpoint.{Endpoint}
 use Rattle.coap_store.specs.declared.key.CacheKey.{CacheKey}
@@ -16,6 +15,8 @@ use Rattle.coap_pending.specs.declared.exchange.ExchangeState.{ExchangeState}
 use Rattle.coap_pending.specs.declared.exchange.ExchangeState.TheVariants.{Queued, Sent, Acked, Done}
 use Rattle.coap_pending.specs.Exchanges.{answer_in_state, answer_at, is_missing, is_joinable}
 use Rattle.coap_pending.specs.Table.{Numbered, first_that}
+use Rattle.coap_model.specs.declared.deed.Refusal.{Refusal}
+use Rattle.coap_model.specs.Deeds.{code_of}
 use Rattle.coap_model.specs.Setting.{Setting}
 use Rattle.coap_model.specs.Verdicts.{may_ask}
 use Rattle.coap_model.specs.State.{State}
@@ -154,9 +155,9 @@ unanswered w history c now key m none = record { miss = λ get. missed w history
 -- ---- why a request is turned away
 
 -- a request that is refused deserves its code
-pub deserves : (w : State) (history : List Action) (c : Bears history w) (now : ℕ) (m : Message) (code : Code) → IsDenied w now m code → Deserves w.setting history now m code
-deserves w history c now m code (rules.by_verdict verdict) = by_verdict verdict
-deserves w history c now m code (rules.by_length key verdict none long is) = by_length key verdict (unanswered w history c now key m none) long is
+pub deserves : (w : State) (history : List Action) (c : Bears history w) (now : ℕ) (m : Message) (why : Refusal) → IsDenied w now m why → Deserves w.setting history now m (code_of why)
+deserves w history c now m why (rules.by_verdict verdict) = by_verdict why verdict refl
+deserves w history c now m why (rules.by_length key verdict none long is) = by_length key verdict (unanswered w history c now key m none) long (ap code_of is)
 
 -- if the tables have no room for it, there is none according to the history
 pub lacks_room : (w : State) (history : List Action) (c : Bears history w) (now : ℕ) (client : Endpoint) (key : CacheKey) (m : Message) → w.last ≤ now → IsFull w now client key m → LacksRoom w.setting history now client key m

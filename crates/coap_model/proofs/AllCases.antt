@@ -32,7 +32,7 @@ pub record IsKept (history : List Action) (e : Observation) (w : State) : Type 0
 keeps_rule : {w : State} {now draw : ℕ} {grown : Bool} {event : Event} {s : Step} (history : List Action) → Bears history w → w.last ≤ now → Rule w now draw grown event s → IsKept history (observation_of now draw event s) s.state
 keeps_rule {w = w} {now = now} {draw = draw} history c onward (refusing client bytes m code first denied free) = record { act = no_item; bears = keeps_refusing w history c now draw client bytes m onward first code denied free }
 keeps_rule {w = w} {now = now} {draw = draw} history c onward (lacking client bytes m first free) = record { act = no_item; bears = keeps_lacking w history c now draw client bytes m onward first free }
-keeps_rule {w = w} {now = now} {draw = draw} history c onward (overloading client bytes m key first verdict lacks free) = record { act = no_item; bears = keeps_overloading w history c now draw client bytes m onward first key verdict lacks free }
+keeps_rule {w = w} {now = now} {draw = draw} history c onward (overloading {lacks = few} client bytes m key first verdict lacks free) = record { act = no_item; bears = keeps_overloading w history c now draw client bytes m onward first few key verdict lacks free }
 keeps_rule {w = w} {now = now} {draw = draw} history c onward (hitting client bytes m key entry first get verdict found usable free) = record { act = no_item; bears = keeps_hitting w history c now draw client bytes m key entry onward first get verdict found usable free }
 keeps_rule {w = w} {now = now} {draw = draw} history c onward (joining client bytes m key exchange send told first get verdict none found room up) = record { act = admits (admitted_in history + 1) exchange; bears = keeps_joining w history c now draw client bytes m key exchange send told onward first get verdict none found room up }
 keeps_rule {w = w} {now = now} {draw = draw} history c onward (opening client bytes m key send told first verdict none short room up) = record { act = admits (admitted_in history + 1) (opened_in history + 1); bears = keeps_opening w history c now draw client bytes m key send told onward first verdict none short room up }
@@ -42,11 +42,11 @@ keeps_rule {w = w} {now = now} {draw = draw} {grown = grown} history c onward (a
 keeps_rule {w = w} {now = now} {draw = draw} {grown = grown} history c onward (answering_con source bytes m x storing store fits recorded for con unknown room stored) = record { act = moves x.0; bears = keeps_answering_con w history c now draw source bytes grown m x storing store onward fits recorded for con unknown room stored }
 keeps_rule {w = w} {now = now} {draw = draw} history c onward (acknowledging source bytes m x fits read about ack) = record { act = moves x.0; bears = keeps_acknowledging w history c now draw source bytes m x onward fits read about ack }
 keeps_rule {w = w} {now = now} {draw = draw} history c onward (closing source bytes m number fits read of_answer) = record { act = serves number; bears = keeps_closing w history c now draw source bytes m number onward fits read of_answer }
-keeps_rule {w = w} {now = now} {draw = draw} history c onward (rejecting source bytes head is con none) = record { act = no_item; bears = keeps_rejecting w history c now draw source bytes head onward is con none }
-keeps_rule {w = w} {now = now} {draw = draw} history c onward (ignoring source bytes quiet none) = record { act = no_item; bears = keeps_ignoring w history c now draw source bytes onward quiet none }
+keeps_rule {w = w} {now = now} {draw = draw} history c onward (rejecting {why = why} source bytes head is con none) = record { act = no_item; bears = keeps_rejecting why w history c now draw source bytes head onward is con none }
+keeps_rule {w = w} {now = now} {draw = draw} history c onward (ignoring {why = why} source bytes quiet none) = record { act = no_item; bears = keeps_ignoring why w history c now draw source bytes onward quiet none }
 keeps_rule {w = w} {now = now} {draw = draw} history c onward (forwarding at number x turn is early) = record { act = moves number; bears = keeps_forwarding w history c now draw at number x onward turn is early }
 keeps_rule {w = w} {now = now} {draw = draw} history c onward (resending at number x turn is early fire) = record { act = moves number; bears = keeps_resending w history c now draw at number x onward turn is early fire }
-keeps_rule {w = w} {now = now} {draw = draw} history c onward (giving_up at number x turn over) = record { act = moves number; bears = keeps_giving_up w history c now draw at number x onward turn over }
+keeps_rule {w = w} {now = now} {draw = draw} history c onward (giving_up {silence = silence} at number x turn over) = record { act = moves number; bears = keeps_giving_up silence w history c now draw at number x onward turn over }
 keeps_rule {w = w} {now = now} {draw = draw} history c onward (delivering at number exchange v x a left due found waits there answer told) = record { act = serves number; bears = keeps_delivering w history c now draw at number exchange v x a left onward due found waits there answer told }
 keeps_rule {w = w} {now = now} {draw = draw} history c onward (redelivering at number v bytes id timer turn fire) = record { act = serves number; bears = keeps_redelivering w history c now draw at number v bytes id timer onward turn fire }
 keeps_rule {w = w} {now = now} {draw = draw} history c onward (abandoning at number v bytes id timer turn fire) = record { act = serves number; bears = keeps_abandoning w history c now draw at number v bytes id timer onward turn fire }

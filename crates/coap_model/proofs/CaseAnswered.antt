@@ -13,6 +13,7 @@ use Rattle.coap_pending.specs.declared.exchange.Exchange.{Exchange}
 use Rattle.coap_pending.specs.Exchanges.{acked, answered, is_queued, is_sent_to}
 use Rattle.coap_pending.specs.Table.{Numbered, item_at, passes}
 use Rattle.coap_pending.proofs.Counts.{one_if, count-moved}
+use Rattle.coap_model.specs.declared.deed.Deed.TheVariants as deeds
 use Rattle.coap_model.specs.Events.{arrival}
 use Rattle.coap_forward.specs.Messages.{is_con, is_ack, acknowledgement}
 use Rattle.coap_store.specs.Entries.{Entry}
@@ -134,9 +135,9 @@ module _ (w : State) (history : List Action) (c : Bears history w) (now draw : �
 
 -- a message that isn't Confirmable and gives an answer preserves what is carried
 pub keeps_answering : (w : State) (history : List Action) (c : Bears history w) → (now draw : ℕ) (source : Endpoint) (bytes : List ℕ) (grown : Bool) (m : Message) (x : Numbered Exchange) (storing : Storing) (store : List Entry) → w.last ≤ now → IsBytes bytes → message_in w.setting.limits.datagram bytes ≡ Some m → IsAnswerFor w now source m x → is_con m.kind ≡ false → IsStoring (changed_state w m x) now grown x (answer_for w now m x.1) storing store
-    → Bears (doing (moves x.0) (observation_of now draw (arrival source bytes) (silent (Answered storing) (answered_state (changed_state w m x) now x.0 (answer_for w now m x.1) store))) ∷ history) (answered_state (changed_state w m x) now x.0 (answer_for w now m x.1) store)
+    → Bears (doing (moves x.0) (observation_of now draw (arrival source bytes) (silent (deeds.Answered x.0 storing) (answered_state (changed_state w m x) now x.0 (answer_for w now m x.1) store))) ∷ history) (answered_state (changed_state w m x) now x.0 (answer_for w now m x.1) store)
 keeps_answering w history c now draw source bytes grown m x storing store onward fits read for other stored =
-    let e = doing (moves x.0) (observation_of now draw (arrival source bytes) (silent (Answered storing) (answered_state (changed_state w m x) now x.0 (answer_for w now m x.1) store))) in
+    let e = doing (moves x.0) (observation_of now draw (arrival source bytes) (silent (deeds.Answered x.0 storing) (answered_state (changed_state w m x) now x.0 (answer_for w now m x.1) store))) in
     let since = last-now w history c now onward in
     keeps-answer w history c now draw source bytes grown m x storing store None [] w.con_records w.non_records onward fits read for stored
     (silent-up m.kind source m.id e.observation other (record { sent = refl; bytes = refl }))
@@ -147,9 +148,9 @@ keeps_answering w history c now draw source bytes grown m x storing store onward
 
 -- and so does a Confirmable one, which is acknowledged and remembered
 pub keeps_answering_con : (w : State) (history : List Action) (c : Bears history w) → (now draw : ℕ) (source : Endpoint) (bytes : List ℕ) (grown : Bool) (m : Message) (x : Numbered Exchange) (storing : Storing) (store : List Entry) → w.last ≤ now → IsBytes bytes → Recorded w bytes m → IsAnswerFor w now source m x → is_con m.kind ≡ true → known_of w now source m ≡ None → has_record_room w now source m.kind ≡ true → IsStoring (changed_state w m x) now grown x (answer_for w now m x.1) storing store
-    → Bears (doing (moves x.0) (observation_of now draw (arrival source bytes) (says (Answered storing) source (acknowledgement m.id) (answered_state (changed_state w m x) now x.0 (answer_for w now m x.1) store))) ∷ history) (remembers now source m (says (Answered storing) source (acknowledgement m.id) (answered_state (changed_state w m x) now x.0 (answer_for w now m x.1) store))).state
+    → Bears (doing (moves x.0) (observation_of now draw (arrival source bytes) (says (deeds.Answered x.0 storing) source (acknowledgement m.id) (answered_state (changed_state w m x) now x.0 (answer_for w now m x.1) store))) ∷ history) (remembers now source m (says (deeds.Answered x.0 storing) source (acknowledgement m.id) (answered_state (changed_state w m x) now x.0 (answer_for w now m x.1) store))).state
 keeps_answering_con w history c now draw source bytes grown m x storing store onward fits recorded for con unknown room stored =
-    let s = says (Answered storing) source (acknowledgement m.id) (answered_state (changed_state w m x) now x.0 (answer_for w now m x.1) store) in
+    let s = says (deeds.Answered x.0 storing) source (acknowledgement m.id) (answered_state (changed_state w m x) now x.0 (answer_for w now m x.1) store) in
     let e = doing (moves x.0) (observation_of now draw (arrival source bytes) s) in
     let kind = recorded-kind m recorded.recorded in
     keeps-answer w history c now draw source bytes grown m x storing store (Some source) (spelling (acknowledgement m.id)) _ _ onward fits recorded.read for stored

@@ -306,7 +306,7 @@ module _ (w : State) (history : List Action) (c : Bears history w) (now draw at 
   reply-spelled = spelled reply (ending-is w v.kind x.is_get now (next_id w) exchange x.key f.done.ending a v.token v.tags f.done.with f.short)
 
   abbrev served_action : List (Numbered Waiter) → Action
-  served_action left = doing (serves number) (observation_of now draw tick (tells w now v exchange reply left))
+  served_action left = doing (serves number) (observation_of now draw tick (tells w now number v exchange reply left))
 
   -- the timer starts with this observation
   sends-first : (left : List (Numbered Waiter)) → sends_by (serves number) (served_action left ∷ history) ≡ (served_action left).observation ∷ []
@@ -370,9 +370,9 @@ module _ (w : State) (history : List Action) (c : Bears history w) (now draw at 
 
 -- serving a waiter preserves what is carried
 pub keeps_delivering : (w : State) (history : List Action) (c : Bears history w) (now draw at number exchange : ℕ) (v : Waiter) (x : Exchange) (a : Answer) (left : List (Numbered Waiter)) → w.last ≤ now → if_due now (item_due w) ≡ Some (OfWaiter at number) → item_at number w.waiters ≡ Some v → v.state ≡ Waiting exchange → item_at exchange w.exchanges ≡ Some x → answer_at x ≡ Some a → IsTold w now draw number (given_to w now v x.is_get a) left
-    → Bears (doing (serves number) (observation_of now draw tick (tells w now v exchange (given_to w now v x.is_get a) left)) ∷ history) (tells w now v exchange (given_to w now v x.is_get a) left).state
+    → Bears (doing (serves number) (observation_of now draw tick (tells w now number v exchange (given_to w now v x.is_get a) left)) ∷ history) (tells w now number v exchange (given_to w now v x.is_get a) left).state
 keeps_delivering w history c now draw at number exchange v x a left onward due found waits there answer told =
-    let s = tells w now v exchange (given_to w now v x.is_get a) left in
+    let s = tells w now number v exchange (given_to w now v x.is_get a) left in
     let e = doing (serves number) (observation_of now draw tick s) in
     let f = served w history c number exchange v x a found waits there answer in
     let g = f.waits in

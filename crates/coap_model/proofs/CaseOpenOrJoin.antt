@@ -29,7 +29,8 @@ use Rattle.coap_forward.specs.Messages.{is_get}
 use Rattle.coap_forward.specs.Forms.{forwarded, form_fits, tag_if_fits, tag_to_send, tag_for}
 use Rattle.coap_forward.proofs.Tokens.{length-token_of}
 use Rattle.coap_forward.proofs.Tagging.{tag_for-other}
-use Rattle.coap_model.specs.declared.report.Outcome.TheVariants.{Joined, Opened}
+use Rattle.coap_model.specs.declared.deed.Deed.TheVariants.{Joined, Opened}
+use Rattle.coap_model.specs.Deeds.{held_of}
 use Rattle.coap_model.specs.Events.{arrival}
 use Rattle.coap_model.specs.Verdicts.{may_ask}
 use Rattle.coap_model.specs.Justified.{verdict_on}
@@ -199,9 +200,9 @@ module _ (w : State) (history : List Action) (c : Bears history w) (key : CacheK
 
 -- joining an exchange preserves what is carried
 pub keeps_joining : (w : State) (history : List Action) (c : Bears history w) → (now draw : ℕ) (client : Endpoint) (bytes : List ℕ) (m : Message) (key : CacheKey) (exchange : ℕ) (send : Option Endpoint) (told : List ℕ) → w.last ≤ now → IsFirst w now client bytes m → is_get m.code ≡ true → verdict_in w m ≡ may_ask key → IsMissed w now key → first_that (is_joinable key) w.exchanges ≡ Some exchange → has_room_to_join w now client ≡ true → IsTakenUp client m send told
-    → Bears (doing (admits (admitted_in history + 1) exchange) (observation_of now draw (arrival client bytes) (sending Joined send told (joined_state w now client m exchange))) ∷ history) (remembers now client m (sending Joined send told (joined_state w now client m exchange))).state
+    → Bears (doing (admits (admitted_in history + 1) exchange) (observation_of now draw (arrival client bytes) (sending (Joined (w.admitted + 1) exchange) send told (joined_state w now client m exchange))) ∷ history) (remembers now client m (sending (Joined (w.admitted + 1) exchange) send told (joined_state w now client m exchange))).state
 keeps_joining w history c now draw client bytes m key exchange send told onward first get verdict none found may up =
-    let s = sending Joined send told (joined_state w now client m exchange) in
+    let s = sending (Joined (w.admitted + 1) exchange) send told (joined_state w now client m exchange) in
     let act : Act = admits (admitted_in history + 1) exchange in
     let e = doing act (observation_of now draw (arrival client bytes) s) in
     let came = request-came w client bytes m first.fits first.asked in
@@ -247,10 +248,10 @@ keeps_joining w history c now draw client bytes m key exchange send told onward 
 
 -- and so does opening one
 pub keeps_opening : (w : State) (history : List Action) (c : Bears history w) → (now draw : ℕ) (client : Endpoint) (bytes : List ℕ) (m : Message) (key : CacheKey) (send : Option Endpoint) (told : List ℕ) → w.last ≤ now → IsFirst w now client bytes m → verdict_in w m ≡ may_ask key → IsUnanswered w now key m → fits_in w key m ≡ true → has_room_to_open w now client ≡ true → IsTakenUp client m send told
-    → Bears (doing (admits (admitted_in history + 1) (opened_in history + 1)) (observation_of now draw (arrival client bytes) (sending Opened send told (opened_state w now client m key (held_for w key m)))) ∷ history) (remembers now client m (sending Opened send told (opened_state w now client m key (held_for w key m)))).state
+    → Bears (doing (admits (admitted_in history + 1) (opened_in history + 1)) (observation_of now draw (arrival client bytes) (sending (Opened (w.admitted + 1) (w.opened + 1) (held_of m (held_for w key m))) send told (opened_state w now client m key (held_for w key m)))) ∷ history) (remembers now client m (sending (Opened (w.admitted + 1) (w.opened + 1) (held_of m (held_for w key m))) send told (opened_state w now client m key (held_for w key m)))).state
 keeps_opening w history c now draw client bytes m key send told onward first verdict none short room up =
     let stored = held_for w key m in
-    let s = sending Opened send told (opened_state w now client m key stored) in
+    let s = sending (Opened (w.admitted + 1) (w.opened + 1) (held_of m stored)) send told (opened_state w now client m key stored) in
     let act : Act = admits (admitted_in history + 1) (opened_in history + 1) in
     let e = doing act (observation_of now draw (arrival client bytes) s) in
     let came = request-came w client bytes m first.fits first.asked in

@@ -5,7 +5,6 @@ use Rattle.std.specs.Option.{option_map_or}
 use Rattle.std.proofs.lemmas.Bool.{leb-true, and_parts, and_from}
 use Rattle.coap_message.specs.declared.kind.Kind.{Kind}
 use Rattle.coap_message.specs.declared.kind.Kind.TheVariants.{Con, Non, Ack, Rst}
-use Rattle.coap_message.specs.declared.code.Code.{Code}
 use Rattle.coap_message.specs.declared.message.Head.{Head}
 use Rattle.coap_message.specs.Uint.{IsBytes}
 use Rattle.coap_message.specs.Message.{Message}
@@ -17,6 +16,10 @@ use Rattle.coap_endpoint.specs.declared.endpoint.Endpoint.{Endpoint}
 use Rattle.coap_dedup.specs.declared.record.Record.{Record}
 use Rattle.coap_dedup.specs.Lists.{record_of}
 use Rattle.coap_store.specs.declared.key.CacheKey.{CacheKey}
+use Rattle.coap_model.specs.declared.deed.Refusal.{Refusal}
+use Rattle.coap_model.specs.declared.deed.Lacks.{Lacks}
+use Rattle.coap_model.specs.declared.deed.Unprocessed.{Unprocessed}
+use Rattle.coap_model.specs.Deeds.{code_of}
 use Rattle.coap_model.specs.Events.{arrival}
 use Rattle.coap_message.specs.Codes.{is_request, is_response}
 use Rattle.coap_pending.specs.declared.exchange.Exchange.{Exchange}
@@ -117,12 +120,13 @@ module _ (w : State) (history : List Action) (c : Bears history w) (now draw : �
           room-called w.ids now (reserved w) (omega arith) n
 
   -- a refusal preserves what is carried
-  pub keeps_refusing : (code : Code) → IsDenied w now m code → can_reply w now m.kind ≡ true
-      → Bears (doing no_item (observation_of now draw (arrival client bytes) (refuses w now client m code)) ∷ history) (remembers now client m (refuses w now client m code)).state
-  keeps_refusing code denied free =
-      let s = refuses w now client m code in
+  pub keeps_refusing : (why : Refusal) → IsDenied w now m why → can_reply w now m.kind ≡ true
+      → Bears (doing no_item (observation_of now draw (arrival client bytes) (refuses w now client m why)) ∷ history) (remembers now client m (refuses w now client m why)).state
+  keeps_refusing why denied free =
+      let code = code_of why in
+      let s = refuses w now client m why in
       let e = doing no_item (observation_of now draw (arrival client bytes) s) in
-      let deserved = deserves w history c now m code denied in
+      let deserved = deserves w history c now m why denied in
       let some = deserved-code w.setting history now m c.routes code deserved in
       let reply = own_reply code [] (next_id w) m.token in
       let spells : Spells s.bytes (at_once m reply) = spelled (at_once m reply) (at_once-is m reply (own_reply-is code [] (next_id w) m.token some tt short_token)) in
@@ -133,10 +137,10 @@ module _ (w : State) (history : List Action) (c : Bears history w) (now draw : �
       (record { act = refl; client = client; request = m; id = next_id w; asked = came; new = is_new; deserved = deserved; ids = has-id free; tells = record { sent = refl; spells = spells } }, c.past)
 
   -- so does a 5.03
-  pub keeps_overloading : (key : CacheKey) → verdict_in w m ≡ may_ask key → IsFull w now client key m → can_reply w now m.kind ≡ true
-      → Bears (doing no_item (observation_of now draw (arrival client bytes) (overloads w now client m)) ∷ history) (remembers now client m (overloads w now client m)).state
-  keeps_overloading key verdict full free =
-      let s = overloads w now client m in
+  pub keeps_overloading : (lacks : Lacks) (key : CacheKey) → verdict_in w m ≡ may_ask key → IsFull w now client key m → can_reply w now m.kind ≡ true
+      → Bears (doing no_item (observation_of now draw (arrival client bytes) (overloads w now client m lacks)) ∷ history) (remembers now client m (overloads w now client m lacks)).state
+  keeps_overloading lacks key verdict full free =
+      let s = overloads w now client m lacks in
       let e = doing no_item (observation_of now draw (arrival client bytes) s) in
       let reply = overload_reply w.setting.limits.retry_s (next_id w) m.token in
       let spells : Spells s.bytes (at_once m reply) = spelled (at_once m reply) (at_once-is m reply (overload_reply-is w.setting.limits.retry_s (next_id w) m.token short_token)) in
@@ -186,9 +190,9 @@ keeps_repeating w history c now draw source bytes m known onward fits recorded f
 
 -- and so does silence if there is no room to remember what arrived
 pub keeps_dropping : (w : State) (history : List Action) (c : Bears history w) (now draw : ℕ) (source : Endpoint) (bytes : List ℕ) (m : Message) → w.last ≤ now → IsBytes bytes → Recorded w bytes m → (is_response m.code ≡ true → (x : Numbered Exchange) × (awaiting w source m ≡ Some x)) → known_of w now source m ≡ None → has_record_room w now source m.kind ≡ false
-    → Bears (doing no_item (observation_of now draw (arrival source bytes) (drops w now)) ∷ history) (drops w now).state
+    → Bears (doing no_item (observation_of now draw (arrival source bytes) (drops w now m.kind)) ∷ history) (drops w now m.kind).state
 keeps_dropping w history c now draw source bytes m onward fits recorded wanted unknown full =
-    let e = doing no_item (observation_of now draw (arrival source bytes) (drops w now)) in
+    let e = doing no_item (observation_of now draw (arrival source bytes) (drops w now m.kind)) in
     let kind = recorded-kind m recorded.recorded in
     let same = known-is w history c now source bytes m onward m.kind kind in
     keeps_quiet w history c e (record { act = refl; opens = refl; admits = refl; sends = refl; accepts_answer = refl; leaves_open = λ standing xs. refl; stands = λ standing. refl }) refl (λ k. refl) onward refl (
@@ -227,17 +231,17 @@ unprocessable w history c e source bytes onward came none = record {
 }
 
 -- a Reset preserves what is carried
-pub keeps_rejecting : (w : State) (history : List Action) (c : Bears history w) (now draw : ℕ) (source : Endpoint) (bytes : List ℕ) (head : Head) → w.last ≤ now → head_at bytes ≡ Some head → is_con head.kind ≡ true → IsNothing w now source bytes
-    → Bears (doing no_item (observation_of now draw (arrival source bytes) (rejects w now source head.id)) ∷ history) (rejects w now source head.id).state
-keeps_rejecting w history c now draw source bytes head onward is con none =
-    let e = doing no_item (observation_of now draw (arrival source bytes) (rejects w now source head.id)) in
+pub keeps_rejecting : (why : Unprocessed) (w : State) (history : List Action) (c : Bears history w) (now draw : ℕ) (source : Endpoint) (bytes : List ℕ) (head : Head) → w.last ≤ now → head_at bytes ≡ Some head → is_con head.kind ≡ true → IsNothing w now source bytes
+    → Bears (doing no_item (observation_of now draw (arrival source bytes) (rejects w now source head.id why)) ∷ history) (rejects w now source head.id why).state
+keeps_rejecting why w history c now draw source bytes head onward is con none =
+    let e = doing no_item (observation_of now draw (arrival source bytes) (rejects w now source head.id why)) in
     keeps_quiet w history c e (record { act = refl; opens = refl; admits = refl; sends = refl; accepts_answer = refl; leaves_open = λ standing xs. refl; stands = λ standing. refl }) refl (λ k. refl) onward refl
     (record { act = refl; source = source; bytes = bytes; head = head; came = refl; head_is = is; con = con_is head.kind con; unprocessable = unprocessable w history c e.observation source bytes onward refl none; tells = record { sent = refl; spells = spelled (reset head.id) (reset-is head.id) } }, c.past)
 
 -- and so does doing nothing
-pub keeps_ignoring : (w : State) (history : List Action) (c : Bears history w) (now draw : ℕ) (source : Endpoint) (bytes : List ℕ) → w.last ≤ now → IsNotCon bytes → IsNothing w now source bytes
-    → Bears (doing no_item (observation_of now draw (arrival source bytes) (ignores w now)) ∷ history) (ignores w now).state
-keeps_ignoring w history c now draw source bytes onward quiet none =
-    let e = doing no_item (observation_of now draw (arrival source bytes) (ignores w now)) in
+pub keeps_ignoring : (why : Unprocessed) (w : State) (history : List Action) (c : Bears history w) (now draw : ℕ) (source : Endpoint) (bytes : List ℕ) → w.last ≤ now → IsNotCon bytes → IsNothing w now source bytes
+    → Bears (doing no_item (observation_of now draw (arrival source bytes) (ignores w now why)) ∷ history) (ignores w now why).state
+keeps_ignoring why w history c now draw source bytes onward quiet none =
+    let e = doing no_item (observation_of now draw (arrival source bytes) (ignores w now why)) in
     keeps_quiet w history c e (record { act = refl; opens = refl; admits = refl; sends = refl; accepts_answer = refl; leaves_open = λ standing xs. refl; stands = λ standing. refl }) refl (λ k. refl) onward refl
     (record { act = refl; source = source; bytes = bytes; came = refl; no_con = λ head is con. absurd (let f = quiet head is in let g = sym f ∙ ap is_con con in cc); unprocessable = unprocessable w history c e.observation source bytes onward refl none; silent = record { sent = refl; bytes = refl } }, c.past)

@@ -19,6 +19,7 @@ use Rattle.coap_pending.specs.Waiters.{is_waiting}
 use Rattle.coap_pending.proofs.Counts.{one_if, count-moved, count-kept}
 use Rattle.coap_message.specs.Spelling.{spelling}
 use Rattle.coap_forward.specs.Forms.{forwarded, tag_for}
+use Rattle.coap_model.specs.declared.deed.Silence.{Silence}
 use Rattle.coap_model.specs.Cached.{kept_for}
 use Rattle.coap_model.proofs.MarksAndTaints.{told-stays}
 use Rattle.coap_forward.specs.Messages.{token_of}
@@ -236,10 +237,10 @@ unended-yet setting history number x Acked state other = state.unended
 unended-yet setting history number x (Done a) state other = absurd (other a refl)
 
 -- giving up an exchange preserves what is carried
-pub keeps_giving_up : (w : State) (history : List Action) (c : Bears history w) → (now draw at number : ℕ) (x : Exchange) → w.last ≤ now → IsTurnOf w now at number x → IsOver w now x
-    → Bears (doing (moves number) (observation_of now draw tick (gives_up w now number)) ∷ history) (gives_up w now number).state
-keeps_giving_up w history c now draw at number x onward turn over =
-    let e = doing (moves number) (observation_of now draw tick (gives_up w now number)) in
+pub keeps_giving_up : (silence : Silence) (w : State) (history : List Action) (c : Bears history w) → (now draw at number : ℕ) (x : Exchange) → w.last ≤ now → IsTurnOf w now at number x → IsOver w now x
+    → Bears (doing (moves number) (observation_of now draw tick (gives_up w now number silence)) ∷ history) (gives_up w now number silence).state
+keeps_giving_up silence w history c now draw at number x onward turn over =
+    let e = doing (moves number) (observation_of now draw tick (gives_up w now number silence)) in
     let a = own_answer now gateway_timeout in
     let f = turn-exchange w history c now at number x turn in
     let unended = unended-yet w.setting history number x x.state f.state (λ b is. not-due b is (turn-due w history c now at number x turn).0) in
@@ -272,7 +273,7 @@ keeps_giving_up w history c now draw at number x onward turn over =
     not-due b is due = absurd (let g = sym (ap (λ (s : ExchangeState). due_in s (is_blocked w.setting.limits.nstart w.exchanges x) w.setting.limits.exchange_ms x) is) ∙ due in cc)
 
     e : Action
-    e = doing (moves number) (observation_of now draw tick (gives_up w now number))
+    e = doing (moves number) (observation_of now draw tick (gives_up w now number silence))
 
     gives : Never (Ends number) history → IsOver w now x → IsGivingUp w.setting history e
     gives unended (rules.overdue late) =

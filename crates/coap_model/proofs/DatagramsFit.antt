@@ -5,6 +5,7 @@ use Rattle.coap_message.proofs.Spellings.{spelling-length}
 use Rattle.coap_forward.proofs.Forms.{length-with_id}
 use Rattle.coap_limits.specs.declared.limits.Limit.TheVariants.{Datagram}
 use Rattle.coap_limits.specs.Limits.{AreLimits}
+use Rattle.coap_model.specs.Deeds.{code_of}
 use Rattle.coap_model.specs.Events.{Event, IsEvent}
 use Rattle.coap_forward.specs.Messages.{reset}
 use Rattle.coap_model.specs.State.{State, Step, repeats, next_id, records_of}
@@ -40,7 +41,7 @@ reset-short id = omega (arith, spelling-length (reset id))
 
 -- in each case of a step, its datagram fits
 rule_fits : {w : State} {now draw : ℕ} {grown : Bool} {event : Event} {s : Step} (history : List Action) → Bears history w → AreLimits w.setting.limits → Rule w now draw grown event s → length s.bytes ≤ w.setting.limits.datagram
-rule_fits {w = w} history c are (refusing client bytes m code first denied free) = let came = request-came w client bytes m first.fits first.asked in omega (arith, (are Datagram).0, own-short m code (next_id w) m.token came.brings.spells.message.token)
+rule_fits {w = w} history c are (refusing client bytes m why first denied free) = let came = request-came w client bytes m first.fits first.asked in omega (arith, (are Datagram).0, own-short m (code_of why) (next_id w) m.token came.brings.spells.message.token)
 rule_fits {w = w} history c are (lacking client bytes m first free) = omega arith
 rule_fits {w = w} history c are (overloading client bytes m key first verdict lacks free) = let came = request-came w client bytes m first.fits first.asked in omega (arith, (are Datagram).0, overload-short m w.setting.limits.retry_s (next_id w) m.token came.brings.spells.message.token)
 rule_fits {w = w} {now = now} history c are (hitting client bytes m key entry first get verdict found usable free) = let came = request-came w client bytes m first.fits first.asked in hit-fits w history c key entry found w.setting.limits.datagram now m (next_id w) m.token (tags_of m) (are Datagram).0 (omega arith) came.brings.spells.message.token

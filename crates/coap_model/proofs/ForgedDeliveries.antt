@@ -240,7 +240,7 @@ segments_sent (Err e) = 0
 -- the number of path segments of the target in a verdict
 abbrev segments_of : Verdict → ℕ
 segments_of (may_ask key) = length key.target.path
-segments_of (refused_with code) = 0
+segments_of (refused_with why) = 0
 
 -- that of the target of a request
 abbrev segments_aimed : Result Message DecodeError → ℕ

@@ -65,6 +65,7 @@ pub mod CountedBytes
 pub mod CountsOfHistory
 pub mod PromisesHold
 pub mod Runs
+pub mod DeedOutcomes
 pub mod ReportsOfMemory
 pub mod DatagramsFit
 pub mod OneStep

@@ -8,6 +8,8 @@ use Rattle.coap_message.specs.Message.{Message}
 use Rattle.coap_message.specs.Reading.{head_at}
 use Rattle.coap_endpoint.specs.declared.endpoint.Endpoint.{Endpoint}
 use Rattle.coap_store.specs.declared.key.CacheKey.{CacheKey}
+use Rattle.coap_model.specs.declared.deed.Refusal.{Refusal}
+use Rattle.coap_model.specs.Deeds.{code_of}
 use Rattle.coap_model.specs.declared.report.Outcome.{Outcome}
 use Rattle.coap_model.specs.declared.report.Outcome.TheVariants.{Ignored, Rejected, Again, NoRecordRoom, Refused, Hit, Joined, Opened, Overloaded, NoId, Answered, Acked, SentRequest, Resent, GaveUp, Delivered, Idle}
 use Rattle.coap_model.specs.declared.report.Storing.{Storing}
@@ -16,7 +18,7 @@ use Rattle.coap_model.specs.Setting.{Setting}
 use Rattle.coap_dedup.specs.declared.record.Record.{Record}
 use Rattle.coap_model.specs.Events.{Event, arrival, tick}
 use Rattle.coap_forward.specs.Messages.{is_recorded}
-use Rattle.coap_model.specs.Verdicts.{may_ask}
+use Rattle.coap_model.specs.Verdicts.{may_ask, refused_with}
 use Rattle.coap_model.specs.Standing.{HasIds, HasRoomToJoin, HasRoomToOpen}
 use Rattle.coap_model.specs.History.{Act, moves, serves, Action, accepts_answer, Brings, IsRequestOf, Meets, Matches}
 use Rattle.coap_store.specs.Lists.{of_key}
@@ -155,18 +157,18 @@ none-joinable setting past now x key other request unanswered get same joinable 
 
 -- a request that fits deserves no error code
 fits_well : {A : Type 0} (setting : Setting) (past : List Action) (now : ℕ) (request : Message) (code : Code) (key : CacheKey) → Deserves setting past now request code → verdict_on setting request ≡ may_ask key → fits_on setting key request ≡ true → A
-fits_well setting past now request code key (by_verdict refusal) verdict short = absurd (let e = sym refusal ∙ verdict in cc)
+fits_well setting past now request code key (by_verdict why refusal is) verdict short = absurd (let e = sym refusal ∙ verdict in cc)
 fits_well setting past now request code key (by_length other asked unanswered long is) verdict short =
     absurd (let same = one_key (sym asked ∙ verdict) in let e = sym long ∙ ap (λ (k : CacheKey). fits_on setting k request) same ∙ short in cc)
 
 -- nor does one that hits
 hits_well : {A : Type 0} (setting : Setting) (past : List Action) (now : ℕ) (request : Message) (code : Code) (key : CacheKey) (cached : List Cached) (entry : Cached) → Deserves setting past now request code → IsGet request → verdict_on setting request ≡ may_ask key → IsCacheOf setting past cached → of_key cached_key key cached ≡ Some entry → IsUsable setting past now entry → A
-hits_well setting past now request code key cached entry (by_verdict refusal) get verdict is found usable = absurd (let e = sym refusal ∙ verdict in cc)
+hits_well setting past now request code key cached entry (by_verdict why refusal same) get verdict is found usable = absurd (let e = sym refusal ∙ verdict in cc)
 hits_well setting past now request code key cached entry (by_length other asked unanswered long same) get verdict is found usable = missed-or-hit setting past now other key cached entry (unanswered.miss get) (one_key (sym asked ∙ verdict)) is found usable
 
 -- nor does a GET whose key has an exchange that may be joined
 joins_well : {A : Type 0} (setting : Setting) (past : List Action) (now x : ℕ) (request : Message) (code : Code) (key : CacheKey) → Deserves setting past now request code → IsGet request → verdict_on setting request ≡ may_ask key → IsJoinable setting past key x → A
-joins_well setting past now x request code key (by_verdict refusal) get verdict joinable = absurd (let e = sym refusal ∙ verdict in cc)
+joins_well setting past now x request code key (by_verdict why refusal is) get verdict joinable = absurd (let e = sym refusal ∙ verdict in cc)
 joins_well setting past now x request code key (by_length other asked unanswered long is) get verdict joinable = none-joinable setting past now x other key request unanswered get (one_key (sym asked ∙ verdict)) joinable
 
 -- nor does one for which there is no room
@@ -189,11 +191,17 @@ roomy-join : {A : Type 0} {a b : Endpoint} (setting : Setting) (past : List Acti
 roomy-join setting past now x key other request get joinable room client same (to_join y also miss again full) = absurd (full (subst (λ (e : Endpoint). HasRoomToJoin setting.limits now e past) client room))
 roomy-join setting past now x key other request get joinable room client same (to_open unanswered short full) = none-joinable setting past now x other key request unanswered get (sym same) joinable
 
+-- a verdict refuses for one cause
+one_refusal : {a b : Refusal} → refused_with a ≡ refused_with b → a ≡ b
+one_refusal e = cc
+
 -- a request deserves only one code
 one_code : (setting : Setting) (past : List Action) (now : ℕ) (request : Message) (a b : Code) → Deserves setting past now request a → Deserves setting past now request b → a ≡ b
-one_code setting past now request a b (by_verdict p) (by_verdict q) = let e = sym p ∙ q in cc
-one_code setting past now request a b (by_verdict p) (by_length key q unanswered long is) = absurd (let e = sym p ∙ q in cc)
-one_code setting past now request a b (by_length key p unanswered long is) (by_verdict q) = absurd (let e = sym p ∙ q in cc)
+one_code setting past now request a b (by_verdict why p is) (by_verdict other q same) =
+    let refusal : why ≡ other = one_refusal (sym p ∙ q) in
+    is ∙ ap code_of refusal ∙ sym same
+one_code setting past now request a b (by_verdict why p same) (by_length key q unanswered long is) = absurd (let e = sym p ∙ q in cc)
+one_code setting past now request a b (by_length key p unanswered long is) (by_verdict why q same) = absurd (let e = sym p ∙ q in cc)
 one_code setting past now request a b (by_length key p unanswered long is) (by_length other q none longer same) = is ∙ sym same
 
 -- an event brings only one request, which deserves the same code in both accounts

@@ -10,6 +10,9 @@ use Rattle.coap_store.specs.Entries.{Entry, entry_key, entry_size}
 use Rattle.coap_store.specs.Lists.{of_key, others}
 use Rattle.coap_pending.specs.declared.exchange.Exchange.{Exchange}
 use Rattle.coap_pending.specs.Table.{Numbered, first_that, item_at}
+use Rattle.coap_model.specs.declared.deed.Deed.TheVariants as deeds
+use Rattle.coap_model.specs.declared.deed.Unprocessed.{Unprocessed}
+use Rattle.coap_model.specs.Deeds.{unread, unprocessable}
 use Rattle.coap_model.specs.declared.report.Outcome.{Outcome}
 use Rattle.coap_model.specs.declared.report.Outcome.TheVariants.{Answered}
 use Rattle.coap_model.specs.declared.report.Storing.{Storing}
@@ -47,7 +50,7 @@ remembered-told now source m s told grown = ap (remembers now source m) (told gr
 so-outcome : (w : State) (now : ℕ) (a : Arrived) (storing : Storing) (store : List Entry) → (answers_so w now a storing store).report.outcome ≡ Answered storing
 so-outcome w now a storing store = go (is_con a.message.kind)
   where
-    go : (b : Bool) → (if b then says (Answered storing) a.source (acknowledgement a.message.id) (answered_state w now a.exchange.0 a.answer store) else silent (Answered storing) (answered_state w now a.exchange.0 a.answer store)).report.outcome ≡ Answered storing
+    go : (b : Bool) → (if b then says (deeds.Answered a.exchange.0 storing) a.source (acknowledgement a.message.id) (answered_state w now a.exchange.0 a.answer store) else silent (deeds.Answered a.exchange.0 storing) (answered_state w now a.exchange.0 a.answer store)).report.outcome ≡ Answered storing
     go true = refl
     go false = refl
 
@@ -78,7 +81,7 @@ awaited-told w now source m (Some x) = answers-told w now source m x
 new_confirmable-told : (w : State) (now : ℕ) (source : Endpoint) (m : Message) (o : Option (Numbered Exchange)) → IsTold (λ grown. on_new_confirmable w now grown source m o)
 new_confirmable-told w now source m None = λ grown. refl
 new_confirmable-told w now source m (Some x) =
-    either (has_record_room w now source m.kind) (λ grown. remembers now source m (answers w now grown source m x)) (λ grown. drops w now)
+    either (has_record_room w now source m.kind) (λ grown. remembers now source m (answers w now grown source m x)) (λ grown. drops w now m.kind)
     (remembered-told now source m (λ grown. answers w now grown source m x) (answers-told w now source m x)) (λ grown. refl)
 
 -- a Confirmable response that may be known
@@ -111,17 +114,17 @@ sent-told w now source m (Some n) = found-told w now source m n (item_at n w.exc
 -- ---- steps
 
 -- a datagram that was read
-read-told : (w : State) (now : ℕ) (source : Endpoint) (h : Option Head) (o : Option Message) → IsTold (λ grown. on_read w now grown source h o)
-read-told w now source None o = λ grown. refl
-read-told w now source (Some head) None = λ grown. refl
-read-told w now source (Some head) (Some m) =
+read-told : (w : State) (now : ℕ) (source : Endpoint) (why : Unprocessed) (h : Option Head) (o : Option Message) → IsTold (λ grown. on_read w now grown source why h o)
+read-told w now source why None o = λ grown. refl
+read-told w now source why (Some head) None = λ grown. refl
+read-told w now source why (Some head) (Some m) =
     either (brings_requests m.kind && is_request m.code) (λ grown. on_request w now source m) (λ grown. on_no_request w now grown source m) (λ grown. refl)
     (either (brings_responses m.kind && is_response m.code) (λ grown. on_response w now grown source m) (λ grown. on_no_response w now grown source m) (response-told w now source m m.kind)
-    (either (is_bare m) (λ grown. on_empty w now grown source m) (λ grown. unprocessed w now source m.kind m.id) (sent-told w now source m (first_that (was_sent_as source m.id now) w.exchanges)) (λ grown. refl)))
+    (either (is_bare m) (λ grown. on_empty w now grown source m) (λ grown. unprocessed w now source m.kind m.id (unprocessable m.kind m.code)) (sent-told w now source m (first_that (was_sent_as source m.id now) w.exchanges)) (λ grown. refl)))
 
 -- each step is the one that its own report determines
 pub step-told : (w : State) (now draw : ℕ) (event : Event) (grown : Bool) → step_of w now draw (grown_of (step_of w now draw grown event).report.outcome) event ≡ step_of w now draw grown event
-step-told w now draw (arrival source bytes) = read-told w now source (head_at bytes) (message_in w.setting.limits.datagram bytes)
+step-told w now draw (arrival source bytes) = read-told w now source (unread w.setting.limits.datagram bytes) (head_at bytes) (message_in w.setting.limits.datagram bytes)
 step-told w now draw tick = λ grown. refl
 
 -- an outcome says that memory ran out only if an answer wasn't stored for this reason

@@ -6,7 +6,15 @@ use Rattle.std.proofs.lemmas.Option.{same_Some}
 use Rattle.coap_message.specs.declared.kind.Kind.{Kind}
 use Rattle.coap_message.specs.declared.kind.Kind.TheVariants.{Con, Non, Ack, Rst}
 use Rattle.coap_message.specs.declared.code.Code.{Code}
-use Rattle.coap_message.specs.declared.code.TheConstants.Code.{REQUEST_ENTITY_TOO_LARGE}
+use Rattle.coap_model.specs.declared.deed.Deed.{Deed}
+use Rattle.coap_model.specs.declared.deed.Deed.TheVariants.{Joined, Opened, Answered}
+use Rattle.coap_model.specs.declared.deed.Lacks.{Lacks}
+use Rattle.coap_model.specs.declared.deed.Refusal.{Refusal}
+use Rattle.coap_model.specs.declared.deed.Refusal.TheVariants.{Length}
+use Rattle.coap_model.specs.declared.deed.Silence.{Silence}
+use Rattle.coap_model.specs.declared.deed.Unprocessed.{Unprocessed}
+use Rattle.coap_model.specs.declared.deed.Unprocessed.TheVariants.{Nothing}
+use Rattle.coap_model.specs.Deeds.{outcome_of, silence_of, held_of, unread, unprocessable}
 use Rattle.coap_message.specs.declared.message.Head.{Head}
 use Rattle.coap_message.specs.Uint.{IsBytes}
 use Rattle.coap_message.specs.Message.{Message}
@@ -18,8 +26,6 @@ use Rattle.coap_store.specs.declared.key.CacheKey.{CacheKey}
 use Rattle.coap_store.specs.Entries.{Entry, entry_key, entry_size}
 use Rattle.coap_store.specs.Freshness.{is_usable}
 use Rattle.coap_store.specs.Lists.{of_key, others, put}
-use Rattle.coap_model.specs.declared.report.Outcome.{Outcome}
-use Rattle.coap_model.specs.declared.report.Outcome.TheVariants.{Joined, Opened, Answered}
 use Rattle.coap_model.specs.declared.report.Storing.{Storing}
 use Rattle.coap_model.specs.declared.report.Storing.TheVariants.{Kept, TooLarge, NoMemory, NotStored}
 use Rattle.coap_forward.specs.Changes.{changed_by}
@@ -36,7 +42,7 @@ use Rattle.coap_message.specs.Codes.{is_request, is_response}
 use Rattle.coap_forward.specs.Messages.{is_con, is_get, brings_requests, brings_responses, is_ack, is_rst, is_bare, is_empty, is_recorded, acknowledgement}
 use Rattle.coap_model.specs.Verdicts.{Verdict, refused_with, may_ask, verdict_of}
 use Rattle.coap_dedup.specs.declared.record.Record.{Record}
-use Rattle.coap_model.specs.State.{State, Step, has_record_room, has_room_to_join, has_room_to_open, can_reply, known_of, remembers, repeats, drops, ignores, rejects, unprocessed, silent, says, later}
+use Rattle.coap_model.specs.State.{State, Step, has_record_room, has_room_to_join, has_room_to_open, lacks_to_join, lacks_to_open, can_reply, known_of, remembers, repeats, drops, ignores, rejects, unprocessed, silent, says, later}
 use Rattle.coap_model.specs.Requests.{lacks_id, refuses, overloads, new_exchange, new_waiter, joins, opens, turns_down, turns_away, hits, on_exchange_needed, on_joinable, on_miss, on_entry, on_key, on_verdict, on_new, on_known, on_request}
 use Rattle.coap_model.specs.Answers.{Arrived, with_changed, may_store, answer_for, entry_made, answers_so, keeps_if, stores, answers_with, answers}
 use Rattle.coap_model.specs.Responses.{awaiting, on_not_confirmable, on_new_confirmable, on_unknown, on_response_in, on_response}
@@ -129,10 +135,10 @@ pub record IsUnanswered (w : State) (now : ℕ) (key : CacheKey) (m : Message) :
 abbrev pub held_for : State → CacheKey → Message → Option Stored
 held_for w key m = if is_get m.code then option_map (λ (e : Entry). e.1) (of_key entry_key key w.store) else None
 
--- a request deserves an error code for this proxy
-pub data IsDenied (w : State) (now : ℕ) (m : Message) (code : Code) : Type 0 where
-  by_verdict : verdict_in w m ≡ refused_with code → IsDenied w now m code
-  by_length : (key : CacheKey) → verdict_in w m ≡ may_ask key → IsUnanswered w now key m → fits_in w key m ≡ false → code ≡ REQUEST_ENTITY_TOO_LARGE → IsDenied w now m code
+-- a request is to be refused by this proxy for this
+pub data IsDenied (w : State) (now : ℕ) (m : Message) (why : Refusal) : Type 0 where
+  by_verdict : verdict_in w m ≡ refused_with why → IsDenied w now m why
+  by_length : (key : CacheKey) → verdict_in w m ≡ may_ask key → IsUnanswered w now key m → fits_in w key m ≡ false → why ≡ Length → IsDenied w now m why
 
 -- there is no room for what the request needs: to join the exchange that is found, or to open one
 pub data IsFull (w : State) (now : ℕ) (client : Endpoint) (key : CacheKey) (m : Message) : Type 0 where
@@ -173,9 +179,9 @@ pub data IsTakenUp (source : Endpoint) (m : Message) : Option Endpoint → List 
   silently : is_con m.kind ≡ false → IsTakenUp source m None []
   with_acknowledgement : is_con m.kind ≡ true → IsTakenUp source m (Some source) (spelling (acknowledgement m.id))
 
--- a step with this outcome, which sends this, and leaves these tables
-abbrev pub sending : Outcome → Option Endpoint → List ℕ → State → Step
-sending outcome send told w = record { report = record { send = send; outcome = outcome }; bytes = told; state = w }
+-- a step with this deed, which sends this, and leaves these tables
+abbrev pub sending : Deed → Option Endpoint → List ℕ → State → Step
+sending deed send told w = record { deed = deed; report = record { send = send; outcome = outcome_of deed }; bytes = told; state = w }
 
 -- a waiter waits for an exchange that existed
 abbrev pub joined_state : State → ℕ → Endpoint → Message → ℕ → State
@@ -205,25 +211,25 @@ answered_state w now n a store = record (later w now) { exchanges = changed_at n
 
 -- the cases of a step, each with what is known in it
 pub data Rule (w : State) (now draw : ℕ) (grown : Bool) : Event → Step → Type 0 where
-  refusing : (client : Endpoint) (bytes : List ℕ) (m : Message) (code : Code) → IsFirst w now client bytes m → IsDenied w now m code → can_reply w now m.kind ≡ true → Rule w now draw grown (arrival client bytes) (remembers now client m (refuses w now client m code))
+  refusing : (client : Endpoint) (bytes : List ℕ) (m : Message) (why : Refusal) → IsFirst w now client bytes m → IsDenied w now m why → can_reply w now m.kind ≡ true → Rule w now draw grown (arrival client bytes) (remembers now client m (refuses w now client m why))
   lacking : (client : Endpoint) (bytes : List ℕ) (m : Message) → IsFirst w now client bytes m → can_reply w now m.kind ≡ false → Rule w now draw grown (arrival client bytes) (remembers now client m (lacks_id w now))
-  overloading : (client : Endpoint) (bytes : List ℕ) (m : Message) (key : CacheKey) → IsFirst w now client bytes m → verdict_in w m ≡ may_ask key → IsFull w now client key m → can_reply w now m.kind ≡ true → Rule w now draw grown (arrival client bytes) (remembers now client m (overloads w now client m))
-  joining : (client : Endpoint) (bytes : List ℕ) (m : Message) (key : CacheKey) (exchange : ℕ) (send : Option Endpoint) (told : List ℕ) → IsFirst w now client bytes m → is_get m.code ≡ true → verdict_in w m ≡ may_ask key → IsMissed w now key → first_that (is_joinable key) w.exchanges ≡ Some exchange → has_room_to_join w now client ≡ true → IsTakenUp client m send told → Rule w now draw grown (arrival client bytes) (remembers now client m (sending Joined send told (joined_state w now client m exchange)))
-  opening : (client : Endpoint) (bytes : List ℕ) (m : Message) (key : CacheKey) (send : Option Endpoint) (told : List ℕ) → IsFirst w now client bytes m → verdict_in w m ≡ may_ask key → IsUnanswered w now key m → fits_in w key m ≡ true → has_room_to_open w now client ≡ true → IsTakenUp client m send told → Rule w now draw grown (arrival client bytes) (remembers now client m (sending Opened send told (opened_state w now client m key (held_for w key m))))
+  overloading : {lacks : Lacks} (client : Endpoint) (bytes : List ℕ) (m : Message) (key : CacheKey) → IsFirst w now client bytes m → verdict_in w m ≡ may_ask key → IsFull w now client key m → can_reply w now m.kind ≡ true → Rule w now draw grown (arrival client bytes) (remembers now client m (overloads w now client m lacks))
+  joining : (client : Endpoint) (bytes : List ℕ) (m : Message) (key : CacheKey) (exchange : ℕ) (send : Option Endpoint) (told : List ℕ) → IsFirst w now client bytes m → is_get m.code ≡ true → verdict_in w m ≡ may_ask key → IsMissed w now key → first_that (is_joinable key) w.exchanges ≡ Some exchange → has_room_to_join w now client ≡ true → IsTakenUp client m send told → Rule w now draw grown (arrival client bytes) (remembers now client m (sending (Joined (w.admitted + 1) exchange) send told (joined_state w now client m exchange)))
+  opening : (client : Endpoint) (bytes : List ℕ) (m : Message) (key : CacheKey) (send : Option Endpoint) (told : List ℕ) → IsFirst w now client bytes m → verdict_in w m ≡ may_ask key → IsUnanswered w now key m → fits_in w key m ≡ true → has_room_to_open w now client ≡ true → IsTakenUp client m send told → Rule w now draw grown (arrival client bytes) (remembers now client m (sending (Opened (w.admitted + 1) (w.opened + 1) (held_of m (held_for w key m))) send told (opened_state w now client m key (held_for w key m))))
   hitting : (client : Endpoint) (bytes : List ℕ) (m : Message) (key : CacheKey) (entry : Entry) → IsFirst w now client bytes m → is_get m.code ≡ true → verdict_in w m ≡ may_ask key → of_key entry_key key w.store ≡ Some entry → is_usable now entry.1 ≡ true → can_reply w now m.kind ≡ true → Rule w now draw grown (arrival client bytes) (remembers now client m (hits w now client m key entry.1))
   repeating : (source : Endpoint) (bytes : List ℕ) (m : Message) (known : Record) → IsBytes bytes → Recorded w bytes m → known_of w now source m ≡ Some known → Rule w now draw grown (arrival source bytes) (repeats w now source known.reply)
-  dropping : (source : Endpoint) (bytes : List ℕ) (m : Message) → IsBytes bytes → Recorded w bytes m → (is_response m.code ≡ true → (x : Numbered Exchange) × (awaiting w source m ≡ Some x)) → known_of w now source m ≡ None → has_record_room w now source m.kind ≡ false → Rule w now draw grown (arrival source bytes) (drops w now)
-  answering : (source : Endpoint) (bytes : List ℕ) (m : Message) (x : Numbered Exchange) (storing : Storing) (store : List Entry) → IsBytes bytes → message_in w.setting.limits.datagram bytes ≡ Some m → IsAnswerFor w now source m x → is_con m.kind ≡ false → IsStoring (changed_state w m x) now grown x (answer_for w now m x.1) storing store → Rule w now draw grown (arrival source bytes) (silent (Answered storing) (answered_state (changed_state w m x) now x.0 (answer_for w now m x.1) store))
+  dropping : (source : Endpoint) (bytes : List ℕ) (m : Message) → IsBytes bytes → Recorded w bytes m → (is_response m.code ≡ true → (x : Numbered Exchange) × (awaiting w source m ≡ Some x)) → known_of w now source m ≡ None → has_record_room w now source m.kind ≡ false → Rule w now draw grown (arrival source bytes) (drops w now m.kind)
+  answering : (source : Endpoint) (bytes : List ℕ) (m : Message) (x : Numbered Exchange) (storing : Storing) (store : List Entry) → IsBytes bytes → message_in w.setting.limits.datagram bytes ≡ Some m → IsAnswerFor w now source m x → is_con m.kind ≡ false → IsStoring (changed_state w m x) now grown x (answer_for w now m x.1) storing store → Rule w now draw grown (arrival source bytes) (silent (Answered x.0 storing) (answered_state (changed_state w m x) now x.0 (answer_for w now m x.1) store))
   answering_con : (source : Endpoint) (bytes : List ℕ) (m : Message) (x : Numbered Exchange) (storing : Storing) (store : List Entry) → IsBytes bytes → Recorded w bytes m → IsAnswerFor w now source m x → is_con m.kind ≡ true → known_of w now source m ≡ None → has_record_room w now source m.kind ≡ true → IsStoring (changed_state w m x) now grown x (answer_for w now m x.1) storing store
-      → Rule w now draw grown (arrival source bytes) (remembers now source m (says (Answered storing) source (acknowledgement m.id) (answered_state (changed_state w m x) now x.0 (answer_for w now m x.1) store)))
+      → Rule w now draw grown (arrival source bytes) (remembers now source m (says (Answered x.0 storing) source (acknowledgement m.id) (answered_state (changed_state w m x) now x.0 (answer_for w now m x.1) store)))
   acknowledging : (source : Endpoint) (bytes : List ℕ) (m : Message) (x : Numbered Exchange) → IsBytes bytes → message_in w.setting.limits.datagram bytes ≡ Some m → IsAbout w now source m x → is_ack m.kind ≡ true → Rule w now draw grown (arrival source bytes) (acknowledges w now x.0)
   closing : (source : Endpoint) (bytes : List ℕ) (m : Message) (number : ℕ) → IsBytes bytes → message_in w.setting.limits.datagram bytes ≡ Some m → IsOfAnswer w now source m number → Rule w now draw grown (arrival source bytes) (closes w now number)
-  rejecting : (source : Endpoint) (bytes : List ℕ) (head : Head) → head_at bytes ≡ Some head → is_con head.kind ≡ true → IsNothing w now source bytes → Rule w now draw grown (arrival source bytes) (rejects w now source head.id)
-  ignoring : (source : Endpoint) (bytes : List ℕ) → IsNotCon bytes → IsNothing w now source bytes → Rule w now draw grown (arrival source bytes) (ignores w now)
+  rejecting : {why : Unprocessed} (source : Endpoint) (bytes : List ℕ) (head : Head) → head_at bytes ≡ Some head → is_con head.kind ≡ true → IsNothing w now source bytes → Rule w now draw grown (arrival source bytes) (rejects w now source head.id why)
+  ignoring : {why : Unprocessed} (source : Endpoint) (bytes : List ℕ) → IsNotCon bytes → IsNothing w now source bytes → Rule w now draw grown (arrival source bytes) (ignores w now why)
   forwarding : (at number : ℕ) (x : Exchange) → IsTurnOf w now at number x → x.state ≡ Queued → now < deadline w.setting.limits.exchange_ms x → Rule w now draw grown tick (sends w now draw number x)
   resending : (at number : ℕ) (x : Exchange) → IsTurnOf w now at number x → x.state ≡ Sent → now < deadline w.setting.limits.exchange_ms x → fire_of_sending now x.sending ≡ Again → Rule w now draw grown tick (resends w now number x)
-  giving_up : (at number : ℕ) (x : Exchange) → IsTurnOf w now at number x → IsOver w now x → Rule w now draw grown tick (gives_up w now number)
-  delivering : (at number exchange : ℕ) (v : Waiter) (x : Exchange) (a : Answer) (left : List (Numbered Waiter)) → if_due now (item_due w) ≡ Some (OfWaiter at number) → item_at number w.waiters ≡ Some v → v.state ≡ Waiting exchange → item_at exchange w.exchanges ≡ Some x → answer_at x ≡ Some a → IsTold w now draw number (given_to w now v x.is_get a) left → Rule w now draw grown tick (tells w now v exchange (given_to w now v x.is_get a) left)
+  giving_up : {silence : Silence} (at number : ℕ) (x : Exchange) → IsTurnOf w now at number x → IsOver w now x → Rule w now draw grown tick (gives_up w now number silence)
+  delivering : (at number exchange : ℕ) (v : Waiter) (x : Exchange) (a : Answer) (left : List (Numbered Waiter)) → if_due now (item_due w) ≡ Some (OfWaiter at number) → item_at number w.waiters ≡ Some v → v.state ≡ Waiting exchange → item_at exchange w.exchanges ≡ Some x → answer_at x ≡ Some a → IsTold w now draw number (given_to w now v x.is_get a) left → Rule w now draw grown tick (tells w now number v exchange (given_to w now v x.is_get a) left)
   redelivering : (at number : ℕ) (v : Waiter) (bytes : List ℕ) (id : ℕ) (timer : Timer) → IsTurnOfTold w now at number v bytes id timer → fire_of now timer ≡ Again → Rule w now draw grown tick (redelivers w now number v bytes)
   abandoning : (at number : ℕ) (v : Waiter) (bytes : List ℕ) (id : ℕ) (timer : Timer) → IsTurnOfTold w now at number v bytes id timer → fire_of now timer ≡ GiveUp → Rule w now draw grown tick (abandons w now number)
   idling : if_due now (item_due w) ≡ None → Rule w now draw grown tick (idles w now)
@@ -323,18 +329,18 @@ recorded-response m recorded response = and_from (brings_responses m.kind) (is_r
 -- ---- requests
 
 -- a request that deserves a code is refused with it, if an id is free
-rule_refusal : (w : State) (now draw : ℕ) (grown : Bool) (client : Endpoint) (bytes : List ℕ) (m : Message) (code : Code) → IsFirst w now client bytes m → IsDenied w now m code → Rule w now draw grown (arrival client bytes) (remembers now client m (turns_down w now client m code))
-rule_refusal w now draw grown client bytes m code first denied = go (can_reply w now m.kind) refl
+rule_refusal : (w : State) (now draw : ℕ) (grown : Bool) (client : Endpoint) (bytes : List ℕ) (m : Message) (why : Refusal) → IsFirst w now client bytes m → IsDenied w now m why → Rule w now draw grown (arrival client bytes) (remembers now client m (turns_down w now client m why))
+rule_refusal w now draw grown client bytes m why first denied = go (can_reply w now m.kind) refl
   where
-    go : (b : Bool) → can_reply w now m.kind ≡ b → Rule w now draw grown (arrival client bytes) (remembers now client m (cond b (refuses w now client m code) (lacks_id w now)))
-    go true free = refusing client bytes m code first denied free
+    go : (b : Bool) → can_reply w now m.kind ≡ b → Rule w now draw grown (arrival client bytes) (remembers now client m (cond b (refuses w now client m why) (lacks_id w now)))
+    go true free = refusing client bytes m why first denied free
     go false free = lacking client bytes m first free
 
 -- if there is no room for what a request needs, it is turned away
-rule_full : (w : State) (now draw : ℕ) (grown : Bool) (client : Endpoint) (bytes : List ℕ) (m : Message) (key : CacheKey) → IsFirst w now client bytes m → verdict_in w m ≡ may_ask key → IsFull w now client key m → Rule w now draw grown (arrival client bytes) (remembers now client m (turns_away w now client m))
-rule_full w now draw grown client bytes m key first e full = go (can_reply w now m.kind) refl
+rule_full : (w : State) (now draw : ℕ) (grown : Bool) (client : Endpoint) (bytes : List ℕ) (m : Message) (key : CacheKey) (lacks : Lacks) → IsFirst w now client bytes m → verdict_in w m ≡ may_ask key → IsFull w now client key m → Rule w now draw grown (arrival client bytes) (remembers now client m (turns_away w now client m lacks))
+rule_full w now draw grown client bytes m key lacks first e full = go (can_reply w now m.kind) refl
   where
-    go : (b : Bool) → can_reply w now m.kind ≡ b → Rule w now draw grown (arrival client bytes) (remembers now client m (cond b (overloads w now client m) (lacks_id w now)))
+    go : (b : Bool) → can_reply w now m.kind ≡ b → Rule w now draw grown (arrival client bytes) (remembers now client m (cond b (overloads w now client m lacks) (lacks_id w now)))
     go true free = overloading client bytes m key first e full free
     go false free = lacking client bytes m first free
 
@@ -342,29 +348,32 @@ rule_full w now draw grown client bytes m key first e full = go (can_reply w now
 rule_wanted : (w : State) (now draw : ℕ) (grown : Bool) (client : Endpoint) (bytes : List ℕ) (m : Message) (key : CacheKey) (stored : Option Stored) → IsFirst w now client bytes m → verdict_in w m ≡ may_ask key → IsUnanswered w now key m → held_for w key m ≡ stored → Rule w now draw grown (arrival client bytes) (remembers now client m (on_exchange_needed w now client m key stored))
 rule_wanted w now draw grown client bytes m key stored first e none held = by_fit (fits_in w key m) refl
   where
-    up : fits_in w key m ≡ true → has_room_to_open w now client ≡ true → (b : Bool) → is_con m.kind ≡ b → Rule w now draw grown (arrival client bytes) (remembers now client m (cond b (says Opened client (acknowledgement m.id) (opened_state w now client m key stored)) (silent Opened (opened_state w now client m key stored))))
-    up short there true con = subst (λ (s : Option Stored). Rule w now draw grown (arrival client bytes) (remembers now client m (says Opened client (acknowledgement m.id) (opened_state w now client m key s)))) held (opening client bytes m key (Some client) (spelling (acknowledgement m.id)) first e none short there (with_acknowledgement con))
-    up short there false other = subst (λ (s : Option Stored). Rule w now draw grown (arrival client bytes) (remembers now client m (silent Opened (opened_state w now client m key s)))) held (opening client bytes m key None [] first e none short there (silently other))
+    opened_deed : Option Stored → Deed
+    opened_deed s = Opened (w.admitted + 1) (w.opened + 1) (held_of m s)
 
-    room : fits_in w key m ≡ true → (b : Bool) → has_room_to_open w now client ≡ b → Rule w now draw grown (arrival client bytes) (remembers now client m (cond b (opens w now client m key stored) (turns_away w now client m)))
+    up : fits_in w key m ≡ true → has_room_to_open w now client ≡ true → (b : Bool) → is_con m.kind ≡ b → Rule w now draw grown (arrival client bytes) (remembers now client m (cond b (says (opened_deed stored) client (acknowledgement m.id) (opened_state w now client m key stored)) (silent (opened_deed stored) (opened_state w now client m key stored))))
+    up short there true con = subst (λ (s : Option Stored). Rule w now draw grown (arrival client bytes) (remembers now client m (says (opened_deed s) client (acknowledgement m.id) (opened_state w now client m key s)))) held (opening client bytes m key (Some client) (spelling (acknowledgement m.id)) first e none short there (with_acknowledgement con))
+    up short there false other = subst (λ (s : Option Stored). Rule w now draw grown (arrival client bytes) (remembers now client m (silent (opened_deed s) (opened_state w now client m key s)))) held (opening client bytes m key None [] first e none short there (silently other))
+
+    room : fits_in w key m ≡ true → (b : Bool) → has_room_to_open w now client ≡ b → Rule w now draw grown (arrival client bytes) (remembers now client m (cond b (opens w now client m key stored) (turns_away w now client m (lacks_to_open w now client))))
     room short true there = up short there (is_con m.kind) refl
-    room short false full = rule_full w now draw grown client bytes m key first e (to_open none short full)
+    room short false full = rule_full w now draw grown client bytes m key (lacks_to_open w now client) first e (to_open none short full)
 
-    by_fit : (b : Bool) → fits_in w key m ≡ b → Rule w now draw grown (arrival client bytes) (remembers now client m (cond b (cond (has_room_to_open w now client) (opens w now client m key stored) (turns_away w now client m)) (turns_down w now client m REQUEST_ENTITY_TOO_LARGE)))
+    by_fit : (b : Bool) → fits_in w key m ≡ b → Rule w now draw grown (arrival client bytes) (remembers now client m (cond b (cond (has_room_to_open w now client) (opens w now client m key stored) (turns_away w now client m (lacks_to_open w now client))) (turns_down w now client m Length)))
     by_fit true short = room short (has_room_to_open w now client) refl
-    by_fit false long = rule_refusal w now draw grown client bytes m REQUEST_ENTITY_TOO_LARGE first (by_length key e none long refl)
+    by_fit false long = rule_refusal w now draw grown client bytes m Length first (by_length key e none long refl)
 
 -- a GET whose key is missed is a case by the exchange that may be joined, and by the room
 rule_miss : (w : State) (now draw : ℕ) (grown : Bool) (client : Endpoint) (bytes : List ℕ) (m : Message) (key : CacheKey) (stored : Option Stored) → IsFirst w now client bytes m → is_get m.code ≡ true → verdict_in w m ≡ may_ask key → IsMissed w now key → held_for w key m ≡ stored → Rule w now draw grown (arrival client bytes) (remembers now client m (on_miss w now client m key stored))
 rule_miss w now draw grown client bytes m key stored first get e missed held = by_search (first_that (is_joinable key) w.exchanges) refl
   where
-    up : (exchange : ℕ) → first_that (is_joinable key) w.exchanges ≡ Some exchange → has_room_to_join w now client ≡ true → (b : Bool) → is_con m.kind ≡ b → Rule w now draw grown (arrival client bytes) (remembers now client m (cond b (says Joined client (acknowledgement m.id) (joined_state w now client m exchange)) (silent Joined (joined_state w now client m exchange))))
+    up : (exchange : ℕ) → first_that (is_joinable key) w.exchanges ≡ Some exchange → has_room_to_join w now client ≡ true → (b : Bool) → is_con m.kind ≡ b → Rule w now draw grown (arrival client bytes) (remembers now client m (cond b (says (Joined (w.admitted + 1) exchange) client (acknowledgement m.id) (joined_state w now client m exchange)) (silent (Joined (w.admitted + 1) exchange) (joined_state w now client m exchange))))
     up exchange found there true con = joining client bytes m key exchange (Some client) (spelling (acknowledgement m.id)) first get e missed found there (with_acknowledgement con)
     up exchange found there false other = joining client bytes m key exchange None [] first get e missed found there (silently other)
 
-    room : (exchange : ℕ) → first_that (is_joinable key) w.exchanges ≡ Some exchange → (b : Bool) → has_room_to_join w now client ≡ b → Rule w now draw grown (arrival client bytes) (remembers now client m (cond b (joins w now client m exchange) (turns_away w now client m)))
+    room : (exchange : ℕ) → first_that (is_joinable key) w.exchanges ≡ Some exchange → (b : Bool) → has_room_to_join w now client ≡ b → Rule w now draw grown (arrival client bytes) (remembers now client m (cond b (joins w now client m exchange) (turns_away w now client m (lacks_to_join w now client))))
     room exchange found true there = up exchange found there (is_con m.kind) refl
-    room exchange found false full = rule_full w now draw grown client bytes m key first e (to_join exchange get missed found full)
+    room exchange found false full = rule_full w now draw grown client bytes m key (lacks_to_join w now client) first e (to_join exchange get missed found full)
 
     by_search : (o : Option ℕ) → first_that (is_joinable key) w.exchanges ≡ o → Rule w now draw grown (arrival client bytes) (remembers now client m (on_joinable w now client m key stored o))
     by_search None none = rule_wanted w now draw grown client bytes m key stored first e (record { missed = λ _. missed; alone = λ _. none }) held
@@ -402,7 +411,7 @@ rule_key w now draw grown client bytes m key first e = go (is_get m.code) refl
 
 -- a request is a case by its verdict
 rule_verdict : (w : State) (now draw : ℕ) (grown : Bool) (client : Endpoint) (bytes : List ℕ) (m : Message) → IsFirst w now client bytes m → (v : Verdict) → verdict_in w m ≡ v → Rule w now draw grown (arrival client bytes) (remembers now client m (on_verdict w now client m v))
-rule_verdict w now draw grown client bytes m first (refused_with code) e = rule_refusal w now draw grown client bytes m code first (by_verdict e)
+rule_verdict w now draw grown client bytes m first (refused_with why) e = rule_refusal w now draw grown client bytes m why first (by_verdict e)
 rule_verdict w now draw grown client bytes m first (may_ask key) e = rule_key w now draw grown client bytes m key first e
 
 -- a request that is processed is remembered
@@ -414,7 +423,7 @@ rule_known : (w : State) (now draw : ℕ) (grown : Bool) (client : Endpoint) (by
 rule_known w now draw grown client bytes m fits asked (Some known) e = repeating client bytes m known fits (request_recorded w bytes m asked) e
 rule_known w now draw grown client bytes m fits asked None e = go (has_record_room w now client m.kind) refl
   where
-    go : (b : Bool) → has_record_room w now client m.kind ≡ b → Rule w now draw grown (arrival client bytes) (cond b (remembers now client m (on_new w now client m)) (drops w now))
+    go : (b : Bool) → has_record_room w now client m.kind ≡ b → Rule w now draw grown (arrival client bytes) (cond b (remembers now client m (on_new w now client m)) (drops w now m.kind))
     go true room = rule_verdict w now draw grown client bytes m (record { fits = fits; asked = asked; unknown = e; room = room }) (verdict_in w m) refl
     go false room =
         dropping client bytes m fits (request_recorded w bytes m asked)
@@ -427,10 +436,10 @@ one_head : (bytes : List ℕ) (head : Head) → head_at bytes ≡ Some head → 
 one_head bytes head is other again also = let same : head ≡ again = same_Some head again (sym is ∙ also) in subst (λ (h : Head). is_con h.kind ≡ false) same other
 
 -- what isn't processed is rejected if it is Confirmable
-rule_unprocessed : (w : State) (now draw : ℕ) (grown : Bool) (source : Endpoint) (bytes : List ℕ) (head : Head) → head_at bytes ≡ Some head → IsNothing w now source bytes → Rule w now draw grown (arrival source bytes) (unprocessed w now source head.kind head.id)
-rule_unprocessed w now draw grown source bytes head is none = go (is_con head.kind) refl
+rule_unprocessed : (w : State) (now draw : ℕ) (grown : Bool) (source : Endpoint) (bytes : List ℕ) (head : Head) (why : Unprocessed) → head_at bytes ≡ Some head → IsNothing w now source bytes → Rule w now draw grown (arrival source bytes) (unprocessed w now source head.kind head.id why)
+rule_unprocessed w now draw grown source bytes head why is none = go (is_con head.kind) refl
   where
-    go : (b : Bool) → is_con head.kind ≡ b → Rule w now draw grown (arrival source bytes) (cond b (rejects w now source head.id) (ignores w now))
+    go : (b : Bool) → is_con head.kind ≡ b → Rule w now draw grown (arrival source bytes) (cond b (rejects w now source head.id why) (ignores w now why))
     go true con = rejecting source bytes head is con none
     go false other = ignoring source bytes (one_head bytes head is other) none
 
@@ -480,7 +489,7 @@ module _ (w : State) (now draw : ℕ) (grown : Bool) (source : Endpoint) (bytes 
   rule_answer x for other = rule_storing w (changed_state w m x) now draw grown (arrival source bytes) (λ s. s) (arrived x) (λ storing store s. go storing store s (is_con m.kind) other)
     where
       go : (storing : Storing) (store : List Entry) → IsStoring (changed_state w m x) now grown x (answer_for w now m x.1) storing store → (b : Bool) → b ≡ false
-          → Rule w now draw grown (arrival source bytes) (cond b (says (Answered storing) source (acknowledgement m.id) (answered_state (changed_state w m x) now x.0 (answer_for w now m x.1) store)) (silent (Answered storing) (answered_state (changed_state w m x) now x.0 (answer_for w now m x.1) store)))
+          → Rule w now draw grown (arrival source bytes) (cond b (says (Answered x.0 storing) source (acknowledgement m.id) (answered_state (changed_state w m x) now x.0 (answer_for w now m x.1) store)) (silent (Answered x.0 storing) (answered_state (changed_state w m x) now x.0 (answer_for w now m x.1) store)))
       go storing store s true e = absurd cc
       go storing store s false e = answering source bytes m x storing store fits read for other s
 
@@ -489,7 +498,7 @@ module _ (w : State) (now draw : ℕ) (grown : Bool) (source : Endpoint) (bytes 
   rule_answer_con x recorded for con unknown room = rule_storing w (changed_state w m x) now draw grown (arrival source bytes) (remembers now source m) (arrived x) (λ storing store s. go storing store s (is_con m.kind) con)
     where
       go : (storing : Storing) (store : List Entry) → IsStoring (changed_state w m x) now grown x (answer_for w now m x.1) storing store → (b : Bool) → b ≡ true
-          → Rule w now draw grown (arrival source bytes) (remembers now source m (cond b (says (Answered storing) source (acknowledgement m.id) (answered_state (changed_state w m x) now x.0 (answer_for w now m x.1) store)) (silent (Answered storing) (answered_state (changed_state w m x) now x.0 (answer_for w now m x.1) store))))
+          → Rule w now draw grown (arrival source bytes) (remembers now source m (cond b (says (Answered x.0 storing) source (acknowledgement m.id) (answered_state (changed_state w m x) now x.0 (answer_for w now m x.1) store)) (silent (Answered x.0 storing) (answered_state (changed_state w m x) now x.0 (answer_for w now m x.1) store))))
       go storing store s false e = absurd cc
       go storing store s true e = answering_con source bytes m x storing store fits (record { read = read; recorded = recorded }) for con unknown room s
 
@@ -525,7 +534,7 @@ module _ (w : State) (now draw : ℕ) (grown : Bool) (source : Endpoint) (bytes 
         recorded : is_recorded m ≡ true
         recorded = or_second (brings_requests m.kind && is_request m.code) (is_con m.kind && is_response m.code) (and_from (is_con m.kind) (is_response m.code) (ap is_con con) code)
 
-        go : (b : Bool) → has_record_room w now source m.kind ≡ b → Rule w now draw grown (arrival source bytes) (cond b (remembers now source m (answers w now grown source m x)) (drops w now))
+        go : (b : Bool) → has_record_room w now source m.kind ≡ b → Rule w now draw grown (arrival source bytes) (cond b (remembers now source m (answers w now grown source m x)) (drops w now m.kind))
         go true room = rule_answer_con x recorded (by_response response e) (ap is_con con) unknown room
         go false full = dropping source bytes m fits (record { read = read; recorded = recorded }) (λ _. (x, e)) unknown full
 
@@ -549,7 +558,7 @@ module _ (w : State) (now draw : ℕ) (grown : Bool) (source : Endpoint) (bytes 
     not_con = bare_not_con m bare
 
     -- an Empty message that refers to nothing is for nobody
-    unmatched : ((x : Numbered Exchange) → ¬ IsAbout w now source m x) → ((n : ℕ) → ¬ IsOfAnswer w now source m n) → Rule w now draw grown (arrival source bytes) (ignores w now)
+    unmatched : ((x : Numbered Exchange) → ¬ IsAbout w now source m x) → ((n : ℕ) → ¬ IsOfAnswer w now source m n) → Rule w now draw grown (arrival source bytes) (ignores w now Nothing)
     unmatched none nobody =
         ignoring source bytes (one_head bytes own_head (head_of_read w bytes m fits read) not_con)
         (nothing_else w now source bytes m read (
@@ -595,10 +604,10 @@ module _ (w : State) (now draw : ℕ) (grown : Bool) (source : Endpoint) (bytes 
   -- ---- messages
 
   -- what is neither a request nor a response is a case by whether it is Empty
-  rule_no_response : (brings_requests m.kind && is_request m.code) ≡ false → (brings_responses m.kind && is_response m.code) ≡ false → (b : Bool) → is_bare m ≡ b → Rule w now draw grown (arrival source bytes) (cond b (on_empty w now grown source m) (unprocessed w now source m.kind m.id))
+  rule_no_response : (brings_requests m.kind && is_request m.code) ≡ false → (brings_responses m.kind && is_response m.code) ≡ false → (b : Bool) → is_bare m ≡ b → Rule w now draw grown (arrival source bytes) (cond b (on_empty w now grown source m) (unprocessed w now source m.kind m.id (unprocessable m.kind m.code)))
   rule_no_response request response true bare = rule_sent bare (first_that (was_sent_as source m.id now) w.exchanges) refl
   rule_no_response request response false full =
-      rule_unprocessed w now draw grown source bytes own_head (head_of_read w bytes m fits read)
+      rule_unprocessed w now draw grown source bytes own_head (unprocessable m.kind m.code) (head_of_read w bytes m fits read)
       (nothing_else w now source bytes m read (
       record {
         request = request;
@@ -622,11 +631,11 @@ module _ (w : State) (now draw : ℕ) (grown : Bool) (source : Endpoint) (bytes 
       go false e = rule_no_request e (brings_responses m.kind && is_response m.code) refl
 
 -- a datagram is a case by what is read from it
-rule_read : (w : State) (now draw : ℕ) (grown : Bool) (source : Endpoint) (bytes : List ℕ) → IsBytes bytes → (h : Option Head) → head_at bytes ≡ h → (o : Option Message) → message_in w.setting.limits.datagram bytes ≡ o → Rule w now draw grown (arrival source bytes) (on_read w now grown source h o)
+rule_read : (w : State) (now draw : ℕ) (grown : Bool) (source : Endpoint) (bytes : List ℕ) → IsBytes bytes → (h : Option Head) → head_at bytes ≡ h → (o : Option Message) → message_in w.setting.limits.datagram bytes ≡ o → Rule w now draw grown (arrival source bytes) (on_read w now grown source (unread w.setting.limits.datagram bytes) h o)
 rule_read w now draw grown source bytes fits None is None read = ignoring source bytes (λ head also. absurd (let g = sym is ∙ also in cc)) (nothing_read w now source bytes read)
 rule_read w now draw grown source bytes fits None is (Some m) read =
     absurd (let head = head_read bytes m (message_in-is w.setting.limits.datagram bytes m fits read).2 in let g = sym is ∙ head in cc)
-rule_read w now draw grown source bytes fits (Some h) is None read = rule_unprocessed w now draw grown source bytes h is (nothing_read w now source bytes read)
+rule_read w now draw grown source bytes fits (Some h) is None read = rule_unprocessed w now draw grown source bytes h (unread w.setting.limits.datagram bytes) is (nothing_read w now source bytes read)
 rule_read w now draw grown source bytes fits (Some h) is (Some m) read = rule_message w now draw grown source bytes m fits read
 
 -- ---- ticks
@@ -649,7 +658,7 @@ rule_exchange w now draw grown at number due (Some x) e = by_deadline (nat_le (d
     by_state early Acked is = stuck (acknowledged at number x turn is early)
     by_state early (Done a) is = stuck (answered at number x a turn is)
 
-    by_deadline : (b : Bool) → nat_le (deadline w.setting.limits.exchange_ms x) now ≡ b → Rule w now draw grown tick (cond b (gives_up w now number) (in_time w now draw number x x.state))
+    by_deadline : (b : Bool) → nat_le (deadline w.setting.limits.exchange_ms x) now ≡ b → Rule w now draw grown tick (cond b (gives_up w now number (silence_of x.state)) (in_time w now draw number x x.state))
     by_deadline true late = giving_up at number x turn (overdue (leb-true _ _ late))
     by_deadline false early = by_state (leb-false _ _ early) x.state refl
 
@@ -659,7 +668,7 @@ rule_waiter w now draw grown at number due None e = stuck (no_waiter at number d
 rule_waiter w now draw grown at number due (Some v) e = by_state v.state refl
   where
     by_kind : (exchange : ℕ) (x : Exchange) (a : Answer) → v.state ≡ Waiting exchange → item_at exchange w.exchanges ≡ Some x → answer_at x ≡ Some a → (b : Bool) → is_con v.kind ≡ b
-        → Rule w now draw grown tick (tells w now v exchange (given_to w now v x.is_get a) (cond b (changed_at number (waiters.delivered (spelling (given_to w now v x.is_get a)) (given_to w now v x.is_get a).id (started now draw)) w.waiters) (without number w.waiters)))
+        → Rule w now draw grown tick (tells w now number v exchange (given_to w now v x.is_get a) (cond b (changed_at number (waiters.delivered (spelling (given_to w now v x.is_get a)) (given_to w now v x.is_get a).id (started now draw)) w.waiters) (without number w.waiters)))
     by_kind exchange x a is there f true con = delivering at number exchange v x a _ due e is there f (to_acknowledge con)
     by_kind exchange x a is there f false other = delivering at number exchange v x a _ due e is there f (done_with other)
 

@@ -2,7 +2,7 @@
 use Rattle.std.proofs.Common.{◌≡◌, ◌≢◌, ℕ, ◌+◌, ◌≤◌, Bool, true, false, cond, List, length, Option, Some, None, Result, Ok, Err, refl, sym, ◌∙◌, ap, subst, arith}
 use Rattle.std.proofs.lemmas.Bool.{leb-true}
 use Rattle.coap_message.specs.declared.code.Code.{Code}
-use Rattle.coap_message.specs.declared.code.TheConstants.Code.{METHOD_NOT_ALLOWED, REQUEST_ENTITY_TOO_LARGE}
+use Rattle.coap_message.specs.declared.code.TheConstants.Code.{REQUEST_ENTITY_TOO_LARGE}
 use Rattle.coap_message.specs.Message.{Message}
 use Rattle.coap_message.specs.Spelling.{spelling}
 use Rattle.coap_message.proofs.Spellings.{spelling-length}
@@ -19,6 +19,9 @@ use Rattle.coap_target.specs.Routes.{AreRoutes}
 use Rattle.coap_target.proofs.Requests.{request_target-is}
 use Rattle.coap_forward.specs.Messages.{eight_zeros, is_method}
 use Rattle.coap_forward.specs.Forms.{forwarded, form_fits}
+use Rattle.coap_model.specs.declared.deed.Refusal.{Refusal}
+use Rattle.coap_model.specs.declared.deed.Refusal.TheVariants as refusals
+use Rattle.coap_model.specs.Deeds.{code_of}
 use Rattle.coap_model.specs.Keys.{request_key}
 use Rattle.coap_model.specs.Verdicts.{Verdict, refused_with, may_ask, refusal_of, verdict_of_target, verdict_of_options, verdict_of}
 use Rattle.coap_model.specs.Setting.{Setting}
@@ -49,7 +52,7 @@ pub code-same : (a b : Code) → a.0 ≡ b.0 → a ≡ b
 code-same a b e = let same : ◌≡◌ {A = Code} (record { 0 = a.0 }) (record { 0 = b.0 }) = rw e refl in same
 
 -- no refusal for the target has the code 0.00
-refusal-coded : (e : TargetError) → (refusal_of e).0 ≢ 0
+refusal-coded : (e : TargetError) → (code_of (refusal_of e)).0 ≢ 0
 refusal-coded BadUri = λ z. absurd (omega arith)
 refusal-coded NotProxied = λ z. absurd (omega arith)
 refusal-coded NotFound = λ z. absurd (omega arith)
@@ -57,7 +60,7 @@ refusal-coded OutOfMemory = λ z. absurd (omega arith)
 
 -- a verdict is right: a refusal has a code, and what may be forwarded is as described
 abbrev Right : Routes → Message → Verdict → Type 0
-Right routes m (refused_with code) = code.0 ≢ 0
+Right routes m (refused_with why) = (code_of why).0 ≢ 0
 Right routes m (may_ask key) = IsAskable routes m key
 
 module _ (routes : Routes) (m : Message) (are : AreRoutes routes) where
@@ -76,7 +79,7 @@ module _ (routes : Routes) (m : Message) (are : AreRoutes routes) where
   unfolding verdict_of
   verdict-right = go (is_method m.code) refl
     where
-      go : (b : Bool) → is_method m.code ≡ b → Right routes m (cond b (verdict_of_options routes m (first_refused Request m.options)) (refused_with METHOD_NOT_ALLOWED))
+      go : (b : Bool) → is_method m.code ≡ b → Right routes m (cond b (verdict_of_options routes m (first_refused Request m.options)) (refused_with refusals.Method))
       go true e = options-right e (first_refused Request m.options) refl
       go false e = λ z. absurd (omega arith)
 
@@ -85,10 +88,10 @@ module _ (routes : Routes) (m : Message) (are : AreRoutes routes) where
   askable key e = subst (Right routes m) e verdict-right
 
   -- the code of a refusal isn't 0.00
-  pub refused-code : (code : Code) → verdict_of routes m ≡ refused_with code → code.0 ≢ 0
-  refused-code code e = subst (Right routes m) e verdict-right
+  pub refused-code : (why : Refusal) → verdict_of routes m ≡ refused_with why → (code_of why).0 ≢ 0
+  refused-code why e = subst (Right routes m) e verdict-right
 
 -- nor is a code that a request deserves
 pub deserved-code : (setting : Setting) (past : List Action) (now : ℕ) (m : Message) → AreRoutes setting.routes → (code : Code) → Deserves setting past now m code → code.0 ≢ 0
-deserved-code setting past now m are code (by_verdict verdict) = refused-code setting.routes m are code verdict
+deserved-code setting past now m are code (by_verdict why verdict is) = subst (λ (c : Code). c.0 ≢ 0) (sym is) (refused-code setting.routes m are why verdict)
 deserved-code setting past now m are code (by_length key verdict miss fits is) = λ zero. let big : REQUEST_ENTITY_TOO_LARGE.0 ≡ 0 = ap (λ (c : Code). c.0) (sym is) ∙ zero in absurd (omega arith)

@@ -10,7 +10,7 @@ use Rattle.coap_store.specs.declared.answer.Answer.{Answer}
 use Rattle.coap_pending.specs.declared.exchange.Exchange.{Exchange}
 use Rattle.coap_pending.specs.Exchanges.{answered, tainted_by, asked_of}
 use Rattle.coap_pending.specs.Table.{Numbered, all_changed, changed_at}
-use Rattle.coap_model.specs.declared.report.Outcome.TheVariants.{Answered}
+use Rattle.coap_model.specs.declared.deed.Deed.TheVariants.{Answered}
 use Rattle.coap_model.specs.declared.report.Storing.{Storing}
 use Rattle.coap_model.specs.declared.report.Storing.TheVariants.{Kept, TooLarge, NoMemory, NotStored}
 use Rattle.coap_forward.specs.Answers.{answer_of, is_storable}
@@ -63,7 +63,7 @@ entry_made w now x a = (
 -- acknowledged
 abbrev pub answers_so : State → ℕ → Arrived → Storing → List Entry → Step
 answers_so w now a storing store =
-    accepts (Answered storing) a.source a.message (record (later w now) {
+    accepts (Answered a.exchange.0 storing) a.source a.message (record (later w now) {
       exchanges = changed_at a.exchange.0 (answered a.answer) w.exchanges;
       store = store;
     })

@@ -7,7 +7,8 @@ use Rattle.coap_pending.specs.declared.exchange.Exchange.{Exchange}
 use Rattle.coap_pending.specs.Exchanges.{acked, is_sent, was_sent_as}
 use Rattle.coap_pending.specs.Table.{changed_at, first_that, item_at, without}
 use Rattle.coap_pending.specs.Waiters as waiters
-use Rattle.coap_model.specs.declared.report.Outcome.TheVariants.{Acked}
+use Rattle.coap_model.specs.declared.deed.Deed.TheVariants.{Acknowledged, Closed}
+use Rattle.coap_model.specs.declared.deed.Unprocessed.TheVariants.{Nothing}
 use Rattle.coap_forward.specs.Messages.{is_ack}
 use Rattle.coap_model.specs.State.{State, Step, later, silent, ignores}
 use Rattle.coap_model.specs.Answers.{answers}
@@ -15,15 +16,17 @@ use Rattle.coap_model.specs.Answers.{answers}
 -- the request was acknowledged: its answer will be a separate response
 abbrev pub acknowledges : State → ℕ → ℕ → Step
 acknowledges w now number =
-    silent Acked (record (later w now) { exchanges = changed_at number acked w.exchanges })
+    silent (Acknowledged number)
+    (record (later w now) { exchanges = changed_at number acked w.exchanges })
 
 -- the client acknowledged its answer, or rejected it with a Reset
 abbrev pub closes : State → ℕ → ℕ → Step
-closes w now number = silent Acked (record (later w now) { waiters = without number w.waiters })
+closes w now number =
+    silent (Closed number) (record (later w now) { waiters = without number w.waiters })
 
 -- an acknowledgement or a Reset of an answer that a client was sent
 abbrev pub on_delivered : State → ℕ → Option ℕ → Step
-on_delivered w now None = ignores w now
+on_delivered w now None = ignores w now Nothing
 on_delivered w now (Some number) = closes w now number
 
 abbrev pub on_delivery : State → ℕ → Endpoint → Message → Step

@@ -1,5 +1,5 @@
 -- The tables of a proxy as one value, and how steps change them.
-use Rattle.std.specs.Prelude.{ℕ, ◌+◌, ◌%◌, ◌&&◌, ◌||◌, Bool, nat_le, nat_lt, if◌then◌else◌, List, [], length, Option, Some, None}
+use Rattle.std.specs.Prelude.{ℕ, ◌+◌, ◌%◌, ◌&&◌, ◌||◌, Bool, false, not, nat_le, nat_lt, if◌then◌else◌, List, [], length, Option, Some, None}
 use Rattle.coap_message.specs.Message.{Message}
 use Rattle.coap_message.specs.Spelling.{spelling}
 use Rattle.coap_message.specs.declared.kind.Kind.{Kind}
@@ -17,8 +17,12 @@ use Rattle.coap_pending.specs.Exchanges.{is_opened_by, is_queued}
 use Rattle.coap_pending.specs.Waiters.{is_of, is_waiting}
 use Rattle.coap_pending.specs.Ids.{new_ids, given_in}
 use Rattle.coap_pending.specs.Table.{Numbered, count}
-use Rattle.coap_model.specs.declared.report.Outcome.{Outcome}
-use Rattle.coap_model.specs.declared.report.Outcome.TheVariants.{Ignored, Rejected, Again, NoRecordRoom}
+use Rattle.coap_model.specs.declared.report.Outcome.TheVariants.{Again}
+use Rattle.coap_model.specs.declared.deed.Deed.{Deed}
+use Rattle.coap_model.specs.declared.deed.Deed.TheVariants.{Ignored, Rejected, Repeated, Unremembered}
+use Rattle.coap_model.specs.declared.deed.Lacks.{Lacks}
+use Rattle.coap_model.specs.declared.deed.Unprocessed.{Unprocessed}
+use Rattle.coap_model.specs.Deeds.{outcome_of}
 use Rattle.coap_model.specs.declared.report.Report.{Report}
 use Rattle.coap_model.specs.declared.report.ClientCounts.{ClientCounts}
 use Rattle.coap_model.specs.declared.report.Counts.{Counts}
@@ -45,8 +49,10 @@ pub record State : Type 0 where
   pub last : ℕ
   pub events : ℕ
 
--- the report of a step, the bytes of its datagram (none if it sends none), and the tables after it
+-- what a step did, in full and in short, the bytes of its datagram (none if it sends none), and the
+-- tables after it
 pub record Step : Type 0 where
+  pub deed : Deed
   pub report : Report
   pub bytes : List ℕ
   pub state : State
@@ -78,33 +84,44 @@ new_state setting = record {
 abbrev pub later : State → ℕ → State
 later w now = record w { last = now; events = w.events + 1 }
 
-abbrev pub silent : Outcome → State → Step
-silent outcome w =
-    record { report = record { send = None; outcome = outcome }; bytes = []; state = w }
+abbrev pub silent : Deed → State → Step
+silent deed w =
+    record {
+      deed = deed;
+      report = record { send = None; outcome = outcome_of deed };
+      bytes = [];
+      state = w;
+    }
 
-abbrev pub says : Outcome → Endpoint → Message → State → Step
-says outcome to m w =
-    record { report = record { send = Some to; outcome = outcome }; bytes = spelling m; state = w }
+abbrev pub says : Deed → Endpoint → Message → State → Step
+says deed to m w =
+    record {
+      deed = deed;
+      report = record { send = Some to; outcome = outcome_of deed };
+      bytes = spelling m;
+      state = w;
+    }
 
 -- the datagram is ignored
-abbrev pub ignores : State → ℕ → Step
-ignores w now = silent Ignored (later w now)
+abbrev pub ignores : State → ℕ → Unprocessed → Step
+ignores w now why = silent (Ignored why) (later w now)
 
 -- a Reset with the id of a message that can't be processed (RFC 7252, 4.2)
-abbrev pub rejects : State → ℕ → Endpoint → ℕ → Step
-rejects w now source id = says Rejected source (reset id) (later w now)
+abbrev pub rejects : State → ℕ → Endpoint → ℕ → Unprocessed → Step
+rejects w now source id why = says (Rejected why) source (reset id) (later w now)
 
 -- a message that can't be processed is rejected if it is Confirmable, and ignored otherwise
-abbrev pub unprocessed : State → ℕ → Endpoint → Kind → ℕ → Step
-unprocessed w now source kind id = if is_con kind then rejects w now source id else ignores w now
+abbrev pub unprocessed : State → ℕ → Endpoint → Kind → ℕ → Unprocessed → Step
+unprocessed w now source kind id why =
+    if is_con kind then rejects w now source id why else ignores w now why
 
 -- a message is accepted, and no reply is sent yet: a Confirmable one is acknowledged (RFC 7252, 4.2
 -- and 5.2.2)
-abbrev pub accepts : Outcome → Endpoint → Message → State → Step
-accepts outcome source m w =
+abbrev pub accepts : Deed → Endpoint → Message → State → Step
+accepts deed source m w =
     if is_con m.kind
-    then says outcome source (acknowledgement m.id) w
-    else silent outcome w
+    then says deed source (acknowledgement m.id) w
+    else silent deed w
 
 -- ---- messages received before
 
@@ -145,17 +162,18 @@ remembers now source m s = record s { state = with_record now source m s.bytes s
 
 -- a duplicate gets what was sent immediately the first time, and nothing else is done
 abbrev pub repeats : State → ℕ → Endpoint → Option (List ℕ) → Step
-repeats w now source None = silent Again (later w now)
+repeats w now source None = silent Repeated (later w now)
 repeats w now source (Some bytes) =
     record {
+      deed = Repeated;
       report = record { send = Some source; outcome = Again };
       bytes = bytes;
       state = later w now;
     }
 
 -- there is no room to remember the message: nothing is sent
-abbrev pub drops : State → ℕ → Step
-drops w now = silent NoRecordRoom (later w now)
+abbrev pub drops : State → ℕ → Kind → Step
+drops w now kind = silent (Unremembered kind) (later w now)
 
 -- ---- Message IDs
 
@@ -206,6 +224,25 @@ has_room_to_join w now client = has_waiter_room w client && has_ids 1 w now
 abbrev pub has_room_to_open : State → ℕ → Endpoint → Bool
 has_room_to_open w now client =
     has_exchange_room w client && (has_waiter_room w client && has_ids 2 w now)
+
+-- what is lacking where there is no room to join, and no room to open
+abbrev pub lacks_to_join : State → ℕ → Endpoint → Lacks
+lacks_to_join w now client = record {
+  exchanges = false;
+  client_exchanges = false;
+  waiters = nat_le w.setting.limits.waiters (length w.waiters);
+  client_waiters = nat_le w.setting.limits.client_waiters (waiters_of client w);
+  ids = not (has_ids 1 w now);
+}
+
+abbrev pub lacks_to_open : State → ℕ → Endpoint → Lacks
+lacks_to_open w now client = record {
+  exchanges = nat_le w.setting.limits.exchanges (length w.exchanges);
+  client_exchanges = nat_le w.setting.limits.client_exchanges (exchanges_of client w);
+  waiters = nat_le w.setting.limits.waiters (length w.waiters);
+  client_waiters = nat_le w.setting.limits.client_waiters (waiters_of client w);
+  ids = not (has_ids 2 w now);
+}
 
 -- ---- how much a proxy holds
 

@@ -19,7 +19,11 @@ use Rattle.coap_message.specs.Message.{Message}
 use Rattle.coap_message.specs.Spelling.{spelling, with_id}
 use Rattle.coap_model.specs.declared.due.DueItem.{DueItem}
 use Rattle.coap_model.specs.declared.due.DueItem.TheVariants.{OfExchange, OfWaiter}
-use Rattle.coap_model.specs.declared.report.Outcome.TheVariants.{SentRequest, Resent, GaveUp, Delivered, Idle}
+use Rattle.coap_model.specs.declared.report.Outcome.TheVariants as outcomes
+use Rattle.coap_model.specs.declared.deed.Deed.TheVariants as deeds
+use Rattle.coap_model.specs.declared.deed.Silence.{Silence}
+use Rattle.coap_model.specs.declared.deed.Silence.TheVariants.{NotAcknowledged}
+use Rattle.coap_model.specs.Deeds.{silence_of}
 use Rattle.coap_forward.specs.Answers.{own_answer, gateway_timeout, shown_as}
 use Rattle.coap_forward.specs.Messages.{is_con}
 use Rattle.coap_model.specs.State.{State, Step, later, silent, says, next_id}
@@ -59,7 +63,7 @@ if_due now (Some i) = if nat_le (moment_of i) now then Some i else None
 
 -- nothing is due
 abbrev pub idles : State → ℕ → Step
-idles w now = silent Idle (later w now)
+idles w now = silent deeds.Idle (later w now)
 
 -- ---- requests
 
@@ -68,7 +72,8 @@ idles w now = silent Idle (later w now)
 abbrev pub sends : State → ℕ → ℕ → ℕ → Exchange → Step
 sends w now draw number x =
     record {
-      report = record { send = Some x.key.target.at; outcome = SentRequest };
+      deed = deeds.Sent number;
+      report = record { send = Some x.key.target.at; outcome = outcomes.SentRequest };
       bytes = with_id (next_id w) x.form;
       state = record (later w now) {
         exchanges =
@@ -83,7 +88,8 @@ sends w now draw number x =
 abbrev pub resends : State → ℕ → ℕ → Exchange → Step
 resends w now number x =
     record {
-      report = record { send = Some x.key.target.at; outcome = Resent };
+      deed = deeds.Resent number;
+      report = record { send = Some x.key.target.at; outcome = outcomes.Resent };
       bytes = x.form;
       state = record (later w now) {
         exchanges = changed_at number (fired_exchange now) w.exchanges;
@@ -91,15 +97,15 @@ resends w now number x =
     }
 
 -- no answer came in time: the proxy generates one (RFC 7252, 5.7.1)
-abbrev pub gives_up : State → ℕ → ℕ → Step
-gives_up w now number =
-    silent GaveUp (record (later w now) {
+abbrev pub gives_up : State → ℕ → ℕ → Silence → Step
+gives_up w now number silence =
+    silent (deeds.GaveUp number silence) (record (later w now) {
       exchanges = changed_at number (answered (own_answer now gateway_timeout)) w.exchanges;
     })
 
 abbrev pub on_request_timeout : State → ℕ → ℕ → Exchange → Fire → Step
 on_request_timeout w now number x Again = resends w now number x
-on_request_timeout w now number x GiveUp = gives_up w now number
+on_request_timeout w now number x GiveUp = gives_up w now number NotAcknowledged
 
 -- Before its deadline, a queued request is sent, and one that was sent is retransmitted. One that
 -- was acknowledged isn't due before its deadline, and one that has its answer is never due, so the
@@ -115,7 +121,7 @@ abbrev pub on_exchange : State → ℕ → ℕ → ℕ → Option Exchange → S
 on_exchange w now draw number None = idles w now
 on_exchange w now draw number (Some x) =
     if nat_le (deadline w.setting.limits.exchange_ms x) now
-    then gives_up w now number
+    then gives_up w now number (silence_of x.state)
     else in_time w now draw number x x.state
 
 -- ---- waiters
@@ -140,9 +146,10 @@ waiters_after w now draw number m =
     else without number w.waiters
 
 -- the client is sent a message, after which these waiters are left
-abbrev pub tells : State → ℕ → Waiter → ℕ → Message → List (Numbered Waiter) → Step
-tells w now v exchange m waiters =
-    says Delivered v.client m (record (later w now) {
+abbrev pub tells :
+    State → ℕ → ℕ → Waiter → ℕ → Message → List (Numbered Waiter) → Step
+tells w now number v exchange m waiters =
+    says (deeds.Delivered number exchange) v.client m (record (later w now) {
       waiters = waiters;
       exchanges = without_idle exchange waiters w.exchanges;
       ids = called now w.ids;
@@ -151,7 +158,7 @@ tells w now v exchange m waiters =
 -- the client is sent the answer of its exchange
 abbrev pub delivers : State → ℕ → ℕ → ℕ → Waiter → ℕ → Bool → Answer → Step
 delivers w now draw number v exchange to_get a =
-    tells w now v exchange (given_to w now v to_get a)
+    tells w now number v exchange (given_to w now v to_get a)
     (waiters_after w now draw number (given_to w now v to_get a))
 
 -- a waiter that waits is due when its exchange has its answer, so the first cases of this and of
@@ -170,7 +177,8 @@ on_awaited w now draw number v exchange (Some x) =
 abbrev pub redelivers : State → ℕ → ℕ → Waiter → List ℕ → Step
 redelivers w now number v bytes =
     record {
-      report = record { send = Some v.client; outcome = Resent };
+      deed = deeds.Redelivered number;
+      report = record { send = Some v.client; outcome = outcomes.Resent };
       bytes = bytes;
       state = record (later w now) {
         waiters = changed_at number (fired_waiter now) w.waiters;
@@ -180,7 +188,7 @@ redelivers w now number v bytes =
 -- the client didn't acknowledge it in time
 abbrev pub abandons : State → ℕ → ℕ → Step
 abandons w now number =
-    silent GaveUp (record (later w now) { waiters = without number w.waiters })
+    silent (deeds.Abandoned number) (record (later w now) { waiters = without number w.waiters })
 
 abbrev pub on_delivery_timeout : State → ℕ → ℕ → Waiter → List ℕ → Fire → Step
 on_delivery_timeout w now number v bytes Again = redelivers w now number v bytes

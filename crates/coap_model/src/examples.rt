@@ -10,6 +10,7 @@ ghost use Rattle.coap_model.specs.declared.report.Storing.TheVariants.{Kept, Too
 ghost use Rattle.coap_option.specs.Selection.{sent_on};
 ghost use Rattle.coap_forward.specs.Forms.{forwarded};
 ghost use Rattle.coap_model.specs.Keys.{request_key};
+ghost use Rattle.coap_model.specs.Deeds.{code_of};
 ghost use Rattle.coap_model.specs.Verdicts.{refusal_of};
 ghost use Rattle.coap_forward.specs.Answers.{bad_gateway, greatest_max_age};
 ghost use Rattle.coap_model.specs.Events.{tick};
@@ -159,7 +160,7 @@ pub fn forms_and_tables()
     ensures short_of_one { with_id 0x0102 (9 ∷ []) ≡ 9 ∷ [] }
     ensures short_of_two { with_id 0x0102 (9 ∷ 8 ∷ []) ≡ 9 ∷ 8 ∷ [] }
     ensures short_of_three { with_id 0x0102 (9 ∷ 8 ∷ 7 ∷ []) ≡ 9 ∷ 8 ∷ 7 ∷ [] }
-    ensures for_want_of_memory { refusal_of OutOfMemory ≡ BAD_REQUEST }
+    ensures for_want_of_memory { code_of (refusal_of OutOfMemory) ≡ BAD_REQUEST }
     ensures read_back { target_in origin named_form ≡ Some named }
     ensures held_when_opened { held (after proxy (asks_at 0 1 ∷ [])) ≡ 22 }
     ensures held_with_token { held (after proxy (from 0 (client 1) (with_token 0x74) ∷ [])) ≡ 24 }

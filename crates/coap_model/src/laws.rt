@@ -35,6 +35,7 @@ ghost use Rattle.coap_store.specs.declared.answer.Answer.{Answer};
 ghost use Rattle.coap_model.specs.declared.report.Outcome.{Outcome};
 ghost use Rattle.coap_store.specs.Lists.{total};
 ghost use Rattle.coap_model.specs.Cached.{Cached, cached_size, IsCacheOf};
+ghost use Rattle.coap_model.specs.Deeds.{outcome_of};
 ghost use Rattle.coap_model.specs.Step.{step_of};
 ghost use Rattle.coap_model.specs.Carries.{Bears, Carries};
 ghost use Rattle.coap_model.specs.Word.{KeepsItsWord};
@@ -307,4 +308,12 @@ pub fn runs_are_promised()
         → AreRoutes setting.routes
         → AreTurns 0 (turns_of turns)
         → Promised (run_of (new_run setting) turns).history (run_of (new_run setting) turns).state }
+{}
+
+/// What a step did in full, its deed, is what it did in short, its outcome.
+pub fn deeds_are_outcomes()
+    ensures said { (w : State) (now draw : ℕ) (grown : Bool) (event : Event)
+        → IsEvent event
+        → outcome_of (step_of w now draw grown event).deed
+        ≡ (step_of w now draw grown event).report.outcome }
 {}

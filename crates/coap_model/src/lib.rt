@@ -9,6 +9,7 @@
 #![tactic(auto)]
 
 pub mod cache_laws;
+mod deed;
 mod due;
 pub mod examples;
 pub mod exchange_examples;
@@ -18,5 +19,6 @@ mod report;
 pub mod word_examples;
 
 pub use coap_limits::{Limit, LimitError, LimitValues, Limits};
+pub use deed::{Deed, Did, Held, Lacks, Refusal, Silence, Unprocessed};
 pub use due::DueItem;
 pub use report::{ClientCounts, Counts, Outcome, Report, Storing};

@@ -10,7 +10,7 @@ use Rattle.coap_model.specs.Step.{step_of}
 use Rattle.coap_model.specs.Ticks.{next_due}
 use Rattle.coap_model.specs.Word.{KeepsItsWord}
 use Rattle.coap_model.specs.State.{Step, State}
-use Rattle.coap_core.specs.Done.{wants_memory}
+use Rattle.coap_core.specs.Done.{did_of, wants_memory}
 use Rattle.coap_core.specs.Told.{Told}
 use Rattle.coap_core.specs.Watched.{WasTold}
 use Rattle.coap_port.specs.Stats.{no_stats, with_turn}
@@ -107,7 +107,7 @@ stats_of w (g ∷ before) =
 abbrev pub told_by : State → Given → Told
 told_by w g = record {
   turn = g.turn;
-  report = if g.lost then None else Some (step_taken w (taken_of g)).report;
+  did = if g.lost then None else Some (did_of (step_taken w (taken_of g)));
   bytes = if g.lost then [] else (step_taken w (taken_of g)).bytes;
   went = g.went;
   state = (run_given (run_at w []) g).state;

@@ -129,12 +129,12 @@ impl Drive {
         let turn = port.next(wait, &mut self.input)?;
         let seen = WatchedTurn::begun(turn.now, turn.draw, turn.from, self.input.bytes());
         watcher.foresee(seen, core);
-        match core.step(turn.now, turn.draw, seen.event, &mut self.output) {
-            Ok(report) => {
+        match core.step_told(turn.now, turn.draw, seen.event, &mut self.output) {
+            Ok(did) => {
                 let sent = self.output.bytes();
-                let went = hand_over(port, report.send, sent);
-                count(&mut self.stats, false, report.send.is_some(), went);
-                watcher.see(seen.done(report, sent, went), core);
+                let went = hand_over(port, did.send, sent);
+                count(&mut self.stats, false, did.send.is_some(), went);
+                watcher.see(seen.done(did, sent, went), core);
             }
             Err(OutOfMemory) => {
                 count(&mut self.stats, true, false, false);

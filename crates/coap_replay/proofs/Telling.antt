@@ -1,12 +1,13 @@
 -- A watcher that is told turn by turn.
 use Rattle.std.proofs.Common.{◌≡◌, ◌≢◌, ◌++◌, ◌∙◌, ℕ, true, List, [], ◌∷◌, Option, Some, None, false, Result, Ok, Err, inl, inr, refl, sym, ap, subst}
 use Rattle.std.specs.Io.KnownBytes.{Appends}
-use Rattle.coap_core.specs.Done.{Does}
+use Rattle.coap_core.specs.Done.{did_of, DoesSo}
 use Rattle.coap_message.specs.Datagram.{Datagram}
 use Rattle.coap_model.specs.Events.{Event}
 use Rattle.coap_model.specs.History.{grown_of}
 use Rattle.coap_model.specs.Step.{step_of}
-use Rattle.coap_model.specs.declared.report.Report.{Report}
+use Rattle.coap_model.specs.Deeds.{outcome_of}
+use Rattle.coap_model.specs.declared.deed.Did.{Did}
 use Rattle.coap_model.specs.Runs.{Run, Taken, Turn, one_turn, step_taken}
 use Rattle.coap_model.specs.State.{Step, State}
 use Rattle.coap_core.specs.Told as watch
@@ -21,39 +22,39 @@ after-more : (w : State) (u : Taken) (ts : List Taken) → state_after w (u ∷ 
 after-more w u ts = run-apart (one_turn (run_at w []) u) (run_at (step_taken w u).state []) ts refl
 
 -- what is told of a step
-abbrev pub told_of : ℕ → ℕ → Event → Report → List ℕ → State → watch.Told
-told_of now draw event report bytes w = record { turn = record { now = now; draw = draw; event = event }; report = Some report; bytes = bytes; went = true; state = w }
+abbrev pub told_of : ℕ → ℕ → Event → Did → List ℕ → State → watch.Told
+told_of now draw event did bytes w = record { turn = record { now = now; draw = draw; event = event }; did = Some did; bytes = bytes; went = true; state = w }
 
 -- a step was done, and its line was written in part
-pub failed-write : (w v : State) (t : Turn) (event : Event) (report : Report) (out out' : Datagram) (old new : Option (List ℕ)) (number : ℕ) (text : List ℕ) → event ≡ t.event
-    → Does (step_of w t.now t.draw (grown_of report.outcome) event) report out out' v → text ≡ line_for t.now report.send out'.bytes
+pub failed-write : (w v : State) (t : Turn) (event : Event) (did : Did) (out out' : Datagram) (old new : Option (List ℕ)) (number : ℕ) (text : List ℕ) → event ≡ t.event
+    → DoesSo (step_of w t.now t.draw (grown_of (outcome_of did.deed)) event) did out out' v → text ≡ line_for t.now did.send out'.bytes
     → ((done rest : List ℕ) × (text ≡ done ++ rest) × (rest ≢ []) × Appends old new done) → DoesTurn w v t old new number (Err Write)
-failed-write w v t event report out out' old new number text same does line front =
-    let done = subst (λ (e : Event). Does (step_of w t.now t.draw (grown_of report.outcome) e) report out out' v) same does in
-    let step : Step = step_of w t.now t.draw (grown_of report.outcome) t.event in
+failed-write w v t event did out out' old new number text same does line front =
+    let done = subst (λ (e : Event). DoesSo (step_of w t.now t.draw (grown_of (outcome_of did.deed)) e) did out out' v) same does in
+    let step : Step = step_of w t.now t.draw (grown_of (outcome_of did.deed)) t.event in
     let sent : line_for t.now step.report.send step.bytes ≡ text =
-    sym (line ∙ ap (λ (r : Report). line_for t.now r.send out'.bytes) done.0 ∙ ap (λ (d : Datagram). line_for t.now step.report.send d.bytes) done.1) in
-    (grown_of report.outcome, done.2, (front.0, front.1, sent ∙ front.2, front.3, front.4))
+    sym (line ∙ ap (λ (r : Did). line_for t.now r.send out'.bytes) done.0 ∙ ap (λ (d : Datagram). line_for t.now step.report.send d.bytes) done.1) in
+    (grown_of (outcome_of did.deed), done.2, (front.0, front.1, sent ∙ front.2, front.3, front.4))
 
 module _ {V : Type 0} (sees : V → watch.Told → V → Type 0) where
   -- a step that was done is told
-  pub step-told : (w v : State) (t : Turn) (event : Event) (report : Report) (out out' : Datagram) (a b : V) → event ≡ t.event → Does (step_of w t.now t.draw (grown_of report.outcome) event) report out out' v
-      → sees a (told_of t.now t.draw event report out'.bytes v) b → DoesTold sees w a v b t
-  step-told w v t event report out out' a b same does seen =
-      let done = subst (λ (e : Event). Does (step_of w t.now t.draw (grown_of report.outcome) e) report out out' v) same does in
-      let step : Step = step_of w t.now t.draw (grown_of report.outcome) t.event in
-      let is : told_of t.now t.draw event report out'.bytes v ≡ told_of t.now t.draw t.event step.report step.bytes step.state =
-      ap (λ (e : Event). told_of t.now t.draw e report out'.bytes v) same
-      ∙ ap (λ (r : Report). told_of t.now t.draw t.event r out'.bytes v) done.0
-      ∙ ap (λ (d : Datagram). told_of t.now t.draw t.event step.report d.bytes v) done.1
-      ∙ ap (told_of t.now t.draw t.event step.report step.bytes) done.2 in
-      (grown_of report.outcome, done.2, subst (λ (u : watch.Told). sees a u b) is seen)
+  pub step-told : (w v : State) (t : Turn) (event : Event) (did : Did) (out out' : Datagram) (a b : V) → event ≡ t.event → DoesSo (step_of w t.now t.draw (grown_of (outcome_of did.deed)) event) did out out' v
+      → sees a (told_of t.now t.draw event did out'.bytes v) b → DoesTold sees w a v b t
+  step-told w v t event did out out' a b same does seen =
+      let done = subst (λ (e : Event). DoesSo (step_of w t.now t.draw (grown_of (outcome_of did.deed)) e) did out out' v) same does in
+      let step : Step = step_of w t.now t.draw (grown_of (outcome_of did.deed)) t.event in
+      let is : told_of t.now t.draw event did out'.bytes v ≡ told_of t.now t.draw t.event (did_of step) step.bytes step.state =
+      ap (λ (e : Event). told_of t.now t.draw e did out'.bytes v) same
+      ∙ ap (λ (r : Did). told_of t.now t.draw t.event r out'.bytes v) done.0
+      ∙ ap (λ (d : Datagram). told_of t.now t.draw t.event (did_of step) d.bytes v) done.1
+      ∙ ap (told_of t.now t.draw t.event (did_of step) step.bytes) done.2 in
+      (grown_of (outcome_of did.deed), done.2, subst (λ (u : watch.Told). sees a u b) is seen)
 
   -- a turn that ran out of memory is told as that
   pub lost-told : (w v : State) (t : Turn) (event : Event) (number : ℕ) (a b : V) → event ≡ t.event → v ≡ w
-      → sees a (record { turn = record { now = t.now; draw = t.draw; event = event }; report = None; bytes = []; went = false; state = v }) b → TellsTurn sees w a v b t (Err (OutOfMemory number))
+      → sees a (record { turn = record { now = t.now; draw = t.draw; event = event }; did = None; bytes = []; went = false; state = v }) b → TellsTurn sees w a v b t (Err (OutOfMemory number))
   lost-told w v t event number a b same still seen =
-      (still, subst (λ (u : watch.Told). sees a u b) (ap (λ (e : Event). record { turn = record { now = t.now; draw = t.draw; event = e }; report = None; bytes = []; went = false; state = v }) same ∙ ap (λ (x : State). lost_in x t) still) seen)
+      (still, subst (λ (u : watch.Told). sees a u b) (ap (λ (e : Event). record { turn = record { now = t.now; draw = t.draw; event = e }; did = None; bytes = []; went = false; state = v }) same ∙ ap (λ (x : State). lost_in x t) still) seen)
 
   -- one more turn is told
   more : (w : State) (a m b : V) (ts : List Taken) (t : Taken) → AreTold sees w a ts m → sees m (told_in (state_after w ts) t) b → AreTold sees w a (ts ++ t ∷ []) b

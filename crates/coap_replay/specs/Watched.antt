@@ -2,6 +2,7 @@
 use Rattle.std.specs.Prelude.{◌≡◌, ◌⊎◌, Bool, true, false, List, [], ◌∷◌, Some, None, Result, Ok, Err}
 use Rattle.coap_model.specs.Runs.{Taken, Turn, step_taken}
 use Rattle.coap_model.specs.State.{State}
+use Rattle.coap_core.specs.Done.{did_of}
 use Rattle.coap_core.specs.Told as watch
 use Rattle.coap_replay.specs.Replays.{taken, state_after}
 use Rattle.coap_replay.specs.declared.error.ReplayError.{ReplayError}
@@ -11,7 +12,7 @@ use Rattle.coap_replay.specs.declared.error.ReplayError.TheVariants.{BadEvent, O
 abbrev pub told_in : State → Taken → watch.Told
 told_in w t = record {
   turn = t.turn;
-  report = Some (step_taken w t).report;
+  did = Some (did_of (step_taken w t));
   bytes = (step_taken w t).bytes;
   went = true;
   state = (step_taken w t).state;
@@ -19,7 +20,7 @@ told_in w t = record {
 
 -- what is told of a turn that ran out of memory: nothing was done
 abbrev pub lost_in : State → Turn → watch.Told
-lost_in w t = record { turn = t; report = None; bytes = []; went = false; state = w }
+lost_in w t = record { turn = t; did = None; bytes = []; went = false; state = w }
 
 module _ {V : Type 0} (sees : V → watch.Told → V → Type 0) where
   -- it was told of these turns of a proxy, the oldest first, and of nothing else

@@ -9,7 +9,7 @@ ghost use Rattle.coap_lines.specs.Turns.{turn_seen};
 
 use crate::buffers::Buffers;
 use crate::error::ReplayError;
-use coap_core::{Core, MOST_EVENTS, Report, Unwatched, Watch, WatchedTurn};
+use coap_core::{Core, Endpoint, MOST_EVENTS, Unwatched, Watch, WatchedTurn};
 use coap_lines::{Input, Next, Output, Turn, is_skipped, put_line, read_turn};
 use coap_message::{Datagram, Moment};
 use coap_store::Store;
@@ -81,13 +81,13 @@ fn next_asked<R: BufRead>(
 
 /// Overwrites a buffer with the line of the datagram that was sent, or empties it if none was sent.
 /// There is enough room.
-fn line_for(text: &mut Vec<u8>, now: Moment, report: Report, out: &Datagram)
+fn line_for(text: &mut Vec<u8>, now: Moment, send: Option<Endpoint>, out: &Datagram)
     requires { longest_line (length out.now.bytes) ≤ vec_capacity text.old }
-    ensures line { text.new.items ≡ line_for now report.send out.now.bytes }
+    ensures line { text.new.items ≡ line_for now send out.now.bytes }
     ensures room { vec_capacity text.old ≤ vec_capacity text.new }
 {
     text.clear();
-    if let Some(to) = report.send {
+    if let Some(to) = send {
         put_line(text, now, to, out.bytes());
     }
 }
@@ -122,12 +122,12 @@ fn do_turn<W: Write, S: Store + Drop, V: Watch>(
     let NumberedTurn { turn, number } = line;
     let seen = WatchedTurn::begun(turn.now, turn.draw, turn.from, buffers.input.bytes());
     watcher.foresee(seen, core);
-    let Ok(report) = core.step(turn.now, turn.draw, seen.event, &mut buffers.output) else {
+    let Ok(did) = core.step_told(turn.now, turn.draw, seen.event, &mut buffers.output) else {
         watcher.see(seen, core);
         return Err(ReplayError::OutOfMemory { line: number });
     };
-    line_for(&mut buffers.text, turn.now, report, &buffers.output);
-    watcher.see(seen.done(report, buffers.output.bytes(), true), core);
+    line_for(&mut buffers.text, turn.now, did.send, &buffers.output);
+    watcher.see(seen.done(did, buffers.output.bytes(), true), core);
     if output.write_all(&buffers.text).is_err() {
         return Err(ReplayError::Write);
     }

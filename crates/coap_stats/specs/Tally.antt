@@ -7,7 +7,7 @@ use Rattle.coap_model.specs.declared.report.Report.{Report}
 use Rattle.coap_model.specs.declared.report.Storing.{Storing}
 use Rattle.coap_model.specs.declared.report.Storing.TheVariants.{Kept, TooLarge, NoMemory, NotStored}
 use Rattle.coap_model.specs.Events.{Event, arrival, tick}
-use Rattle.coap_core.specs.Told.{Told}
+use Rattle.coap_core.specs.Told.{Told, report_told}
 use Rattle.coap_stats.specs.declared.tally.AnswerCounts.{AnswerCounts}
 use Rattle.coap_stats.specs.declared.tally.Tally.{Tally}
 
@@ -57,7 +57,7 @@ did_by is None = false
 did_by is (Some report) = is report.outcome
 
 abbrev pub did : (Outcome → Bool) → Told → Bool
-did is t = did_by is t.report
+did is t = did_by is (report_told t)
 
 -- a datagram was sent, and was taken or not
 abbrev pub sent_by : Option Report → Bool
@@ -65,14 +65,14 @@ sent_by None = false
 sent_by (Some report) = is_some report.send
 
 abbrev pub was_taken : Told → Bool
-was_taken t = if sent_by t.report then t.went else false
+was_taken t = if sent_by (report_told t) then t.went else false
 
 abbrev pub was_not_taken : Told → Bool
-was_not_taken t = if sent_by t.report then not t.went else false
+was_not_taken t = if sent_by (report_told t) then not t.went else false
 
 -- memory ran out
 abbrev pub was_lost : Told → Bool
-was_lost t = not (is_some t.report)
+was_lost t = not (is_some (report_told t))
 
 -- ---- counts
 

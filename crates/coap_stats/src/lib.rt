@@ -30,4 +30,3 @@ pub use line::put_line;
 pub use metrics::{metrics_room, put_metrics, put_receive_buffer};
 pub use statistics::Statistics;
 pub use tally::{AnswerCounts, Tally};
-pub use turns::Foreseen;

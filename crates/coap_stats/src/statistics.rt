@@ -1,15 +1,12 @@
 //! All statistics of a proxy.
 ghost use Rattle.std.specs.Prelude.{◌≡◌, IfOk};
-ghost use Rattle.coap_core.specs.Events.{seen};
-ghost use Rattle.coap_message.specs.Reading.{read_message};
 ghost use Rattle.coap_stats.specs.Statistics as spec;
 
 use crate::tally::Tally;
-use crate::turns::{Foreseen, count_opening, count_origin, count_way, is_response};
-use coap_core::{Core, Event, Exchange, Holders, LimitValues, Watch, WatchedTurn};
+use crate::turns::{count_opening, count_origin, count_way};
+use coap_core::{Core, Holders, LimitValues, Watch, WatchedTurn};
 use coap_counts::{MapTable, OpeningCounts, OriginTable};
-use coap_endpoint::Endpoint;
-use coap_message::{MessageRef, Moment, OutOfMemory};
+use coap_message::OutOfMemory;
 use coap_store::{Evictions, Store};
 use coap_target::Routes;
 use std::alloc::Global;
@@ -29,64 +26,6 @@ pub struct Statistics {
     pub evictions: Evictions,
     /// Who had most of each table that was full.
     pub holders: Holders,
-    /// What was known of the turn before its step.
-    foreseen: Foreseen,
-}
-
-/// When the request of an exchange was first sent.
-fn asked_at(exchange: &Exchange) -> Option<Moment>
-    ensures { result ≡ spec.asked_at exchange.now }
-{
-    match &exchange.sending {
-        Some(sending) => Some(sending.timer.started),
-        None => None,
-    }
-}
-
-/// When the request was first sent that a datagram from an endpoint answers.
-#[inline(always)]
-fn asked_by<S: Store + Drop>(core: &Core<S>, from: Endpoint, bytes: &[u8]) -> Option<Moment>
-    ensures { result ≡ spec.asked_by core.now from bytes.now }
-{
-    if is_response(bytes) {
-        asked_for(core, from, bytes)
-    } else {
-        None
-    }
-}
-
-/// When the request was first sent that a datagram from an endpoint answers, if that is a message.
-#[inline(never)]
-fn asked_for<S: Store + Drop>(core: &Core<S>, from: Endpoint, bytes: &[u8]) -> Option<Moment>
-    ensures { result ≡ spec.asked_for core.now from (read_message bytes.now) }
-{
-    let response = MessageRef::read(bytes).ok()?;
-    asked_at(core.awaited(from, &response)?)
-}
-
-/// The origin of the exchange that is due.
-#[inline(never)]
-fn due_origin<S: Store + Drop>(core: &Core<S>) -> Option<Endpoint>
-    ensures { result ≡ spec.due_origin core.now }
-{
-    Some(core.due_exchange()?.key.target.at)
-}
-
-/// What is known of an event before its step, with the core as it is then.
-#[inline(always)]
-fn foreseen_in<S: Store + Drop>(event: Event<'_>, core: &Core<S>) -> Foreseen
-    ensures { result ≡ spec.foreseen_in (seen event.entry) core.now }
-{
-    match event {
-        Event::Datagram { from, bytes } => Foreseen {
-            due: None,
-            asked: asked_by(core, from, bytes),
-        },
-        Event::Tick => Foreseen {
-            due: due_origin(core),
-            asked: None,
-        },
-    }
 }
 
 /// Takes over how many entries a store evicted so far.
@@ -123,7 +62,6 @@ impl Statistics {
             openings: OpeningCounts::new(),
             evictions: Evictions::new(),
             holders: Holders::new(alloc, limits)?,
-            foreseen: Foreseen::nothing(),
         })
     }
 }
@@ -134,16 +72,14 @@ impl Watch for Statistics {
     ghost sees = { Sees };
 
     #[inline(always)]
-    fn foresee<S: Store + Drop>(&mut self, turn: WatchedTurn<'_>, core: &Core<S>) {
-        self.foreseen = foreseen_in(turn.event, core);
-    }
+    fn foresee<S: Store + Drop>(&mut self, _turn: WatchedTurn<'_>, _core: &Core<S>) {}
 
     #[inline(always)]
     fn see<S: Store + Drop>(&mut self, turn: WatchedTurn<'_>, core: &Core<S>) {
         self.tally.count(turn);
         count_way(&mut self.maps, turn, core.routes());
-        count_origin(&mut self.origins, turn, self.foreseen);
-        count_opening(&mut self.openings, turn, core);
+        count_origin(&mut self.origins, turn, core);
+        count_opening(&mut self.openings, turn);
         note_evictions(&mut self.evictions, core.store());
         self.holders.look(turn, core);
     }

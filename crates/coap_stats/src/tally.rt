@@ -112,7 +112,7 @@ impl Tally {
         if let Event::Datagram { .. } = turn.event {
             one_more(&mut self.received);
         }
-        let Some(report) = turn.report else {
+        let Some(report) = turn.report() else {
             one_more(&mut self.lost);
             return;
         };

@@ -6,31 +6,13 @@ ghost use Rattle.coap_model.specs.State.{State};
 ghost use Rattle.coap_stats.specs.Turns as spec;
 ghost use Rattle.coap_core.specs.Told.{told};
 
-use coap_core::{Core, Event, Outcome, Report, WatchedTurn};
+use coap_core::{Core, Deed, Event, Exchange, Outcome, WatchedTurn};
 use coap_counts::{MapTable, OpeningCounts, OriginAnswer, OriginEvent, OriginTable, way_of};
 use coap_endpoint::Endpoint;
 use coap_message::{MessageRef, Moment, head_of};
+use coap_pending::ExchangeNumber;
 use coap_store::Store;
 use coap_target::Routes;
-
-/// What is known of a turn before its step, and isn't held any more after it.
-#[derive(Clone, Copy, Debug, PartialEq, Eq)]
-pub struct Foreseen {
-    /// The origin of the exchange that is due, if one is.
-    pub due: Option<Endpoint>,
-    /// When the request was first sent, in milliseconds, whose answer comes.
-    pub asked: Option<Moment>,
-}
-
-impl Foreseen {
-    /// Nothing is known.
-    pub(crate) fn nothing() -> Foreseen {
-        Foreseen {
-            due: None,
-            asked: None,
-        }
-    }
-}
 
 /// Whether a datagram is a request.
 pub(crate) fn is_request(bytes: &[u8]) -> bool
@@ -38,16 +20,6 @@ pub(crate) fn is_request(bytes: &[u8]) -> bool
 {
     match head_of(bytes) {
         Some(head) => head.code.is_request(),
-        None => false,
-    }
-}
-
-/// Whether a datagram is a response.
-pub(crate) fn is_response(bytes: &[u8]) -> bool
-    ensures { result ≡ spec.is_response bytes.now }
-{
-    match head_of(bytes) {
-        Some(head) => head.code.is_response(),
         None => false,
     }
 }
@@ -80,51 +52,72 @@ fn answered(event: Event<'_>, now: Moment, asked: Option<Moment>) -> Option<(End
     }
 }
 
-/// An event of the origin that a report sends something to, if these bytes are a request.
-fn sent(report: Report, bytes: &[u8], event: OriginEvent) -> Option<(Endpoint, OriginEvent)>
-    ensures { result ≡ spec.sent report bytes.now event }
+/// When the request of an exchange was first sent.
+fn asked_at(exchange: &Exchange) -> Option<Moment>
+    ensures { result ≡ spec.asked_at exchange.now }
 {
-    if is_request(bytes) {
-        Some((report.send?, event))
-    } else {
-        None
+    match &exchange.sending {
+        Some(sending) => Some(sending.timer.started),
+        None => None,
     }
 }
 
-/// What happened in a turn between the proxy and an origin, if anything did.
-#[inline(always)]
-fn event_of(turn: WatchedTurn<'_>, foreseen: Foreseen) -> Option<(Endpoint, OriginEvent)>
-    ensures { (w : State) → result ≡ spec.event_of (told turn.entry w) foreseen }
+/// When the request of the exchange of this number was first sent.
+fn asked_of<S: Store + Drop>(core: &Core<S>, number: ExchangeNumber) -> Option<Moment>
+    ensures { result ≡ spec.asked_of core.now number }
 {
-    let report = turn.report?;
-    match report.outcome {
-        Outcome::SentRequest => sent(report, turn.sent, OriginEvent::Sent),
-        Outcome::Resent => sent(report, turn.sent, OriginEvent::Resent),
-        Outcome::Answered { .. } => answered(turn.event, turn.now, foreseen.asked),
-        Outcome::GaveUp => Some((foreseen.due?, OriginEvent::GaveUp)),
-        Outcome::Ignored
-        | Outcome::Rejected
-        | Outcome::Again
-        | Outcome::NoRecordRoom
-        | Outcome::NoId
-        | Outcome::Refused(_)
-        | Outcome::Hit
-        | Outcome::Joined
-        | Outcome::Overloaded
-        | Outcome::Opened
-        | Outcome::Acked
-        | Outcome::Delivered
-        | Outcome::Idle => None,
+    asked_at(core.exchange(number)?)
+}
+
+/// What happened in a turn between the proxy and an origin, if anything did, with the core as it is
+/// after it.
+#[inline(always)]
+fn event_of<S: Store + Drop>(
+    turn: WatchedTurn<'_>,
+    core: &Core<S>,
+) -> Option<(Endpoint, OriginEvent)>
+    ensures { result ≡ spec.event_of (told turn.entry core.now) }
+{
+    let did = turn.did?;
+    match did.deed {
+        Deed::Sent { .. } => Some((did.send?, OriginEvent::Sent)),
+        Deed::Resent { .. } => Some((did.send?, OriginEvent::Resent)),
+        Deed::Answered { exchange, .. } => {
+            answered(turn.event, turn.now, asked_of(core, exchange))
+        }
+        Deed::GaveUp { exchange, .. } => {
+            let exchange = core.exchange(exchange)?;
+            Some((exchange.key.key().target.at, OriginEvent::GaveUp))
+        }
+        Deed::Ignored(_)
+        | Deed::Rejected(_)
+        | Deed::Repeated
+        | Deed::Unremembered(_)
+        | Deed::Refused(_)
+        | Deed::LackedId
+        | Deed::Overloaded(_)
+        | Deed::Hit
+        | Deed::Joined { .. }
+        | Deed::Opened { .. }
+        | Deed::Acknowledged { .. }
+        | Deed::Closed { .. }
+        | Deed::Delivered { .. }
+        | Deed::Redelivered { .. }
+        | Deed::Abandoned { .. }
+        | Deed::Idle => None,
     }
 }
 
 /// Counts what happened in a turn between the proxy and an origin, if anything did.
 #[inline(always)]
-pub(crate) fn count_origin(origins: &mut OriginTable, turn: WatchedTurn<'_>, foreseen: Foreseen)
-    ensures { (w : State) → origins.new
-        ≡ spec.with_origins (told turn.entry w) foreseen origins.old }
+pub(crate) fn count_origin<S: Store + Drop>(
+    origins: &mut OriginTable,
+    turn: WatchedTurn<'_>,
+    core: &Core<S>,
+)
+    ensures { origins.new ≡ spec.with_origins (told turn.entry core.now) origins.old }
 {
-    if let Some((at, event)) = event_of(turn, foreseen) {
+    if let Some((at, event)) = event_of(turn, core) {
         origins.count(at, event);
     }
 }
@@ -135,7 +128,7 @@ pub(crate) fn count_way(maps: &mut MapTable, turn: WatchedTurn<'_>, routes: &Rou
     ensures { (w : State) → w.setting.routes ≡ routes.now
         → maps.new ≡ spec.with_ways (told turn.entry w) maps.old }
 {
-    let (Some(report), Event::Datagram { bytes, .. }) = (turn.report, turn.event) else {
+    let (Some(report), Event::Datagram { bytes, .. }) = (turn.report(), turn.event) else {
         return;
     };
     if is_request(bytes) {
@@ -154,29 +147,12 @@ fn count_request(maps: &mut MapTable, bytes: &[u8], outcome: Outcome, routes: &R
     }
 }
 
-/// Counts the exchange that was opened in a turn, if one was, with the core as it is after it.
+/// Counts the exchange that was opened in a turn, if one was.
 #[inline(always)]
-pub(crate) fn count_opening<S: Store + Drop>(
-    openings: &mut OpeningCounts,
-    turn: WatchedTurn<'_>,
-    core: &Core<S>,
-)
-    ensures { openings.new ≡ spec.with_openings (told turn.entry core.now) openings.old }
+pub(crate) fn count_opening(openings: &mut OpeningCounts, turn: WatchedTurn<'_>)
+    ensures { (w : State) → openings.new ≡ spec.with_openings (told turn.entry w) openings.old }
 {
-    let Some(report) = turn.report else {
-        return;
-    };
-    if report.outcome == Outcome::Opened {
-        count_newest(openings, core);
-    }
-}
-
-/// Counts the newest exchange of a core, if there is one.
-#[inline(never)]
-fn count_newest<S: Store + Drop>(openings: &mut OpeningCounts, core: &Core<S>)
-    ensures { openings.new ≡ spec.with_newest core.now openings.old }
-{
-    if let Some(exchange) = core.newest_exchange() {
-        openings.count(exchange.is_get, core.stored(&exchange.key));
+    if let Some(Deed::Opened { held, .. }) = turn.deed() {
+        openings.count(held);
     }
 }

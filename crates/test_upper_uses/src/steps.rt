@@ -40,7 +40,7 @@ impl Watch for LastLost {
     fn foresee<S: Store + Drop>(&mut self, _turn: WatchedTurn<'_>, _core: &Core<S>) {}
 
     fn see<S: Store + Drop>(&mut self, turn: WatchedTurn<'_>, _core: &Core<S>) {
-        if turn.report.is_none() {
+        if turn.did.is_none() {
             self.0 = turn.now;
         }
     }
@@ -55,7 +55,7 @@ fn coap_core_watched(rt: HostRuntime) -> Result<(), Fail> {
         now: 7,
         draw: 250,
         event: Event::Tick,
-        report: None,
+        did: None,
         sent: &[],
         went: false,
     };

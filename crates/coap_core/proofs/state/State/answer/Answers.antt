@@ -1,7 +1,7 @@
 use Rattle.std.proofs.Common.{◌≡◌, ◌∙◌, ◌<◌, Some, ap, sym, arith}
 use Rattle.std.specs.Option.{option_copied}
 use Rattle.coap_pending.specs.Table.{item_at}
-use Rattle.coap_model.specs.declared.report.Outcome.TheVariants.{Answered}
+use Rattle.coap_model.specs.declared.deed.Deed.TheVariants.{Answered}
 use Rattle.coap_core.specs.Storing.{targets_in}
 use Rattle.coap_core.proofs.Puts.{left-open, left-events, answer-does}
 use Rattle.coap_core.proofs.state.State.answer.Goals as goal
@@ -24,7 +24,7 @@ pub returns-clause-exact : goal.returns-clause-exact
 returns-clause-exact g c =
     let w = c.args.self.now in
     let there : item_at c.args.number w.exchanges ≡ Some c.in-Some.exchange.now = rw (← c.self.view_is) (sym c.exchange.ensures.exact ∙ ap option_copied c.in-Some.is) in
-    answer-does w c.store_entry-storing.new.self c.args.arrival.now c.args.number c.args.arrival.from c.args.arrival.message.now c.in_ok-entry.entry (targets_in c.in_ok-changed.changed) c.store_entry-storing.result (record { send = c.in_ok-send.send; outcome = Answered c.store_entry-storing.result }) c.args.out.now c.accept_response.new.out c.advance.new.self c.entry_made.new.answer
-    (rw there (ap (λ a. Some a) (c.in_ok-entry.ensures.kept ∙ c.in_ok-answer.ensures))) (rw there (rw (← c.in_ok-entry.ensures.kept) at c.in_ok-entry.ensures.entry)) (rw there (rw c.key.ensures at c.in_ok-changed.ensures)) (rw (c.invalidate_all.ensures, c.in_ok-send.ensures.done) at c.store_entry-storing.ensures) (λ i. record { send = c.in_ok-send.ensures.send i; outcome = Answered c.store_entry-storing.result })
+    answer-does w c.store_entry-storing.new.self c.args.arrival.now c.args.number c.args.arrival.from c.args.arrival.message.now c.in_ok-entry.entry (targets_in c.in_ok-changed.changed) c.store_entry-storing.result (record { send = c.in_ok-send.send; deed = Answered c.args.number c.store_entry-storing.result }) c.args.out.now c.accept_response.new.out c.advance.new.self c.entry_made.new.answer
+    (rw there (ap (λ a. Some a) (c.in_ok-entry.ensures.kept ∙ c.in_ok-answer.ensures))) (rw there (rw (← c.in_ok-entry.ensures.kept) at c.in_ok-entry.ensures.entry)) (rw there (rw c.key.ensures at c.in_ok-changed.ensures)) (rw (c.invalidate_all.ensures, c.in_ok-send.ensures.done) at c.store_entry-storing.ensures) (λ i. record { send = c.in_ok-send.ensures.send i; deed = Answered c.args.number c.store_entry-storing.result })
     c.in_ok-send.ensures.said
     (rw (← c.self-2.view_is) (rw c.answered.ensures.answered at c.advance.ensures))

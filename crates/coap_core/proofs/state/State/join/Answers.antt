@@ -17,8 +17,8 @@ pub returns-then-is_err : goal.returns-then-is_err
 returns-then-is_err g c =
     let failed = sym c.is_err.ensures.value ∙ c.if-is_err.true in
     let same = c.self-2.view_is ∙ err-holds c.accept_request-done.result failed c.accept_request-done.ensures.err in
-    let came = rw c.in_ok-join.ensures.ok at same in
-    let undone = waiter-undone _ _ c.self-2.inside.under_way.waiters c.self.inside.under_way.waiters (joined c.joining_of-joining.result) c.in_ok-join.ensures.sound refl refl came refl refl in
+    let came = rw c.in_ok-waiter.ensures.ok at same in
+    let undone = waiter-undone _ _ c.self-2.inside.under_way.waiters c.self.inside.under_way.waiters (joined c.joining_of-joining.result) c.in_ok-waiter.ensures.sound refl refl came refl refl in
     record {
       exact = search rules;
       err = on-err c.accept_request-done.result (rw c.withdraw_waiter.ensures.exact (undone ∙ c.self.view_is));

@@ -4,11 +4,12 @@ use Rattle.std.proofs.lemmas.Option.{same_Some}
 use Rattle.std.proofs.lemmas.Result.{IfOk-weaker}
 use Rattle.coap_message.specs.Message.{Message}
 use Rattle.coap_forward.specs.Messages.{is_empty}
-use Rattle.coap_model.specs.declared.report.Report.{Report}
+use Rattle.coap_model.specs.declared.deed.Did.{Did}
+use Rattle.coap_model.specs.Deeds.{outcome_of}
 use Rattle.coap_model.specs.History.{grown_of}
 use Rattle.coap_model.specs.Step.{on_message, on_datagram}
 use Rattle.coap_model.specs.State.{Step}
-use Rattle.coap_core.specs.Done.{Does, wants_memory}
+use Rattle.coap_core.specs.Done.{DoesSo, wants_memory}
 use Rattle.coap_core.proofs.Read.{on_read-message}
 use Rattle.coap_core.proofs.state.State.on_datagram.Given.{Over}
 use Rattle.coap_core.proofs.state.State.on_datagram.Goals.{In-Some}
@@ -31,12 +32,12 @@ pub returns-in-Some-clause-done : goal.returns-in-Some-clause-done
 returns-in-Some-clause-done g c =
     let k = (goal.at.returns-in-Some-clause-done g c).In-Some in
     let m = c.in-Some.message in
-    let left : Step → Report → Type 0 = λ s report. Does s report c.args.out.now c.on_message.new.out c.on_message.new.self in
+    let left : Step → Did → Type 0 = λ s did. DoesSo s did c.args.out.now c.on_message.new.out c.on_message.new.self in
     record {
       exact = IfOk-weaker c.on_message.result
-          (λ report. left (on_message c.args.self.now c.args.now (grown_of report.outcome) c.args.source m) report)
-          (λ report. left (on_datagram c.args.self.now c.args.now (grown_of report.outcome) c.args.source c.args.bytes.now) report)
-          (λ report does. subst (λ (s : Step). left s report) (sym (same g (grown_of report.outcome) k)) does) c.on_message.ensures.done.exact;
+          (λ did. left (on_message c.args.self.now c.args.now (grown_of (outcome_of did.deed)) c.args.source m) did)
+          (λ did. left (on_datagram c.args.self.now c.args.now (grown_of (outcome_of did.deed)) c.args.source c.args.bytes.now) did)
+          (λ did does. subst (λ (s : Step). left s did) (sym (same g (grown_of (outcome_of did.deed)) k)) does) c.on_message.ensures.done.exact;
       err = search rules;
       kept = search rules;
     }

@@ -4,10 +4,10 @@ use Rattle.coap_pending.specs.Table.{Numbered, IsRising, item_at, changed_at}
 use Rattle.coap_pending.specs.Waiters.{fire_of_state, fired_waiter}
 use Rattle.coap_pending.specs.declared.waiter.Waiter.{Waiter}
 use Rattle.coap_message.specs.Datagram.{holding}
-use Rattle.coap_model.specs.declared.report.Outcome.TheVariants.{Resent}
+use Rattle.coap_model.specs.declared.deed.Deed.TheVariants.{Redelivered}
 use Rattle.coap_model.specs.Ticks.{abandons, redelivers}
 use Rattle.coap_model.specs.State.{State, Step}
-use Rattle.coap_core.specs.Done.{Does}
+use Rattle.coap_core.specs.Done.{DoesSo}
 use Rattle.coap_core.specs.Dues.{answer_at, answer_in_state}
 use Rattle.coap_core.proofs.Serving.{again-step, over-step, fired-answer, fired-same, fired-told}
 use Rattle.coap_core.proofs.Ticking.{changed-found, changed-same}
@@ -41,7 +41,7 @@ returns-in-Again g c =
     let put : c.put_answer.new.out ≡ holding c.args.out.now (answer_at c.args.due.number (changed_at c.args.due.number (fired_waiter c.args.now) c.self.inside.under_way.waiters.items)) = rw c.fire_waiter.ensures.fired at c.put_answer.ensures in
     let bytes : c.put_answer.new.out ≡ holding c.args.out.now (answer_in_state v.state) = put ∙ ap (λ (b : List ℕ). holding c.args.out.now b) (answer c.args.due.number c.args.now c.self.inside.under_way.waiters.items v there) in
     let state : c.advance.new.self ≡ (redelivers w c.args.now c.args.due.number v (answer_in_state v.state)).state = rw (← c.self.view_is) (rw c.fire_waiter.ensures.fired at c.advance.ensures) in
-    rw (again-step w c.args.now c.args.due.number v c.requires.ended.found again) ((λ i. record { send = Some (c.requires.ended.holds.1 i); outcome = Resent }), bytes, state)
+    rw (again-step w c.args.now c.args.due.number v c.requires.ended.found again) ((λ i. record { send = Some (c.requires.ended.holds.1 i); deed = Redelivered c.args.due.number }), bytes, state)
 
 pub returns-in-GiveUp : goal.returns-in-GiveUp
 returns-in-GiveUp g c =
@@ -54,5 +54,5 @@ returns-in-GiveUp g c =
     let over : GiveUp ≡ fire_of_state c.args.now v.state = rw there at c.in-GiveUp.ensures.exact in
     let same : changed_at c.args.due.number (fired_waiter c.args.now) t.items ≡ t.items = changed-same c.args.due.number (fired_waiter c.args.now) 0 t.items v rising there (fired-same c.args.now v over) in
     let stays : c.fire_waiter.new.self ≡ c.self.inside.under_way = c.fire_waiter.ensures.fired ∙ (λ i. record c.self.inside.under_way { waiters = record t { items = same i } }) in
-    let does : Does (abandons w c.args.now c.args.due.number) c.abandon.result c.args.out.now c.abandon.new.out c.abandon.new.self = rw (← c.self.view_is) (rw stays at c.abandon.ensures) in
-    subst (λ (s : Step). Does s c.abandon.result c.args.out.now c.abandon.new.out c.abandon.new.self) (sym (over-step w c.args.now c.args.due.number v c.requires.ended.found due over)) does
+    let does : DoesSo (abandons w c.args.now c.args.due.number) c.abandon.result c.args.out.now c.abandon.new.out c.abandon.new.self = rw (← c.self.view_is) (rw stays at c.abandon.ensures) in
+    subst (λ (s : Step). DoesSo s c.abandon.result c.args.out.now c.abandon.new.out c.abandon.new.self) (sym (over-step w c.args.now c.args.due.number v c.requires.ended.found due over)) does

@@ -3,7 +3,7 @@ use Rattle.std.proofs.lemmas.Option.{same_Some}
 use Rattle.coap_pending.specs.Table.{item_at}
 use Rattle.coap_store.specs.declared.key.CacheKey.{CacheKey}
 use Rattle.coap_model.specs.State.{Step}
-use Rattle.coap_core.specs.Done.{Does}
+use Rattle.coap_core.specs.Done.{DoesSo}
 use Rattle.coap_core.specs.Dues.{IsExchangeDue}
 use Rattle.coap_core.proofs.Ticking.{is-open, has-ended, queued-step, sent-step}
 use Rattle.coap_core.proofs.state.State.on_exchange.Given.{Over}
@@ -64,13 +64,13 @@ on_request_timeout-requires-clause-can g c =
 pub returns-in-Queued : goal.returns-in-Queued
 returns-in-Queued g c =
     let k = (goal.at.returns-in-Queued g c).In-Some in
-    subst (λ (s : Step). Does s c.send.result c.args.out.now c.send.new.out c.send.new.self)
+    subst (λ (s : Step). DoesSo s c.send.result c.args.out.now c.send.new.out c.send.new.self)
     (sym (queued-step c.args.self.now c.args.timing c.args.number c.in-Some.exchange.now (found g k) (sym c.if-is_late.ensures) c.in-Queued.is)) c.send.ensures
 
 pub returns-in-Sent : goal.returns-in-Sent
 returns-in-Sent g c =
     let k = (goal.at.returns-in-Sent g c).In-Some in
-    subst (λ (s : Step). Does s c.on_request_timeout.result c.args.out.now c.on_request_timeout.new.out c.on_request_timeout.new.self)
+    subst (λ (s : Step). DoesSo s c.on_request_timeout.result c.args.out.now c.on_request_timeout.new.out c.on_request_timeout.new.self)
     (sym (sent-step c.args.self.now c.args.timing c.args.number c.in-Some.exchange.now (found g k) (sym c.if-is_late.ensures) c.in-Sent.is)) c.on_request_timeout.ensures
 
 pub returns-then-is_late : goal.returns-then-is_late

@@ -3,10 +3,11 @@ use Rattle.coap_pending.specs.declared.timer.Fire.TheVariants.{Again, GiveUp}
 use Rattle.coap_pending.specs.Exchanges.{fire_of_sending, fired_exchange, IsDue}
 use Rattle.coap_pending.specs.Table.{IsRising, item_at, changed_at}
 use Rattle.coap_message.specs.Datagram.{holding}
+use Rattle.coap_model.specs.declared.deed.Silence.TheVariants.{NotAcknowledged}
 use Rattle.coap_model.specs.Ticks.{gives_up, resends}
-use Rattle.coap_model.specs.declared.report.Outcome.TheVariants.{Resent}
+use Rattle.coap_model.specs.declared.deed.Deed.TheVariants.{Resent}
 use Rattle.coap_model.specs.State.{State, Step}
-use Rattle.coap_core.specs.Done.{Does}
+use Rattle.coap_core.specs.Done.{DoesSo}
 use Rattle.coap_core.proofs.Awaiting.{sent-open}
 use Rattle.coap_core.proofs.Ticking.{changed-found, changed-same, fired-same, again-step, over-step}
 use Rattle.coap_core.proofs.state.State.on_request_timeout.Goals as goal
@@ -44,7 +45,7 @@ returns-in-Again g c =
     let again : Again ≡ fire_of_sending c.args.now x.sending = rw here at c.in-Again.ensures.exact in
     let bytes : c.put_form.new.out ≡ holding c.args.out.now x.form = rw (c.fire.ensures.fired, changed-found c.args.due.number (fired_exchange c.args.now) c.self.inside.under_way.exchanges.items x here) at c.put_form.ensures in
     let state : c.advance.new.self ≡ (resends w c.args.now c.args.due.number x).state = rw (← c.self.view_is) (rw c.fire.ensures.fired at c.advance.ensures) in
-    rw (again-step w c.args.now c.args.due.number x found again) ((λ i. record { send = Some (c.requires.ended.holds.1 i); outcome = Resent }), bytes, state)
+    rw (again-step w c.args.now c.args.due.number x found again) ((λ i. record { send = Some (c.requires.ended.holds.1 i); deed = Resent c.args.due.number }), bytes, state)
 
 pub returns-in-GiveUp : goal.returns-in-GiveUp
 returns-in-GiveUp g c =
@@ -57,5 +58,5 @@ returns-in-GiveUp g c =
     let over : GiveUp ≡ fire_of_sending c.args.now x.sending = rw here at c.in-GiveUp.ensures.exact in
     let same : changed_at c.args.due.number (fired_exchange c.args.now) t.items ≡ t.items = changed-same c.args.due.number (fired_exchange c.args.now) 0 t.items x rising here (fired-same c.args.now x over) in
     let stays : c.fire.new.self ≡ c.self.inside.under_way = c.fire.ensures.fired ∙ (λ i. record c.self.inside.under_way { exchanges = record t { items = same i } }) in
-    let does : Does (gives_up w c.args.now c.args.due.number) c.give_up.result c.args.out.now c.give_up.new.out c.give_up.new.self = rw (← c.self.view_is) (rw stays at c.give_up.ensures) in
-    subst (λ (s : Step). Does s c.give_up.result c.args.out.now c.give_up.new.out c.give_up.new.self) (sym (over-step w c.args.now c.args.due.number x found over)) does
+    let does : DoesSo (gives_up w c.args.now c.args.due.number NotAcknowledged) c.give_up.result c.args.out.now c.give_up.new.out c.give_up.new.self = rw (← c.self.view_is) (rw stays at c.give_up.ensures) in
+    subst (λ (s : Step). DoesSo s c.give_up.result c.args.out.now c.give_up.new.out c.give_up.new.self) (sym (over-step w c.args.now c.args.due.number x found over)) does

@@ -2,7 +2,7 @@ use Rattle.std.proofs.Common.{rules, ◌≡◌, ◌≤◌, Some, length, IfOk, O
 use Rattle.coap_model.specs.declared.due.DueItem.TheVariants.{OfExchange, OfWaiter}
 use Rattle.coap_model.specs.State.{Step}
 use Rattle.coap_model.specs.Ticks.{item_due, on_tick}
-use Rattle.coap_core.specs.Done.{Does, GivesConfirmable}
+use Rattle.coap_core.specs.Done.{DoesSo, GivesConfirmable}
 use Rattle.coap_core.specs.Dues.{waiter_at}
 use Rattle.coap_core.proofs.Ticking.{client-due-at, due-at, of-exchange, of-waiter}
 use Rattle.coap_core.proofs.state.State.on_tick.Given.{Over}
@@ -42,7 +42,7 @@ pub returns-in-Some-OfExchange-clause-done : goal.returns-in-Some-OfExchange-cla
 returns-in-Some-OfExchange-clause-done g c =
     let k = (goal.at.returns-in-Some-OfExchange-clause-done g c).In-Some-OfExchange in
     record {
-      exact = subst (λ (s : Step). Does s c.on_exchange.result c.args.out.now c.on_exchange.new.out c.on_exchange.new.self)
+      exact = subst (λ (s : Step). DoesSo s c.on_exchange.result c.args.out.now c.on_exchange.new.out c.on_exchange.new.self)
           (sym (of-exchange c.args.self.now c.args.timing c.in-Some-OfExchange.at c.in-Some-OfExchange.number (exchange g k) c.if-at-timing.true)) (rw c.seek_exchange.ensures at c.on_exchange.ensures);
       err = search rules;
       kept = search rules;
@@ -71,7 +71,7 @@ pub returns-in-Some-OfWaiter-clause-done : goal.returns-in-Some-OfWaiter-clause-
 returns-in-Some-OfWaiter-clause-done g c =
     let k = (goal.at.returns-in-Some-OfWaiter-clause-done g c).In-Some-OfWaiter in
     record {
-      exact = subst (λ (s : Step). IfOk c.on_waiter.result (λ report. Does s report c.args.out.now c.on_waiter.new.out c.on_waiter.new.self))
+      exact = subst (λ (s : Step). IfOk c.on_waiter.result (λ report. DoesSo s report c.args.out.now c.on_waiter.new.out c.on_waiter.new.self))
           (step g k c.if-at-timing-2.true) c.on_waiter.ensures.done.exact;
       err = search rules;
       kept = search rules;

@@ -31,8 +31,8 @@ pub returns-then-is_err : goal.returns-then-is_err
 returns-then-is_err g c =
     let failed = sym c.is_err.ensures.value ∙ c.if-is_err.true in
     let same = c.self-2.view_is ∙ err-holds c.accept_request-done.result failed c.accept_request-done.ensures.err in
-    let came = rw (c.in_default.ensures.ok, c.in_ok-number.ensures.ok) at same in
-    let sound = rw c.in_ok-number.ensures.ok at c.in_default.ensures.sound in
+    let came = rw (c.in-Ok.ensures.ok, c.in_ok-number.ensures.ok) at same in
+    let sound = rw c.in_ok-number.ensures.ok at c.in-Ok.ensures.sound in
     let before = c.self.inside.under_way in
     let now = c.self-2.inside.under_way in
     let first = waiter-undone _ _ now.waiters before.waiters (joined c.joining_of-joining.result) sound refl refl came refl refl in

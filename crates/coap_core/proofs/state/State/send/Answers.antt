@@ -5,7 +5,7 @@ use Rattle.coap_pending.specs.Table.{changed_at}
 use Rattle.coap_pending.specs.Timers.{started}
 use Rattle.coap_message.specs.Datagram.{holding}
 use Rattle.coap_model.specs.Ticks.{sends}
-use Rattle.coap_model.specs.declared.report.Outcome.TheVariants.{SentRequest}
+use Rattle.coap_model.specs.declared.deed.Deed.TheVariants.{Sent}
 use Rattle.coap_model.specs.State.{State, next_id, later}
 use Rattle.coap_core.specs.Dues.{sending_at, form_at}
 use Rattle.coap_core.proofs.Keeping.{id-for-queued}
@@ -51,4 +51,4 @@ returns g c =
     let after : c.advance.new.self ≡ later (record v { exchanges = changed_at c.args.due.number (sent s) v.exchanges }) c.args.timing.now = rw (← c.self-2.view_is) (rw c.send.ensures.sent at c.advance.ensures) in
     let state : c.advance.new.self ≡ (sends w c.args.timing.now c.args.timing.draw c.args.due.number x).state = after ∙ sent-state w v c.args.timing.now c.args.timing.draw c.args.due.number s x found c.take_id-id.ensures.given is in
     let bytes : c.put_form.new.out ≡ holding c.args.out.now (sending_at w c.args.timing c.args.due.number).bytes = put ∙ ap (λ (b : List ℕ). holding c.args.out.now b) form in
-    rw found ((λ i. record { send = Some (c.requires.queued.holds.1 i); outcome = SentRequest }), rw found at bytes, state)
+    rw found ((λ i. record { send = Some (c.requires.queued.holds.1 i); deed = Sent c.args.due.number }), rw found at bytes, state)

@@ -7,7 +7,6 @@ returns g c =
     record {
       tally = c.count.ensures after;
       maps = c.count_way.ensures after (sym c.routes.ensures.exact);
-      foreseen = c.args.self.now.foreseen;
-      origins = c.count_origin.ensures after;
-      openings = c.count_opening.ensures;
+      origins = c.count_origin.ensures;
+      openings = c.count_opening.ensures after;
     }
