@@ -236,7 +236,7 @@ def an_exchange_has_its_own_cause_though_another_had_its_id(program):
                         origin=authority(log.origin), sent=1)
 
 
-@case("LogChanged")
+@case("LimitsAreTwo")
 def each_limit_of_a_client_makes_version_2(program):
     keys = ("con_records", "non_records", "exchanges", "waiters")
     for own in (*keys, None):

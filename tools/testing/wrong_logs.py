@@ -65,6 +65,13 @@ class CauseUnsaid(ListeningUnsaid):
     unsaid = b"cause: "
 
 
+class LimitsAreTwo(LogKept):
+    """Says of limits of version 1 that they are of version 2."""
+
+    def line(self, line):
+        return [re.sub(rb" limits=1\b", b" limits=2", line)]
+
+
 class BufferUnsaid(LogKept):
     """Says nothing of its receive buffer."""
 
